@@ -1,0 +1,128 @@
+-- Document 01, "Rounds on paper": cases 1 to 12 as questions with their answers, in its order. `proofs/Cases.antt` has the theorem
+-- that the definitions give these answers, computed by the checker.
+--   Question, ask    what a case asks, and what the definitions answer
+--   Case, cases      a question with the answer that document 01 gives it, and the table of them
+use mathlib.Core.List.{List, [], _∷_}
+use mathlib.Core.Option.{Option, none, some}
+use Prim.Native.Nat.{ℕ, _-_}
+use lib.ListN.{length, getD}
+use lib.IntN.{ℤ, pos, negsuc}
+use Rattle.model.specs.declared.Settings.{Settings}
+use Rattle.model.specs.declared.Refusal.{Refusal}
+use Rattle.model.specs.Ensemble.{Reading, missing, present}
+use Rattle.model.specs.RoundSheet.{fca, cca, average, median, midpoint}
+use Rattle.model.specs.Steps.{Decision, decided, knownFaulty, decide, Round, readingsOf, roundOf}
+use Rattle.model.specs.Planner.{planFrom, after}
+use Rattle.model.specs.Refusals.{Row, firstOf, tooManyFaults, targetChecks}
+
+pub data Question : Type 0 where
+  -- the count, the estimate and the new value of a round
+  round : Settings → List Reading → Question
+  -- its count and its new value
+  counted : Settings → List Reading → Question
+  -- its new value alone
+  settled : Settings → List Reading → Question
+  -- the value used for a cabinet, and the new value
+  replaced : Settings → List Reading → ℕ → Question
+  -- the decision of a row at N and m
+  decision : ℕ → ℕ → List Reading → Question
+  -- the window and the accuracy after some rounds
+  planned : Settings → ℕ → ℕ → Question
+  -- whether a target is granted
+  target : Settings → ℕ → ℕ → Question
+
+pub data Answer : Type 0 where
+  gives : List ℤ → Answer
+  faulty : Answer
+  grants : Answer
+  refuses : ℕ → Answer
+
+abbrev pub ofRow : Row → Answer → Answer
+ofRow none a = a
+ofRow (some r) a = refuses (r .number)
+
+abbrev pub ofDecision : Decision → Answer
+ofDecision (decided z) = gives (z ∷ [])
+ofDecision knownFaulty = faulty
+
+-- the round that a list of entries makes
+abbrev pub roundFrom : Settings → List Reading → Round
+roundFrom c entries = roundOf c (readingsOf c (λ e. getD entries e missing))
+
+unfoldable pub ofRound : Round → List ℤ → Answer
+ofRound r shown = ofRow (tooManyFaults (r .count)) (gives shown)
+
+unfoldable pub ask : Question → Answer
+ask (round c es) = ofRound (roundFrom c es) (pos (roundFrom c es .count) ∷ roundFrom c es .estimate ∷ roundFrom c es .value ∷ [])
+ask (counted c es) = ofRound (roundFrom c es) (pos (roundFrom c es .count) ∷ roundFrom c es .value ∷ [])
+ask (settled c es) = ofRound (roundFrom c es) (roundFrom c es .value ∷ [])
+ask (replaced c es r) = ofRound (roundFrom c es) (roundFrom c es .used r ∷ roundFrom c es .value ∷ [])
+ask (decision n m copies) = ofDecision (decide (n - m) n (λ s. getD copies s missing))
+ask (planned c κ k) = gives (pos (after k (planFrom c κ) .settings .window) ∷ pos (after k (planFrom c κ) .accuracy) ∷ [])
+ask (target c κ t) = ofRow (firstOf (targetChecks c κ t)) grants
+
+pub record Case : Type 0 where
+  pub number : ℕ
+  pub asks : Question
+  pub answer : Answer
+
+abbrev pub case : ℕ → Question → Answer → Case
+case number asks answer = record { number = number; asks = asks; answer = answer }
+
+-- N, m, the rule, the estimator and the window
+abbrev pub settings : ℕ → ℕ → ℕ → ℕ → ℕ → Settings
+settings n m rule estimator window = record { n = n; m = m; rule = rule; estimator = estimator; window = window }
+
+-- a present reading, at or above 0; a present reading below 0
+abbrev pub at : ℕ → Reading
+at x = present (pos x)
+
+abbrev pub minus : ℕ → Reading
+minus x = present (negsuc (x - 1))
+
+-- "Plan, N 4, m 1, FCA, δ 100, κ 100"
+abbrev pub plan11 : Settings
+plan11 = settings 4 1 fca median 100
+
+-- case 10's rows: three cabinets whose copies agree, and the copies of cabinet 3
+abbrev pub rows10 : List Reading → List Reading
+rows10 last =
+    minus 10 ∷ minus 10 ∷ minus 10 ∷ minus 10
+    ∷ at 0 ∷ at 0 ∷ at 0 ∷ at 0
+    ∷ at 10 ∷ at 10 ∷ at 10 ∷ at 10
+    ∷ last
+
+unfoldable pub cases : List Case
+cases =
+    -- 1: count 3, estimate 4, new 5 (18/4)
+    case 1 (round (settings 4 1 fca median 10) (at 0 ∷ at 4 ∷ at 10 ∷ at 500 ∷ [])) (gives (pos 3 ∷ pos 4 ∷ pos 5 ∷ []))
+    -- 2: as 1, δ 9: refusal 10
+    ∷ case 2 (round (settings 4 1 fca median 9) (at 0 ∷ at 4 ∷ at 10 ∷ at 500 ∷ [])) (refuses 10)
+    -- 3: as 1, midpoint: estimate 5, new 5 (19/4)
+    ∷ case 3 (round (settings 4 1 fca midpoint 10) (at 0 ∷ at 4 ∷ at 10 ∷ at 500 ∷ [])) (gives (pos 3 ∷ pos 5 ∷ pos 5 ∷ []))
+    -- 4: N 1, m 0, δ 0; -3: new -3
+    ∷ case 4 (settled (settings 1 0 fca median 0) (minus 3 ∷ [])) (gives (negsuc 2 ∷ []))
+    -- 5: N 2, m 0, δ 1; -1, 0: new 0. With 0, 1: new 1
+    ∷ case 5 (settled (settings 2 0 fca median 1) (minus 1 ∷ at 0 ∷ [])) (gives (pos 0 ∷ []))
+    ∷ case 5 (settled (settings 2 0 fca median 1) (at 0 ∷ at 1 ∷ [])) (gives (pos 1 ∷ []))
+    -- 6: N 5, m 1, δ 20; 0, 0, 10, 20, 30: new 6. With 40, 40, 10, 20, 30: new 32
+    ∷ case 6 (settled (settings 5 1 fca median 20) (at 0 ∷ at 0 ∷ at 10 ∷ at 20 ∷ at 30 ∷ [])) (gives (pos 6 ∷ []))
+    ∷ case 6 (settled (settings 5 1 fca median 20) (at 40 ∷ at 40 ∷ at 10 ∷ at 20 ∷ at 30 ∷ [])) (gives (pos 32 ∷ []))
+    -- 7: N 7, m 2, δ 10; 0, 0, 10, 10, 10, 20, 20: all accepted, new 10
+    ∷ case 7 (counted (settings 7 2 fca median 10) (at 0 ∷ at 0 ∷ at 10 ∷ at 10 ∷ at 10 ∷ at 20 ∷ at 20 ∷ [])) (gives (pos 7 ∷ pos 10 ∷ []))
+    -- 8: as 7, last reading 0: 20 replaced by 0, new 4
+    ∷ case 8 (replaced (settings 7 2 fca median 10) (at 0 ∷ at 0 ∷ at 10 ∷ at 10 ∷ at 10 ∷ at 20 ∷ at 0 ∷ []) 5) (gives (pos 0 ∷ pos 4 ∷ []))
+    -- 9: row, N 4, m 1: 7, 7, 7, 9 gives 7; 7, 7, 9, 9 is known faulty
+    ∷ case 9 (decision 4 1 (at 7 ∷ at 7 ∷ at 7 ∷ at 9 ∷ [])) (gives (pos 7 ∷ []))
+    ∷ case 9 (decision 4 1 (at 7 ∷ at 7 ∷ at 9 ∷ at 9 ∷ [])) faulty
+    -- 10: CCA, N 4, m 1, δ 20, decided -10, 0, 10, known faulty: new 0. With 20 for the last: new 5
+    ∷ case 10 (settled (settings 4 1 cca median 20) (rows10 (at 20 ∷ at 20 ∷ missing ∷ missing ∷ []))) (gives (pos 0 ∷ []))
+    ∷ case 10 (settled (settings 4 1 cca median 20) (rows10 (at 20 ∷ at 20 ∷ at 20 ∷ missing ∷ []))) (gives (pos 5 ∷ []))
+    -- 11: plan, N 4, m 1, FCA, δ 100, κ 100: windows 50, 25, 13; κ 125, 138, 145
+    ∷ case 11 (planned plan11 100 1) (gives (pos 50 ∷ pos 125 ∷ []))
+    ∷ case 11 (planned plan11 100 2) (gives (pos 25 ∷ pos 138 ∷ []))
+    ∷ case 11 (planned plan11 100 3) (gives (pos 13 ∷ pos 145 ∷ []))
+    -- 12: that plan, target 0: refusal 12; target 1: granted
+    ∷ case 12 (target plan11 100 0) (refuses 12)
+    ∷ case 12 (target plan11 100 1) grants
+    ∷ []

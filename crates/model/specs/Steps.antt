@@ -1,0 +1,145 @@
+-- Document 01, "Steps of a round" (document 004, section 3).
+--   Decision, decide          the crusaders decision of a row
+--   readingsOf                the reading of each cabinet: FCA as sent, CCA as decided
+--   inside, held              a reading lies in a span; how many readings a span holds
+--   accepted, acceptedAt      some span as wide as the window holds the reading and N-m readings
+--   numbered                  the accepted reading numbered h from below, counting from 1
+--   estimate                  average, median or midpoint of the accepted readings
+--   mean                      to the nearest whole number, a half going up
+--   Round, roundOf, roundAt   what a settled round has; the round of given readings; the round of a sheet
+use mathlib.Core.Bool.{Bool, true, false, cond, _&&_}
+use mathlib.Core.Option.{Option, none, some}
+use Prim.Native.Nat.{ℕ, _+_, _*_, _/_}
+use lib.Dec.{leb, ltb, eqb}
+use lib.IntN.{ℤ, pos, _+ℤ_}
+use lib.Signed.{leZ, ltZ, shrZ}
+use Rattle.arithmetic.specs.Counting.{count, any, lowest, sum, eqZ}
+use Rattle.model.specs.declared.Settings.{Settings}
+use Rattle.model.specs.Ensemble.{Reading, missing, present, Readings, isPresent, ticks, quorum}
+use mathlib.Core.List.{List}
+use Rattle.model.specs.RoundSheet.{cca, average, median, settingsAt, entryCount, entryAt}
+
+-- "If there is none, that cabinet is known faulty and its reading missing"
+pub data Decision : Type 0 where
+  decided : ℤ → Decision
+  knownFaulty : Decision
+
+abbrev pub decidedReading : Decision → Reading
+decidedReading (decided z) = present z
+decidedReading knownFaulty = missing
+
+-- two copies are present and equal
+abbrev pub same : Reading → Reading → Bool
+same (present a) (present b) = eqZ a b
+same (present a) missing = false
+same missing b = false
+
+abbrev pub decisionAt : Readings → Option ℕ → Decision
+decisionAt copy (some s) = decided (ticks (copy s))
+decisionAt copy none = knownFaulty
+
+-- "CCA first decides each row: the value that at least N-m present copies equal"
+unfoldable pub decide : ℕ → ℕ → Readings → Decision
+decide need n copy = decisionAt copy (lowest (λ s. leb need (count (λ t. same (copy s) (copy t)) n)) n)
+
+-- "entry r × N + s being the copy of r's value that s relayed"
+unfoldable pub readingsOf : Settings → Readings → Readings
+readingsOf c entry r =
+    cond (eqb (c .rule) cca) (decidedReading (decide (quorum c) (c .n) (λ s. entry (r * c .n + s)))) (entry r)
+
+-- a reading v with s ≤ v ≤ f
+abbrev pub inside : ℤ → ℤ → Reading → Bool
+inside s f (present v) = leZ s v && leZ v f
+inside s f missing = false
+
+-- the present readings that the span [s, f] holds, "equal ones counted each"
+abbrev pub held : ℤ → ℤ → Readings → ℕ → ℕ
+held s f v n = count (λ r. inside s f (v r)) n
+
+-- a reading lies in the span of width w that starts at another reading
+abbrev pub within : ℕ → Reading → Reading → Bool
+within w (present s) v = inside s (s +ℤ pos w) v
+within w missing v = false
+
+-- "A reading v is accepted if some span [s, f] with s ≤ v ≤ f and f - s ≤ δ holds at least N-m present readings": it is enough
+-- to try the spans that start at a reading (the law `accepted-span` says so of any span)
+unfoldable pub accepted : ℕ → ℕ → ℕ → Readings → ℕ → Bool
+accepted w need n v r = any (λ s. within w (v s) (v r) && leb need (count (λ t. within w (v s) (v t)) n)) n
+
+abbrev pub ticksAt : Readings → Option ℕ → ℤ
+ticksAt v (some r) = ticks (v r)
+ticksAt v none = pos 0
+
+-- "the element numbered h from below, counting from 1", over the cabinets that acc admits: at least h of them read at or below
+-- it, and fewer than h below it
+unfoldable pub numbered : (ℕ → Bool) → ℕ → Readings → ℕ → ℤ
+numbered acc n v h =
+    ticksAt v
+    (lowest
+    (λ r.
+    acc r
+    && (leb h (count (λ s. acc s && leZ (ticks (v s)) (ticks (v r))) n)
+    && ltb (count (λ s. acc s && ltZ (ticks (v s)) (ticks (v r))) n) h))
+    n)
+
+-- "average, sum over count rounded down"
+unfoldable pub averageOf : (ℕ → Bool) → ℕ → Readings → ℤ
+averageOf acc n v = shrZ (sum (λ r. cond (acc r) (ticks (v r)) (pos 0)) n) (count acc n)
+
+-- "median, the element numbered ⌈count/2⌉ from below, counting from 1"
+unfoldable pub medianOf : (ℕ → Bool) → ℕ → Readings → ℤ
+medianOf acc n v = numbered acc n v ((count acc n + 1) / 2)
+
+-- "midpoint, half of lowest plus highest rounded down"
+unfoldable pub midpointOf : (ℕ → Bool) → ℕ → Readings → ℤ
+midpointOf acc n v = shrZ (numbered acc n v 1 +ℤ numbered acc n v (count acc n)) 2
+
+-- "Estimate, over accepted readings only"
+unfoldable pub estimate : ℕ → (ℕ → Bool) → ℕ → Readings → ℤ
+estimate kind acc n v = cond (eqb kind average) (averageOf acc n v) (cond (eqb kind median) (medianOf acc n v) (midpointOf acc n v))
+
+-- "the mean of N used values to the nearest whole number, a half going up": the whole part of (2S + N) / 2N
+unfoldable pub mean : ℕ → ℤ → ℤ
+mean n s = shrZ (s +ℤ s +ℤ pos n) (2 * n)
+
+-- document 01, "The answer sheet": "0 missing or known faulty, 1 accepted, 2 present and not accepted"
+abbrev pub markOf : Bool → Reading → ℕ
+markOf acc missing = 0
+markOf acc (present z) = cond acc 1 2
+
+pub record Round : Type 0 where
+  pub count : ℕ
+  pub estimate : ℤ
+  pub value : ℤ
+  pub mark : ℕ → ℕ
+  pub used : ℕ → ℤ
+
+-- "Missing or unaccepted readings are replaced by the estimate"
+abbrev pub usedValue : (ℕ → Bool) → Readings → ℤ → ℕ → ℤ
+usedValue acc v e r = cond (acc r) (ticks (v r)) e
+
+-- the round of readings v, with the accepted cabinets acc and the estimate e
+abbrev pub roundWith : ℕ → Readings → (ℕ → Bool) → ℤ → Round
+roundWith n v acc e =
+    record {
+      count = count acc n;
+      estimate = e;
+      value = mean n (sum (usedValue acc v e) n);
+      mark = λ r. markOf (acc r) (v r);
+      used = usedValue acc v e;
+    }
+
+-- how wide a span may be: "f - s ≤ δ"
+abbrev pub spanWidth : Settings → ℕ
+spanWidth c = c .window
+
+-- the cabinets whose readings are accepted under the settings
+unfoldable pub acceptedAt : Settings → Readings → ℕ → Bool
+acceptedAt c v r = accepted (spanWidth c) (quorum c) (c .n) v r
+
+unfoldable pub roundOf : Settings → Readings → Round
+roundOf c v = roundWith (c .n) v (acceptedAt c v) (estimate (c .estimator) (acceptedAt c v) (c .n) v)
+
+-- the round that a sheet's entries make
+unfoldable pub roundAt : List ℕ → Round
+roundAt s = roundOf (settingsAt s) (readingsOf (settingsAt s) (entryAt s (entryCount (settingsAt s))))

@@ -1,0 +1,33 @@
+-- The first of checks 2 to 5 that refuses, by the tests that failed before it.
+-- Assumes nothing.
+use mathlib.Core.Bool.{Bool, true, false, _||_}
+use mathlib.Core.Option.{none}
+use mathlib.Core.Path.{_≡_, refl}
+use Prim.Native.Nat.{ℕ, _+_, _*_}
+use lib.Dec.{eqb, ltb}
+use Rattle.model.specs.declared.Settings.{Settings}
+use Rattle.model.specs.Refusals.{when, firstOf, settingsChecks, badCabinets, badFaults, badMethod, badWindow}
+
+module _ (c : Settings) where
+  pub cabinets-refuse : (eqb (c .n) 0 || ltb 64 (c .n)) ≡ true → when true 2 ≡ firstOf (settingsChecks c)
+  unfolding firstOf settingsChecks badCabinets
+  cabinets-refuse a = rw a
+
+  module _ (a : (eqb (c .n) 0 || ltb 64 (c .n)) ≡ false) where
+    pub faults-refuse : ltb (c .n) (3 * c .m + 1) ≡ true → when true 3 ≡ firstOf (settingsChecks c)
+    unfolding firstOf settingsChecks badCabinets badFaults
+    faults-refuse b = rw (a, b)
+
+    module _ (b : ltb (c .n) (3 * c .m + 1) ≡ false) where
+      pub method-refuses : (ltb 1 (c .rule) || ltb 2 (c .estimator)) ≡ true → when true 4 ≡ firstOf (settingsChecks c)
+      unfolding firstOf settingsChecks badCabinets badFaults badMethod
+      method-refuses d = rw (a, b, d)
+
+      module _ (d : (ltb 1 (c .rule) || ltb 2 (c .estimator)) ≡ false) where
+        pub window-refuses : ltb 1000000 (c .window) ≡ true → when true 5 ≡ firstOf (settingsChecks c)
+        unfolding firstOf settingsChecks badCabinets badFaults badMethod badWindow
+        window-refuses e = rw (a, b, d, e)
+
+        pub settings-pass : ltb 1000000 (c .window) ≡ false → none ≡ firstOf (settingsChecks c)
+        unfolding firstOf settingsChecks badCabinets badFaults badMethod badWindow
+        settings-pass e = rw (a, b, d, e)

@@ -1,0 +1,2 @@
+-- The crusaders decision of a row by counting: it is the value that need of the n copies hold, and a row has one such value at most.
+-- Assumes nothing.

@@ -1,21 +1,19 @@
 -- The crusaders decision of a row, by counting: it is the value that need of the n copies hold, and a row has one such value at most.
 -- Assumes nothing.
-use mathlib.Core.Bool.{Bool, true, false, cond}
+use mathlib.Core.Bool.{Bool, true, false}
 use mathlib.Core.Logic.{_⊎_, inl, inr, ⊎-elim}
 use mathlib.Core.Option.{Option, none, some}
 use mathlib.Core.Path.{_≡_, refl, sym, ap, ap₂, _∙_}
-use Prim.Native.Nat.{ℕ, _+_, _*_, _≤_, _<_}
+use Prim.Native.Nat.{ℕ, _+_, _≤_, _<_}
 use native.Mathlib.Omega.{arith}
-use borrow.Author.Tests.{le-leb, lt-leb, leb-true, leb-false}
-use lib.Dec.{leb, eqb}
+use borrow.Author.Tests.{leb-true, leb-false}
+use lib.Dec.{leb}
 use lib.IntN.{ℤ}
 use Rattle.arithmetic.specs.Counting.{count, lowest}
-use Rattle.arithmetic.proofs.Bools.{clash, both-ways}
+use Rattle.arithmetic.proofs.Bools.{clash}
 use Rattle.arithmetic.proofs.Counting.{count-ext, count-le, count-some, share, lowest-ext, lowest-found, lowest-cases, Lowest}
-use Rattle.model.specs.declared.Settings.{Settings}
-use Rattle.model.specs.Ensemble.{Reading, missing, present, Readings, ticks, quorum}
-use Rattle.model.specs.RoundSheet.{cca}
-use Rattle.model.specs.Steps.{same, Decision, decided, knownFaulty, decidedReading, decisionAt, decide, readingsOf}
+use Rattle.model.specs.Ensemble.{Reading, present, Readings, ticks}
+use Rattle.model.specs.Steps.{same, Decision, decided, knownFaulty, decisionAt, decide}
 use Rattle.crusaders.proofs.Equality.{same-true, same-present, same-unique}
 
 -- how many of the first n copies are present and hold z
@@ -56,7 +54,7 @@ module _ (need n : ℕ) (copy : Readings) where
   -- need copies are as s, and need is not 0: s is present, and need copies hold its value
   enough-value : (s : ℕ) → 0 < need → enough s ≡ true → (z : ℤ) × (copy s ≡ present z) × (need ≤ copies copy z n)
   unfolding enough
-  enough-value s pos e =
+  enough-value s some-need e =
       let least : need ≤ count (λ t. same (copy s) (copy t)) n = leb-true need (count (λ t. same (copy s) (copy t)) n) e in
       let some-copy = count-some (λ t. same (copy s) (copy t)) n (omega arith) in
       let p = same-present (copy s) (copy (some-copy .0)) (some-copy .2) in
@@ -65,7 +63,7 @@ module _ (need n : ℕ) (copy : Readings) where
   -- the decision is a value that need copies hold, or no value has that many
   pub decide-cases : 0 < need → ((z : ℤ) × (decide need n copy ≡ decided z) × (need ≤ copies copy z n)) ⊎ ((decide need n copy ≡ knownFaulty) × ((z : ℤ) → copies copy z n < need))
   unfolding decide enough
-  decide-cases pos = ⊎-elim found nowhere (lowest-cases enough n)
+  decide-cases some-need = ⊎-elim found nowhere (lowest-cases enough n)
     where
       Out : Type 0
       Out =
@@ -74,7 +72,7 @@ module _ (need n : ℕ) (copy : Readings) where
 
       found : ((s : ℕ) × (lowest enough n ≡ some s) × Lowest enough n s) → Out
       found w =
-          let v = enough-value (w .0) pos (w .2 .passes) in
+          let v = enough-value (w .0) some-need (w .2 .passes) in
           inl (v .0, ap (decisionAt copy) (w .1) ∙ ap (λ r. decided (ticks r)) (v .1), v .2)
 
       short : ((s : ℕ) → s < n → enough s ≡ false) → (z : ℤ) → copies copy z n < need
@@ -93,15 +91,15 @@ module _ (need n : ℕ) (copy : Readings) where
 
   -- a decided value has need copies
   pub decided-need : (z : ℤ) → decide need n copy ≡ decided z → 0 < need → need ≤ copies copy z n
-  decided-need z e pos =
+  decided-need z e some-need =
       ⊎-elim
       (λ w. let q : w .0 ≡ z = decided-inj (sym (w .1) ∙ e) in rw q at (w .2))
       (λ w. not-both e (w .0))
-      (decide-cases pos)
+      (decide-cases some-need)
 
   -- a known faulty row has no value with need copies
   pub faulty-short : decide need n copy ≡ knownFaulty → 0 < need → (z : ℤ) → copies copy z n < need
-  faulty-short e pos z = ⊎-elim (λ w. not-both (w .1) e) (λ w. w .1 z) (decide-cases pos)
+  faulty-short e some-need z = ⊎-elim (λ w. not-both (w .1) e) (λ w. w .1 z) (decide-cases some-need)
 
   pub decide-value : (z : ℤ) → n < need + need → need ≤ copies copy z n → decide need n copy ≡ decided z
   decide-value z most h =
@@ -111,7 +109,7 @@ module _ (need n : ℕ) (copy : Readings) where
       (decide-cases (omega arith))
 
   pub decide-none : 0 < need → ((z : ℤ) → copies copy z n < need) → decide need n copy ≡ knownFaulty
-  decide-none pos f = ⊎-elim (λ w. absurd (omega (arith, f (w .0), w .2))) (λ w. w .0) (decide-cases pos)
+  decide-none some-need f = ⊎-elim (λ w. absurd (omega (arith, f (w .0), w .2))) (λ w. w .0) (decide-cases some-need)
 
   -- a row's decision is unique: two values that have need copies each are one
   pub need-unique : (a b : ℤ) → n < need + need → need ≤ copies copy a n → need ≤ copies copy b n → a ≡ b
@@ -119,11 +117,11 @@ module _ (need n : ℕ) (copy : Readings) where
 
   -- the decided value is one of the copies
   pub decided-copy : (z : ℤ) → decide need n copy ≡ decided z → 0 < need → (s : ℕ) × (s < n) × (copy s ≡ present z)
-  decided-copy z e pos = copies-some copy n z (omega (arith, decided-need z e pos))
+  decided-copy z e some-need = copies-some copy n z (omega (arith, decided-need z e some-need))
 
   -- what holds of every present copy holds of the decided value
   pub decided-all {ℓ} : (P : ℤ → Type ℓ) (z : ℤ) → decide need n copy ≡ decided z → 0 < need → ((s : ℕ) (a : ℤ) → s < n → copy s ≡ present a → P a) → P z
-  decided-all P z e pos f = let s = decided-copy z e pos in f (s .0) z (s .1) (s .2)
+  decided-all P z e some-need f = let s = decided-copy z e some-need in f (s .0) z (s .1) (s .2)
 
 -- the decision looks at the first n copies only
 pub decide-ext : (need n : ℕ) (p q : Readings) → ((t : ℕ) → t < n → p t ≡ q t) → decide need n p ≡ decide need n q

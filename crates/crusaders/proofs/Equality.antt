@@ -3,8 +3,9 @@
 use mathlib.Core.Bool.{Bool, true, false}
 use mathlib.Core.Logic.{_⊎_, inl, inr, ⊎-elim}
 use mathlib.Core.Path.{_≡_, refl, sym, ap, _∙_}
+use Prim.Native.Nat.{ℕ}
+use native.Mathlib.Omega.{arith}
 use borrow.Author.Tests.{eq-eqb, eqb-true}
-use lib.Dec.{eqb}
 use lib.IntN.{ℤ, pos, negsuc}
 use Rattle.arithmetic.specs.Counting.{eqZ}
 use Rattle.arithmetic.proofs.Bools.{both-ways, clash, iff-eq, not-true-false}
@@ -66,6 +67,13 @@ same-present (present z) b e = (z, refl, same-true z b e)
 
 pub present-inj : {a b : ℤ} → present a ≡ present b → a ≡ b
 present-inj e = cc
+
+-- a copy is not both missing and present
+pub missing-present {ℓ} : {X : Type ℓ} {z : ℤ} → missing ≡ present z → X
+missing-present e = absurd (impossible (cc))
+  where
+    impossible : _≡_ {A = ℕ} 0 1 → ⊥
+    impossible q = omega arith
 
 -- a copy holds one value only
 pub same-unique : (a b : ℤ) (c : Reading) → same (present a) c ≡ true → same (present b) c ≡ true → a ≡ b

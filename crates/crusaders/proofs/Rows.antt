@@ -17,7 +17,7 @@ use Rattle.model.specs.Ensemble.{Reading, missing, present, Readings, quorum}
 use Rattle.model.specs.RoundSheet.{cca}
 use Rattle.model.specs.Steps.{same, Decision, decided, knownFaulty, decidedReading, decide, readingsOf}
 use Rattle.crusaders.proofs.Equality.{present-inj, missing-present, equal-or-not, same-true, eq-same, same-unique}
-use Rattle.crusaders.proofs.Decision.{copies, decided-need, decide-value, decide-none}
+use Rattle.crusaders.proofs.Decision.{copies, decided-need, decided-all, decide-value, decide-none}
 
 -- how many of the first n relays are not sound
 abbrev pub faults : (ℕ → Bool) → ℕ → ℕ
@@ -111,3 +111,34 @@ module _ (sound : ℕ → Bool) (n m : ℕ) (planned : 3 * m < n) where
       same-unique a b (q (s .0))
       (rw alike at (and-right (sound (s .0)) (same (present a) (p (s .0))) (s .2)))
       (and-right (sound (s .0)) (same (present b) (q (s .0))) (s .3))
+
+  -- ---- the same of readings
+
+  pub held-read : (copy : Readings) (x : ℤ) → ((s : ℕ) → s < n → sound s ≡ true → copy s ≡ present x) → faults sound n ≤ m → decidedReading (decide (n - m) n copy) ≡ present x
+  held-read copy x h few = ap decidedReading (held-decided copy x h few)
+
+  pub held-read-or-not : (copy : Readings) (x : ℤ) → ((s : ℕ) → s < n → sound s ≡ true → copy s ≡ present x) → faults sound n < n - m → (decidedReading (decide (n - m) n copy) ≡ present x) ⊎ (decidedReading (decide (n - m) n copy) ≡ missing)
+  held-read-or-not copy x h few =
+      ⊎-elim (λ e. inl (ap decidedReading e)) (λ e. inr (ap decidedReading e)) (held-decided-or-not copy x h few)
+
+  pub missing-read : (copy : Readings) → ((s : ℕ) → s < n → sound s ≡ true → copy s ≡ missing) → faults sound n < n - m → decidedReading (decide (n - m) n copy) ≡ missing
+  missing-read copy h few = ap decidedReading (missing-undecided copy h few)
+
+  pub read-alike : (p q : Readings) (a b : ℤ) → ((s : ℕ) → s < n → sound s ≡ true → p s ≡ q s) → faults sound n ≤ m → decidedReading (decide (n - m) n p) ≡ present a → decidedReading (decide (n - m) n q) ≡ present b → a ≡ b
+  read-alike p q a b h few ra rb =
+      decided-alike p q a b h few (reading-decided (decide (n - m) n p) a ra) (reading-decided (decide (n - m) n q) b rb)
+
+-- ---- rows of a sheet
+
+module _ (c : Settings) (entry : Readings) (r : ℕ) where
+  pub read-direct : eqb (c .rule) cca ≡ false → readingsOf c entry r ≡ entry r
+  unfolding readingsOf
+  read-direct e = rw e
+
+  pub read-decided : eqb (c .rule) cca ≡ true → readingsOf c entry r ≡ decidedReading (decide (quorum c) (c .n) (λ s. entry (r * c .n + s)))
+  unfolding readingsOf
+  read-decided e = rw e
+
+-- what holds of every present copy holds of the reading
+pub read-all {ℓ} : (P : ℤ → Type ℓ) (need n : ℕ) (copy : Readings) (z : ℤ) → 0 < need → ((s : ℕ) (a : ℤ) → s < n → copy s ≡ present a → P a) → decidedReading (decide need n copy) ≡ present z → P z
+read-all P need n copy z h f e = decided-all need n copy P z (reading-decided (decide need n copy) z e) h f

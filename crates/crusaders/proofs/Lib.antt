@@ -1,3 +1,4 @@
 pub mod Equality
 pub mod Decision
 pub mod Rows
+pub mod Majority

@@ -2,3 +2,4 @@ pub mod Equality
 pub mod Decision
 pub mod Rows
 pub mod Majority
+pub mod Candidates

@@ -62,7 +62,7 @@ module _ (sound : ℕ → Bool) (n : ℕ) where
       let either = count-le (λ t. sound t || same (present z) (copy t)) n in
       omega arith
 
-  -- two values are one where the sound relays that hand on the one, to one receiver, and the other, to another, are more than the sound
+  -- two values are one where their copies from sound relays, at two receivers, are together more than the sound relays
   sound-unique : (p q : Readings) (a b : ℤ) → Relayed sound n q p → count sound n < count (λ t. sound t && same (present a) (p t)) n + count (λ t. sound t && same (present b) (q t)) n → a ≡ b
   sound-unique p q a b h more = go (share at-p at-q sound n (λ t l e. and-left (sound t) _ e) (λ t l e. and-left (sound t) _ e) more)
     where

@@ -1,4 +1,6 @@
+pub mod Counts
 pub mod Extremes
 pub mod Means
 pub mod Acceptance
 pub mod Ranks
+pub mod Estimates

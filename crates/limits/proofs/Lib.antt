@@ -4,3 +4,5 @@ pub mod Means
 pub mod Acceptance
 pub mod Ranks
 pub mod Estimates
+pub mod Settled
+pub mod Hull

@@ -6,3 +6,4 @@ pub mod Ranks
 pub mod Estimates
 pub mod Settled
 pub mod Hull
+pub mod Medians

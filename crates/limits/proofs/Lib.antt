@@ -7,3 +7,4 @@ pub mod Estimates
 pub mod Settled
 pub mod Hull
 pub mod Medians
+pub mod Limits

@@ -53,6 +53,10 @@ Close n w good g = (r s : ℕ) → r < n → s < n → good r ≡ true → good 
 abbrev pub Alike : ℕ → (ℕ → Bool) → (ℕ → ℕ) → Received → Type 0
 Alike n good g v = (r : ℕ) → r < n → good r ≡ true → v .pres r ≡ true → v .x r ≡ g r
 
+-- what two receivers both have they read alike
+abbrev pub Agree : ℕ → Received → Received → Type 0
+Agree n p q = (r : ℕ) → r < n → p .pres r ≡ true → q .pres r ≡ true → p .x r ≡ q .x r
+
 module _ (n m w : ℕ) (good : ℕ → Bool) (g : ℕ → ℕ) where
   pub record Spread : Type 0 where
     pub many : bad n good < n - m

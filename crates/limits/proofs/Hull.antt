@@ -14,7 +14,8 @@ use Rattle.arithmetic.specs.Counting.{bit, count}
 use Rattle.arithmetic.proofs.Bools.{both-ways, and-left, and-right, and-intro}
 use Rattle.arithmetic.proofs.Counting.{count-mono, count-not, count-some}
 use Rattle.arithmetic.proofs.Sums.{total, count-total}
-use Rattle.limits.proofs.Acceptance.{inside, inside-low, inside-high, Span, accepted-present, accepted-span}
+use Rattle.rounds.proofs.Natural.{accepted-present}
+use Rattle.limits.proofs.Acceptance.{inside, inside-low, inside-high, Span, accepted-span}
 use Rattle.limits.proofs.Counts.{count-overlap}
 use Rattle.limits.proofs.Estimates.{Between, used-within}
 use Rattle.limits.proofs.Settled.{Received, accepts, usedOf, used-accepted, bad, Alike, Spread, Settles}

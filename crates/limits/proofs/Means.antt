@@ -13,10 +13,6 @@ pub ceil-div-covers : (b n : ℕ) → 0 < n → b ≤ ceilDiv b n * n
 unfolding ceilDiv
 ceil-div-covers b n h = omega (arith, lt-div-mul-add {a = b + (n - 1)} h)
 
-pub ceil-div-mono : {a b : ℕ} (n : ℕ) → 0 < n → a ≤ b → ceilDiv a n ≤ ceilDiv b n
-unfolding ceilDiv
-ceil-div-mono n h l = div-mono n h (omega arith)
-
 -- y is a nearest whole number to s / n
 pub record Nearest (n s y : ℕ) : Type 0 where
   pub below : 2 * n * y ≤ 2 * s + n

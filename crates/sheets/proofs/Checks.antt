@@ -1,22 +1,20 @@
 -- What it means that no check of a sheet refuses: of its sizes and length (1 to 6), of its marks (8) and of its missing readings (9).
 -- Assumes nothing.
 use mathlib.Core.Bool.{Bool, true, false, not, _&&_}
-use mathlib.Core.List.{List, [], _∷_, _++_}
-use mathlib.Core.Logic.{_⊎_, ⊎-elim}
-use mathlib.Core.Option.{Option, none, some}
-use mathlib.Core.Path.{_≡_, refl, sym, ap, ap₂, _∙_}
-use Prim.Native.Nat.{ℕ, _+_, _*_, _≤_, _<_}
+use mathlib.Core.List.{List, [], _∷_}
+use mathlib.Core.Logic.{⊎-elim}
+use mathlib.Core.Option.{none}
+use mathlib.Core.Path.{_≡_, refl, sym, ap, _∙_}
+use Prim.Native.Nat.{ℕ, _≤_, _<_}
 use native.Mathlib.Omega.{arith}
 use borrow.Author.Tests.{le-ltb, ltb-false, eq-eqb, eqb-true, not-false}
 use lib.Dec.{ltb, eqb}
 use lib.ListN.{length}
 use Rattle.arithmetic.specs.Counting.{lowest}
-use Rattle.arithmetic.proofs.Bools.{both-ways, clash, and-intro, not-true-false}
 use Rattle.arithmetic.proofs.Counting.{lowest-none, lowest-cases}
-use Rattle.model.specs.declared.Settings.{Settings}
 use Rattle.model.specs.RoundSheet.{settingsAt, entryCount, sheetLength, markAt, bitsAt}
-use Rattle.model.specs.Refusals.{Row, when, atEntry, firstOf, settingsChecks, sheetChecks, entryChecks, tooShort, badLength, badMark, badMissing}
-use Rattle.sheets.proofs.Rows.{none-both, none-cons, none-head, none-tail, none-left, none-right, when-none, none-when, entry-none}
+use Rattle.model.specs.Refusals.{firstOf, settingsChecks, sheetChecks, entryChecks, tooShort, badLength, noRoom, badMark, badMissing}
+use Rattle.sheets.proofs.Rows.{first-append, next-none-right, none-at, none-left, when-none, entry-none}
 
 -- ---- 6: a length
 
@@ -27,6 +25,16 @@ length-pass given wanted h = rw (eq-eqb given wanted h)
 pub length-passed : (given wanted : ℕ) → badLength given wanted ≡ none → given ≡ wanted
 unfolding badLength
 length-passed given wanted h = eqb-true given wanted (not-false (eqb given wanted) (when-none (not (eqb given wanted)) 6 h))
+
+-- ---- 7: room
+
+pub room-pass : (given wanted : ℕ) → wanted ≤ given → noRoom given wanted ≡ none
+unfolding noRoom
+room-pass given wanted h = rw (le-ltb given wanted h)
+
+pub room-passed : (given wanted : ℕ) → noRoom given wanted ≡ none → wanted ≤ given
+unfolding noRoom
+room-passed given wanted h = ltb-false given wanted (when-none (ltb given wanted) 7 h)
 
 -- ---- 8 and 9: the entries
 
@@ -76,53 +84,38 @@ module _ (s : List ℕ) where
   -- what checks 1 to 6 tell of a sheet that passes them
   pub header-passed : firstOf (sheetChecks s) ≡ none → 8 ≤ length s
   unfolding sheetChecks tooShort
-  header-passed h =
-      ltb-false (length s) 8
-      (when-none (ltb (length s) 8) 1
-      (none-head (tooShort s) (settingsChecks (settingsAt s) ++ (badLength (length s) (sheetLength (settingsAt s)) ∷ [])) h))
-
-  after-header : firstOf (sheetChecks s) ≡ none → firstOf (settingsChecks (settingsAt s) ++ (badLength (length s) (sheetLength (settingsAt s)) ∷ [])) ≡ none
-  unfolding sheetChecks
-  after-header h = none-tail (tooShort s) (settingsChecks (settingsAt s) ++ (badLength (length s) (sheetLength (settingsAt s)) ∷ [])) h
+  header-passed h = ltb-false (length s) 8 (when-none (ltb (length s) 8) 1 (none-at (sheetChecks s) h 0))
 
   pub settings-passed : firstOf (sheetChecks s) ≡ none → firstOf (settingsChecks (settingsAt s)) ≡ none
-  settings-passed h = none-left (settingsChecks (settingsAt s)) (badLength (length s) (sheetLength (settingsAt s)) ∷ []) (after-header h)
+  unfolding sheetChecks firstOf
+  settings-passed h =
+      next-none-right (tooShort s) (firstOf (settingsChecks (settingsAt s)))
+      (none-left (tooShort s ∷ settingsChecks (settingsAt s)) (badLength (length s) (sheetLength (settingsAt s)) ∷ []) h)
 
   pub sheet-length-passed : firstOf (sheetChecks s) ≡ none → length s ≡ sheetLength (settingsAt s)
-  sheet-length-passed h =
-      length-passed (length s) (sheetLength (settingsAt s))
-      (none-head (badLength (length s) (sheetLength (settingsAt s))) []
-      (none-right (settingsChecks (settingsAt s)) (badLength (length s) (sheetLength (settingsAt s)) ∷ []) (after-header h)))
+  unfolding sheetChecks settingsChecks
+  sheet-length-passed h = length-passed (length s) (sheetLength (settingsAt s)) (none-at (sheetChecks s) h 5)
 
   pub sheet-pass : firstOf (settingsChecks (settingsAt s)) ≡ none → length s ≡ sheetLength (settingsAt s) → firstOf (sheetChecks s) ≡ none
   unfolding sheetChecks tooShort firstOf
   sheet-pass a b =
-      none-cons (tooShort s) (settingsChecks (settingsAt s) ++ (badLength (length s) (sheetLength (settingsAt s)) ∷ []))
-      (none-when (ltb (length s) 8) 1 (le-ltb (length s) 8 (omega arith)))
-      (none-both (settingsChecks (settingsAt s)) (badLength (length s) (sheetLength (settingsAt s)) ∷ []) a
-      (none-cons (badLength (length s) (sheetLength (settingsAt s))) [] (length-pass (length s) (sheetLength (settingsAt s)) b) refl))
+      let header : ltb (length s) 8 ≡ false = le-ltb (length s) 8 (omega arith) in
+      rw (first-append, header, a, length-pass (length s) (sheetLength (settingsAt s)) b)
 
   -- what checks 8 and 9 tell
   pub sheet-marks-passed : firstOf (entryChecks s) ≡ none → (e : ℕ) → e < entryCount (settingsAt s) → markAt s e ≤ 1
   unfolding entryChecks
-  sheet-marks-passed h =
-      marks-passed (markAt s) (entryCount (settingsAt s))
-      (none-head (badMark (markAt s) (entryCount (settingsAt s)))
-      (badMissing (markAt s) (bitsAt s (entryCount (settingsAt s))) (entryCount (settingsAt s)) ∷ []) h)
+  sheet-marks-passed h = marks-passed (markAt s) (entryCount (settingsAt s)) (none-at (entryChecks s) h 0)
 
   pub sheet-missing-passed : firstOf (entryChecks s) ≡ none → (e : ℕ) → e < entryCount (settingsAt s) → markAt s e ≡ 0 → bitsAt s (entryCount (settingsAt s)) e ≡ 0
   unfolding entryChecks
   sheet-missing-passed h =
-      missing-passed (markAt s) (entryCount (settingsAt s)) (bitsAt s (entryCount (settingsAt s)))
-      (none-head (badMissing (markAt s) (bitsAt s (entryCount (settingsAt s))) (entryCount (settingsAt s))) []
-      (none-tail (badMark (markAt s) (entryCount (settingsAt s)))
-      (badMissing (markAt s) (bitsAt s (entryCount (settingsAt s))) (entryCount (settingsAt s)) ∷ []) h))
+      missing-passed (markAt s) (entryCount (settingsAt s)) (bitsAt s (entryCount (settingsAt s))) (none-at (entryChecks s) h 1)
 
   pub sheet-entries-pass : ((e : ℕ) → e < entryCount (settingsAt s) → markAt s e ≤ 1) → ((e : ℕ) → e < entryCount (settingsAt s) → markAt s e ≡ 0 → bitsAt s (entryCount (settingsAt s)) e ≡ 0) → firstOf (entryChecks s) ≡ none
   unfolding entryChecks firstOf
   sheet-entries-pass a b =
-      none-cons (badMark (markAt s) (entryCount (settingsAt s)))
-      (badMissing (markAt s) (bitsAt s (entryCount (settingsAt s))) (entryCount (settingsAt s)) ∷ [])
-      (marks-pass (markAt s) (entryCount (settingsAt s)) a)
-      (none-cons (badMissing (markAt s) (bitsAt s (entryCount (settingsAt s))) (entryCount (settingsAt s))) []
-      (missing-pass (markAt s) (entryCount (settingsAt s)) (bitsAt s (entryCount (settingsAt s))) b) refl)
+      rw (
+        marks-pass (markAt s) (entryCount (settingsAt s)) a,
+        missing-pass (markAt s) (entryCount (settingsAt s)) (bitsAt s (entryCount (settingsAt s))) b,
+      )

@@ -1,19 +1,17 @@
 -- What settings that pass checks 2 to 5 are: the limits of N, m, rule, estimator and window, and of the number of entries.
 -- Assumes nothing.
 use mathlib.Core.Bool.{Bool, true, false, cond, _||_}
-use mathlib.Core.List.{List, [], _∷_}
 use mathlib.Core.Option.{none}
-use mathlib.Core.Path.{_≡_, refl, sym, ap, _∙_}
-use Prim.Native.Nat.{ℕ, _+_, _*_, _≤_, _<_}
+use mathlib.Core.Path.{_≡_, refl}
+use Prim.Native.Nat.{_+_, _*_, _≤_}
 use native.Mathlib.Nat.{mul-le-mul}
 use native.Mathlib.Omega.{arith}
-use borrow.Author.Tests.{ltb-false, eqb-false, le-ltb, ne-eqb, eqb-true}
-use lib.Dec.{ltb, eqb, lit≤}
-use Rattle.arithmetic.proofs.Bools.{or-false}
+use borrow.Author.Tests.{ltb-false, le-ltb, ne-eqb}
+use lib.Dec.{ltb, eqb}
 use Rattle.model.specs.declared.Settings.{Settings}
 use Rattle.model.specs.RoundSheet.{entryCount}
-use Rattle.model.specs.Refusals.{when, firstOf, settingsChecks, badCabinets, badFaults, badMethod, badWindow}
-use Rattle.sheets.proofs.Rows.{none-head, none-tail, none-cons, when-none, none-when}
+use Rattle.model.specs.Refusals.{firstOf, settingsChecks, badCabinets, badFaults, badMethod, badWindow}
+use Rattle.sheets.proofs.Rows.{none-at, when-none}
 
 -- settings within document 01's limits
 pub record Limits (c : Settings) : Type 0 where
@@ -36,13 +34,10 @@ module _ (c : Settings) where
   pub limits : firstOf (settingsChecks c) ≡ none → Limits c
   unfolding settingsChecks badCabinets badFaults badMethod badWindow
   limits h =
-      let faults-on = none-tail (badCabinets c) (badFaults c ∷ badMethod c ∷ badWindow c ∷ []) h in
-      let method-on = none-tail (badFaults c) (badMethod c ∷ badWindow c ∷ []) faults-on in
-      let window-on = none-tail (badMethod c) (badWindow c ∷ []) method-on in
-      let cabinets = when-none (eqb (c .n) 0 || ltb 64 (c .n)) 2 (none-head (badCabinets c) (badFaults c ∷ badMethod c ∷ badWindow c ∷ []) h) in
-      let faults = when-none (ltb (c .n) (3 * c .m + 1)) 3 (none-head (badFaults c) (badMethod c ∷ badWindow c ∷ []) faults-on) in
-      let method = when-none (ltb 1 (c .rule) || ltb 2 (c .estimator)) 4 (none-head (badMethod c) (badWindow c ∷ []) method-on) in
-      let window = when-none (ltb 1_000_000 (c .window)) 5 (none-head (badWindow c) [] window-on) in
+      let cabinets = when-none (eqb (c .n) 0 || ltb 64 (c .n)) 2 (none-at (settingsChecks c) h 0) in
+      let faults = when-none (ltb (c .n) (3 * c .m + 1)) 3 (none-at (settingsChecks c) h 1) in
+      let method = when-none (ltb 1 (c .rule) || ltb 2 (c .estimator)) 4 (none-at (settingsChecks c) h 2) in
+      let window = when-none (ltb 1_000_000 (c .window)) 5 (none-at (settingsChecks c) h 3) in
       let three : 3 * c .m + 1 ≤ c .n = ltb-false (c .n) (3 * c .m + 1) faults in
       record {
         someCabinet = omega arith;

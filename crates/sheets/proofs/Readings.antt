@@ -2,18 +2,16 @@
 -- Assumes nothing.
 use mathlib.Core.List.{List, [], _∷_, _++_, append-assoc}
 use mathlib.Core.Path.{_≡_, refl, sym, ap, _∙_}
-use Prim.Native.Nat.{ℕ, zero, suc, _+_, _*_, _≤_, _<_}
-use native.Mathlib.Nat.{mul-suc, not-suc-le-zero, le-of-suc-le-suc}
+use Prim.Native.Nat.{ℕ, zero, suc, _+_, _*_, _<_}
+use native.Mathlib.Nat.{not-suc-le-zero, le-of-suc-le-suc}
 use native.Mathlib.Omega.{arith}
 use lib.IntN.{ℤ, pos}
-use lib.ListN.{length, getD, take, drop, length-append}
-use lib.Seq.{take-add, take-all}
+use lib.ListN.{length, getD}
 use mir.Syntax.{w32}
-use mir.Val.{SFits, Fits, toZ, ofZ}
-use mir.Facts.{fits-ofZ, fits-lt-pow, toZ-ofZ, ofZ-toZ, fits-of-lt}
-use Rattle.arithmetic.specs.Writing.{table}
-use Rattle.model.specs.RoundSheet.{byte, word, bytes4, readingBytes}
-use Rattle.sheets.proofs.Words.{word-bytes4, word-append-right, bytes4-word, word-fits}
+use mir.Val.{SFits, ofZ}
+use mir.Facts.{fits-ofZ, fits-lt-pow}
+use Rattle.model.specs.RoundSheet.{word, bytes4, readingBytes}
+use Rattle.sheets.proofs.Words.{word-bytes4, word-append-right}
 
 pub length-readingBytes : (zs : List ℤ) → length (readingBytes zs) ≡ 4 * length zs
 unfolding readingBytes bytes4

@@ -1,11 +1,11 @@
 -- The first refusal of a list of rows: over lists joined, and where none refuses.
 -- Assumes nothing.
-use mathlib.Core.Bool.{Bool, true, false, not}
+use mathlib.Core.Bool.{Bool, true, false}
 use mathlib.Core.List.{List, [], _∷_, _++_}
-use mathlib.Core.Logic.{_⊎_, inl, inr, ⊎-elim}
 use mathlib.Core.Option.{Option, none, some}
-use mathlib.Core.Path.{_≡_, refl, sym, ap, _∙_}
-use Prim.Native.Nat.{ℕ}
+use mathlib.Core.Path.{_≡_, refl, sym, _∙_}
+use Prim.Native.Nat.{ℕ, zero, suc}
+use lib.ListN.{getD}
 use Rattle.model.specs.declared.Refusal.{Refusal}
 use Rattle.model.specs.Refusals.{Row, when, atEntry, orNext, firstOf}
 
@@ -15,6 +15,10 @@ unfolding firstOf
 first-append [] ys = refl
 first-append (none ∷ xs) ys = first-append xs ys
 first-append (some r ∷ xs) ys = refl
+
+pub next-none : (a : Row) → orNext a none ≡ a
+next-none none = refl
+next-none (some r) = refl
 
 -- neither of two rows refuses where the first of them does not
 pub next-none-left : (a b : Row) → orNext a b ≡ none → a ≡ none
@@ -34,13 +38,12 @@ none-right xs ys h = next-none-right (firstOf xs) (firstOf ys) (sym (first-appen
 pub none-both : (xs ys : List Row) → firstOf xs ≡ none → firstOf ys ≡ none → firstOf (xs ++ ys) ≡ none
 none-both xs ys a b = rw (first-append, a) b
 
-pub none-head : (r : Row) (rs : List Row) → firstOf (r ∷ rs) ≡ none → r ≡ none
+-- where the first of a list does not refuse, no row of it does
+pub none-at : (rows : List Row) → firstOf rows ≡ none → (i : ℕ) → getD rows i none ≡ none
 unfolding firstOf
-none-head r rs h = next-none-left r (firstOf rs) h
-
-pub none-tail : (r : Row) (rs : List Row) → firstOf (r ∷ rs) ≡ none → firstOf rs ≡ none
-unfolding firstOf
-none-tail r rs h = next-none-right r (firstOf rs) h
+none-at [] h i = refl
+none-at (r ∷ rows) h zero = next-none-left r (firstOf rows) h
+none-at (r ∷ rows) h (suc i) = none-at rows (next-none-right r (firstOf rows) h) i
 
 pub none-cons : (r : Row) (rs : List Row) → r ≡ none → firstOf rs ≡ none → firstOf (r ∷ rs) ≡ none
 unfolding firstOf

@@ -1,29 +1,25 @@
 -- A sheet that was written reads back: the settings, the marks, the readings and each entry of `sheetBytes` are those that it was
 -- made from, its length is the sheet's, and no check of a sheet refuses it.
 -- Assumes nothing.
-use mathlib.Core.Bool.{Bool, true, false, cond, not, _&&_}
-use mathlib.Core.List.{List, [], _∷_, _++_, append-nil}
-use mathlib.Core.Logic.{_⊎_, inl, inr, ⊎-elim}
-use mathlib.Core.Option.{Option, none, some}
+use mathlib.Core.Bool.{cond}
+use mathlib.Core.List.{List, [], _++_, append-nil}
+use mathlib.Core.Option.{none}
 use mathlib.Core.Path.{_≡_, refl, sym, ap, ap₂, _∙_}
-use Prim.Native.Nat.{ℕ, zero, suc, _+_, _*_, _≤_, _<_}
+use Prim.Native.Nat.{ℕ, _+_, _*_, _≤_, _<_}
 use native.Mathlib.Nat.{add-assoc}
 use native.Mathlib.Omega.{arith}
-use borrow.Author.Tests.{lt-ltb, le-ltb, eq-eqb, ne-eqb, eqb-true}
-use lib.Dec.{ltb, eqb}
+use lib.Dec.{eqb}
 use lib.IntN.{ℤ, pos}
-use lib.ListN.{length, getD, take, drop, length-append}
+use lib.ListN.{length, getD, length-append}
 use mir.Syntax.{w32}
 use mir.Val.{SFits, toZ, ofZ}
 use mir.Facts.{toZ-ofZ}
-use Rattle.arithmetic.specs.Counting.{lowest}
 use Rattle.arithmetic.specs.Writing.{table}
-use Rattle.arithmetic.proofs.Counting.{lowest-none}
 use Rattle.arithmetic.proofs.Writing.{table-ext, table-getD}
 use Rattle.model.specs.declared.Settings.{Settings}
 use Rattle.model.specs.Ensemble.{Reading, missing, present}
-use Rattle.model.specs.RoundSheet.{byte, word, settingsAt, entryCount, sheetLength, markAt, bitsAt, entryAt, bytes4, readingBytes, sizeBytes, sheetBytes}
-use Rattle.model.specs.Refusals.{when, atEntry, firstOf, settingsChecks, sheetChecks, entryChecks, tooShort, badLength, badMark, badMissing}
+use Rattle.model.specs.RoundSheet.{word, settingsAt, entryCount, sheetLength, markAt, bitsAt, entryAt, bytes4, readingBytes, sizeBytes, sheetBytes}
+use Rattle.model.specs.Refusals.{firstOf, settingsChecks, sheetChecks, entryChecks}
 use Rattle.model.specs.Calls.{marksOf, ticksOf}
 use Rattle.sheets.proofs.Rows.{none-both}
 use Rattle.sheets.proofs.Checks.{sheet-pass, sheet-entries-pass}

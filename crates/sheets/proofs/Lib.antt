@@ -8,4 +8,5 @@ pub mod Written
 pub mod Reread
 pub mod RoundTrips
 pub mod Entries
+pub mod Storing
 pub mod Answer

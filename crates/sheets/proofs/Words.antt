@@ -8,7 +8,7 @@ use native.Mathlib.Numerals.{add-one, add-two, add-three}
 use native.Mathlib.Omega.{arith}
 use lib.Arith.{mod-mul}
 use lib.Dec.{lit<}
-use lib.ListN.{length, take, drop, List·getD-append}
+use lib.ListN.{length, take, drop, List·getD-append, List·getD-eq-default}
 use lib.Seq.{getD-append-add, drop-cons}
 use Rattle.model.specs.RoundSheet.{byte, word, bytes4}
 
@@ -55,6 +55,19 @@ word-append-right p q k i e =
 
 pub word-append-left : (p q : List ℕ) (i : ℕ) → i + 4 ≤ length p → word (p ++ q) i ≡ word p i
 word-append-left p q i h = word-ext (p ++ q) p i i (λ b l. byte-append-left p q (i + b) (omega arith))
+
+-- past the end every byte is 0
+pub word-past : (s : List ℕ) (i : ℕ) → length s ≤ i → word s i ≡ 0
+unfolding word
+word-past s i h =
+    let first = List·getD-eq-default s 0 h in
+    let second = List·getD-eq-default s 0 (over 1) in
+    let third = List·getD-eq-default s 0 (over 2) in
+    let fourth = List·getD-eq-default s 0 (over 3) in
+    omega arith
+  where
+    over : (k : ℕ) → length s ≤ i + k
+    over k = omega arith
 
 -- a number of four bytes is below 2^32
 pub word-fits : (s : List ℕ) (i : ℕ) → ((j : ℕ) → byte s j < 256) → word s i < 4_294_967_296

@@ -2,6 +2,7 @@ pub mod Rows
 pub mod Limits
 pub mod Checks
 pub mod Outcomes
+pub mod Inspection
 pub mod Words
 pub mod Readings
 pub mod Written

@@ -1,18 +1,16 @@
 -- The first refusal of checks 1 to 6, and of checks 1 to 6, 8 and 9, by the tests that failed before it.
 -- Assumes nothing.
-use mathlib.Core.Bool.{true, false}
-use mathlib.Core.List.{List, [], _∷_, _++_}
+use mathlib.Core.List.{List, [], _∷_}
 use mathlib.Core.Option.{none, some}
-use mathlib.Core.Path.{_≡_, refl, sym, ap, _∙_}
-use Prim.Native.Nat.{ℕ, _+_, _*_, _≤_, _<_}
+use mathlib.Core.Path.{_≡_, ap}
+use Prim.Native.Nat.{ℕ, _≤_, _<_}
 use borrow.Author.Tests.{lt-ltb, le-ltb, eq-eqb, ne-eqb}
-use lib.Dec.{ltb, eqb}
 use lib.ListN.{length}
 use Rattle.model.specs.declared.Settings.{Settings}
 use Rattle.model.specs.declared.Refusal.{Refusal}
-use Rattle.model.specs.RoundSheet.{settingsAt, entryCount, sheetLength}
-use Rattle.model.specs.Refusals.{Row, refusal, orNext, firstOf, settingsChecks, sheetChecks, rowChecks, entryChecks, tooShort, badLength}
-use Rattle.model.specs.Calls.{Verdict, granted, refused, verdict}
+use Rattle.model.specs.RoundSheet.{settingsAt, sheetLength}
+use Rattle.model.specs.Refusals.{refusal, orNext, firstOf, settingsChecks, sheetChecks, tooShort, badLength}
+use Rattle.model.specs.Calls.{granted, refused, verdict}
 use Rattle.sheets.proofs.Rows.{first-append}
 
 -- ---- checks 1 to 6

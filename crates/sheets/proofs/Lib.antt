@@ -1,6 +1,7 @@
 pub mod Rows
 pub mod Limits
 pub mod Checks
+pub mod Searching
 pub mod Outcomes
 pub mod Inspection
 pub mod Words

@@ -9,26 +9,20 @@ use lib.Dec.{lit<}
 use Rattle.model.specs.RoundSheet.{entryCount}
 use Rattle.sheet.proofs.entry_count.Statement.{statement}
 use Rattle.sheet.proofs.entry_count.Tie as tie
-use Rattle.sheet.proofs.entry_count.Reads as reads
-use Rattle.sheet.proofs.entry_count.Lts as lts
 
--- src/lib.rt:39:13
 cast-n : tie.Need-cast-n
 cast-n c = search needs
 
--- src/lib.rt:41:9
 mul-result : tie.Need-mul-result
 mul-result c = record { fits = lt-of-le-of-lt (mul-le-mul small small) (lit< tt) }
   where
     small : c .before .before .before .args .settings .n ≤ 255
     small = omega arith
 
--- src/lib.rt:36:1
 returns : tie.Need-returns
 unfolding entryCount
 returns c = rw (eq-eqb (c .before .before .before .args .settings .rule) 1 (c .if1 .taken))
 
--- src/lib.rt:36:1
 returns-2 : tie.Need-returns-2
 unfolding entryCount
 returns-2 c = rw (ne-eqb (c .before .before .before .args .settings .rule) 1 (c .if1 .left))

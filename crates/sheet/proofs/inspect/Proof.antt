@@ -11,13 +11,7 @@ use Rattle.sheets.proofs.Limits.{limits, entries-most}
 use Rattle.sheets.proofs.Inspection.{short-refused, settings-refused, length-refused, inspection-passes}
 use Rattle.sheet.proofs.inspect.Statement.{statement}
 use Rattle.sheet.proofs.inspect.Tie as tie
-use Rattle.sheet.proofs.inspect.Reads as reads
-use Rattle.sheet.proofs.inspect.Lts as lts
-use Rattle.ensemble.proofs.screen.Reads as screen-reads
-use Rattle.sheet.proofs.entry_count.Reads as entry-count-reads
-use Rattle.sheet.proofs.sizes.Reads as sizes-reads
 
--- src/lib.rt:52:9
 -- the settings passed checks 2 to 5
 passed : (c : tie.After-entry-count) → firstOf (settingsChecks (c .before .before .before .before .sizes .result)) ≡ none
 passed c = sym (c .before .before .before .screen .ensures) ∙ ap rowOf (c .before .enum-told .given .1)
@@ -25,41 +19,33 @@ passed c = sym (c .before .before .before .screen .ensures) ∙ ap rowOf (c .bef
 returns : tie.Need-returns
 returns c = short-refused (c .before .before .args .sheet .now) (c .if1 .taken)
 
--- src/lib.rt:54:9
 sizes-requires : tie.Need-sizes-requires
 sizes-requires c κs = search needs
 
--- src/lib.rt:55:11
 screen-requires : tie.Need-screen-requires
 screen-requires c κs = search needs
 
--- src/lib.rt:56:27
 enum-known-r : tie.Need-enum-known-r
 enum-known-r c = search needs
 
--- src/lib.rt:58:16
 enum-told : tie.Need-enum-told
 enum-told c = search needs
 
--- src/lib.rt:58:39
 entry-count-requires : tie.Need-entry-count-requires
 entry-count-requires c κs = search needs
 
--- src/lib.rt:58:35
 mul-if2 : tie.Need-mul-if2
 mul-if2 c =
     let settings = c .before .before .before .before .sizes .result in
     let few = entries-most settings (limits settings (passed c) .cabinets) in
     omega arith
 
--- src/lib.rt:58:31
 add-if2 : tie.Need-add-if2
 add-if2 c =
     let settings = c .before .before .before .before .sizes .result in
     let few = entries-most settings (limits settings (passed c) .cabinets) in
     omega arith
 
--- src/lib.rt:48:1
 returns-2 : tie.Need-returns-2
 returns-2 c =
     settings-refused (c .before .before .before .before .before .before .before .args .sheet .now)
@@ -69,7 +55,6 @@ returns-2 c =
     (c .before .r .given .0 .0)
     (sym (c .before .before .before .screen .ensures) ∙ ap rowOf (c .before .r .given .1))
 
--- src/lib.rt:48:1
 returns-3 : tie.Need-returns-3
 returns-3 c =
     inspection-passes (c .before .before .before .before .before .before .before .before .args .sheet .now)
@@ -79,7 +64,6 @@ returns-3 c =
     (passed (c .before))
     (c .if2 .taken ∙ ap (λ (k : ℕ). 8 + 5 * k) (c .before .entry-count .ensures))
 
--- src/lib.rt:48:1
 returns-4 : tie.Need-returns-4
 returns-4 c =
     length-refused (c .before .before .before .before .before .before .before .before .args .sheet .now)

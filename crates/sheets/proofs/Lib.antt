@@ -5,6 +5,7 @@ pub mod Searching
 pub mod Outcomes
 pub mod Inspection
 pub mod Words
+pub mod Parts
 pub mod Readings
 pub mod Written
 pub mod Reread

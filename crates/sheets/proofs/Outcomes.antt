@@ -32,6 +32,10 @@ module _ {A : Type 0} where
   granted-same none a b h = cc
   granted-same (some r) a b h = cc
 
+  pub refused-some : (r : Row) (a : A) (x : Refusal) → verdict r a ≡ refused x → r ≡ some x
+  refused-some none a x h = cc
+  refused-some (some r) a x h = cc
+
 -- ---- the reader
 
 module _ (s marks : List ℕ) (readings : List ℤ) where

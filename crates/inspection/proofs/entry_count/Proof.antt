@@ -1,4 +1,4 @@
--- `sheet::entry_count` meets its contract: N × N for CCA, else N.
+-- `inspection::entry_count` meets its contract: N × N for CCA, else N.
 -- Assumes nothing.
 use borrow.Author.Needs.{needs}
 use borrow.Author.Tests.{eq-eqb, ne-eqb}
@@ -7,8 +7,8 @@ use native.Mathlib.Nat.{lt-of-le-of-lt, mul-le-mul}
 use native.Mathlib.Omega.{arith}
 use lib.Dec.{lit<}
 use Rattle.model.specs.RoundSheet.{entryCount}
-use Rattle.sheet.proofs.entry_count.Statement.{statement}
-use Rattle.sheet.proofs.entry_count.Tie as tie
+use Rattle.inspection.proofs.entry_count.Statement.{statement}
+use Rattle.inspection.proofs.entry_count.Tie as tie
 
 cast-n : tie.Need-cast-n
 cast-n c = search needs

@@ -1,4 +1,4 @@
-// Document 01, "The round sheet": the checks of a sheet, the reader and the row accessor.
+// Document 01, "The round sheet" and "Numbers of refusal": the checks of a sheet.
 ghost use mathlib.Core.Path.{_≡_};
 ghost use Prim.Native.Nat.{_+_, _*_, _≤_, _<_};
 ghost use lib.Dec.{ltb};
@@ -9,7 +9,7 @@ ghost use Rattle.model.specs.RoundSheet.{byte, word, settingsAt, entryCount, ma
 ghost use Rattle.model.specs.Refusals.{orNext, firstOf, sheetChecks, rowChecks, badMark, badMissing};
 ghost use Rattle.model.specs.Calls.{verdict};
 ghost use Rattle.sheets.specs.Entries.{notZero};
-ghost use Rattle.sheet.specs.Answers.{openedAs, foundAs};
+ghost use Rattle.inspection.specs.Answers.{openedAs, foundAs};
 use ensemble::Screened;
 use model::Refusal;
 use model::Settings;
@@ -120,4 +120,43 @@ fn bad_missing(marks: &[u8], readings: &[u8]) -> Found
         e += 1;
     }
     Found::Nothing
+}
+
+// Checks 8 and 9 of a sheet of that many entries.
+fn check_entries(sheet: &[u8], entries: usize) -> Screened
+    requires { ⌜ (length (now sheet) ≡ 8 + 5 * entries) × (entries ≤ 4096) ⌝ }
+    ensures { λ r. ⌜ rowOf r ≡ orNext (badMark (markAt (now (sheet .entry))) entries) (badMissing (markAt (now (sheet .entry))) (bitsAt (now (sheet .entry)) entries) entries) ⌝ }
+{
+    let body = 8 + entries;
+    let marks = &sheet[8..body];
+    match bad_mark(marks) {
+        Found::At(e) => Screened::Refused(Refusal {
+            number: 8,
+            place: e as u32,
+        }),
+        Found::Nothing => {
+            match bad_missing(marks, &sheet[body..]) {
+                Found::At(e) => Screened::Refused(Refusal {
+                    number: 9,
+                    place: e as u32,
+                }),
+                Found::Nothing => Screened::Passed,
+            }
+        }
+    }
+}
+
+// Checks 1 to 6, 8 and 9.
+pub fn validate(sheet: &[u8]) -> Opened
+    ensures { λ r. ⌜ openedAs r ≡ verdict (firstOf (rowChecks (now (sheet .entry)))) (settingsAt (now (sheet .entry))) ⌝ }
+{
+    match inspect(sheet) {
+        Opened::Refused(r) => Opened::Refused(r),
+        Opened::Granted(settings) => {
+            match check_entries(sheet, entry_count(settings)) {
+                Screened::Refused(r) => Opened::Refused(r),
+                Screened::Passed => Opened::Granted(settings),
+            }
+        }
+    }
 }

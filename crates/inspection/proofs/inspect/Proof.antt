@@ -1,4 +1,4 @@
--- `sheet::inspect` meets its contract: at each return the tests that led there say which of checks 1 to 6 refuses first.
+-- `inspection::inspect` meets its contract: at each return the tests that led there say which of checks 1 to 6 refuses first.
 -- Assumes nothing.
 use borrow.Author.Needs.{needs}
 use mathlib.Core.Option.{none}
@@ -9,8 +9,8 @@ use Rattle.ensemble.specs.Answers.{rowOf}
 use Rattle.model.specs.Refusals.{firstOf, settingsChecks}
 use Rattle.sheets.proofs.Limits.{limits, entries-most}
 use Rattle.sheets.proofs.Inspection.{short-refused, settings-refused, length-refused, inspection-passes}
-use Rattle.sheet.proofs.inspect.Statement.{statement}
-use Rattle.sheet.proofs.inspect.Tie as tie
+use Rattle.inspection.proofs.inspect.Statement.{statement}
+use Rattle.inspection.proofs.inspect.Tie as tie
 
 -- the settings passed checks 2 to 5
 passed : (c : tie.After-entry-count) → firstOf (settingsChecks (c .before .before .before .before .sizes .result)) ≡ none

@@ -1,8 +1,8 @@
--- `sheet::sizes` meets its contract: each field is the byte or the number that was read.
+-- `inspection::sizes` meets its contract: each field is the byte or the number that was read.
 -- Assumes nothing.
 use borrow.Author.Needs.{needs}
-use Rattle.sheet.proofs.sizes.Statement.{statement}
-use Rattle.sheet.proofs.sizes.Tie as tie
+use Rattle.inspection.proofs.sizes.Statement.{statement}
+use Rattle.inspection.proofs.sizes.Tie as tie
 
 byte-at-requires : tie.Need-byte-at-requires
 byte-at-requires c κs = search needs

@@ -31,6 +31,10 @@ pub flag : (b : Bool) → boolByte b ≡ bit b
 flag true = refl
 flag false = refl
 
+pub flag-small : (b : Bool) → boolByte b ≤ 1
+flag-small true = le-refl 1
+flag-small false = zero-le
+
 pub held-small : (a b far h : ℕ) → h ≡ bit (leb a b && leb b (a + far)) → h ≤ 1
 held-small a b far h e = let l = bit-le-one (leb a b && leb b (a + far)) in omega arith
 

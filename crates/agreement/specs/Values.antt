@@ -25,6 +25,10 @@ spansAt w s a t = spans w (presentAt s) (valueAt s) a t
 unfoldable pub acceptedAt : ℕ → ℕ → List ℕ → ℕ → Bool
 acceptedAt w need s r = accepted-nat w (presentAt s) (valueAt s) need (length s) r
 
+-- 1 for an accepted reading, 0 for any other
+abbrev pub acceptedMark : ℕ → ℕ → List ℕ → ℕ → ℕ
+acceptedMark w need s r = bit (acceptedAt w need s r)
+
 -- whether the span that starts at a's reading holds enough
 unfoldable pub enoughAt : ℕ → ℕ → List ℕ → ℕ → Bool
 enoughAt w need s a = leb need (count (spansAt w s a) (length s))

@@ -4,9 +4,10 @@ ghost use mathlib.Core.Bool.{_&&_};
 ghost use Prim.Native.Nat.{_+_, _-_, _≤_, _<_, min};
 ghost use lib.Dec.{leb, ltb};
 ghost use lib.ListN.{length};
-ghost use Rattle.arithmetic.specs.Counting.{bit};
+ghost use Rattle.arithmetic.specs.Counting.{bit, count};
+ghost use Rattle.arithmetic.specs.Writing.{table};
 ghost use Rattle.rounds.proofs.Shifted.{within-nat};
-ghost use Rattle.agreement.specs.Values.{acceptedAt, Remembered};
+ghost use Rattle.agreement.specs.Values.{acceptedAt, acceptedMark, Remembered};
 
 // The first number that is no reading.
 const LIMIT: u64 = 4_294_967_296;
@@ -85,4 +86,28 @@ fn accepts(values: &[u64], window: u32, need: u32, known: &mut [u8], r: usize) -
         s += 1;
     }
     found
+}
+
+// Marks the accepted readings by 1, the others by 0, and counts the accepted ones.
+fn mark_accepted(
+    values: &[u64],
+    window: u32,
+    need: u32,
+    known: &mut [u8],
+    accepted: &mut [u8],
+) -> u32
+    requires { ⌜ (length (now values) ≤ 64) × (length (now known) ≡ 64) × (length (now accepted) ≡ length (now values)) ⌝ }
+    requires { ⌜ Remembered window need (now values) (now known) ⌝ }
+    ensures { λ n. ⌜ n ≡ count (acceptedAt window need (now (values .entry))) (length (now (values .entry))) ⌝ }
+    ensures { λ n. ⌜ now (accepted .exit) ≡ table (acceptedMark window need (now (values .entry))) (length (now (values .entry))) ⌝ }
+{
+    let mut count: u32 = 0;
+    let mut r = 0;
+    'readings: while r < values.len() {
+        let mark = accepts(values, window, need, &mut *known, r) as u8;
+        accepted[r] = mark;
+        count += mark as u32;
+        r += 1;
+    }
+    count
 }

@@ -1,7 +1,7 @@
 -- Spans on a list of naturals: the tests that the code makes are those of document 01's acceptance, and a count that has reached what
 -- is needed stays there.
 -- Assumes nothing.
-use mathlib.Core.Bool.{Bool, true, false, _&&_}
+use mathlib.Core.Bool.{Bool, true, false, not, _&&_}
 use mathlib.Core.List.{List}
 use mathlib.Core.Logic.{_⊎_, inr, ⊎-elim}
 use mathlib.Core.Path.{_≡_, refl, sym, ap, ap₂, _∙_}
@@ -16,7 +16,7 @@ use lib.ListN.{length, getD, set, length-set}
 use lib.Seq.{getD-set-same, getD-set-other}
 use mir.Val.{boolByte}
 use Rattle.arithmetic.specs.Counting.{bit, count}
-use Rattle.arithmetic.proofs.Bools.{iff-eq, and-left, and-right, and-intro}
+use Rattle.arithmetic.proofs.Bools.{iff-eq, and-left, and-right, and-intro, clash}
 use Rattle.arithmetic.proofs.Counting.{split-last, bit-le-one, count-le, any-true, any-false}
 use Rattle.rounds.proofs.Shifted.{within-nat, spans, accepted-nat}
 use Rattle.agreement.specs.Values.{valueAt, presentAt, spansAt, acceptedAt, enoughAt, Remembered}
@@ -64,8 +64,8 @@ wrapped-from a b d w hb hd e = go (leb a b) refl
     go false h = refl
 
 -- a start at or below a present reading is present
-pub opens-within : (w a b : ℕ) → (ltb b 4294967296 && (leb a b && leb b (a + w))) ≡ within-nat w (ltb a 4294967296) a (ltb b 4294967296) b
-opens-within w a b =
+pub tries-within : (w a b : ℕ) → (ltb b 4294967296 && (leb a b && leb b (a + w))) ≡ within-nat w (ltb a 4294967296) a (ltb b 4294967296) b
+tries-within w a b =
     iff-eq (ltb b 4294967296 && (leb a b && leb b (a + w))) (within-nat w (ltb a 4294967296) a (ltb b 4294967296) b)
     (λ t.
     let l = ltb-true b 4294967296 (and-left (ltb b 4294967296) _ t) in
@@ -108,6 +108,10 @@ count-next p n = rw (add-one n)
 -- ---- acceptance, start by start
 
 module _ (w : ℕ) (values : List ℕ) where
+  -- a span that is tried holds the reading
+  pub tried-holds : (mark s r : ℕ) {b : Bool} → b ≡ (not (eqb mark 1) && spansAt w values s r) → b ≡ true → spansAt w values s r ≡ true
+  tried-holds mark s r e t = and-right (not (eqb mark 1)) (spansAt w values s r) (sym e ∙ t)
+
   -- a start whose span holds a reading is present
   pub start-present : (s r : ℕ) → spansAt w values s r ≡ true → getD values s 0 < 4294967296
   unfolding spansAt
@@ -173,17 +177,19 @@ module _ (w need : ℕ) (values : List ℕ) where
           memory = m;
         }
 
-    -- a start whose span does not hold r's reading
-    pub pass-outside : spansAt w values s r ≡ false → Tried r known found (s + 1)
-    pass-outside e = pass known (tried .long) (tried .memory) (ap (λ (b : Bool). b && enoughAt w need values s) e)
-
-    -- a start that is remembered as short
-    pub pass-short : (getD known s 0 ≡ 2 → ⊥) → (getD known s 0 ≡ 0 → ⊥) → Tried r known found (s + 1)
-    pass-short f g = ⊎-elim (λ e. absurd (g e)) (λ e. go (enoughAt w need values s) refl e) (tried .memory s below)
+    -- a start that is remembered as short, or whose span does not hold r's reading
+    pub pass-untried : {b : Bool} → b ≡ (not (eqb (getD known s 0) 1) && spansAt w values s r) → b ≡ false → Tried r known found (s + 1)
+    pass-untried e f =
+        pass known (tried .long) (tried .memory)
+        (go (spansAt w values s r) (enoughAt w need values s) (tried .memory s below) (sym e ∙ f))
       where
-        go : (b : Bool) → enoughAt w need values s ≡ b → getD known s 0 ≡ 1 + bit b → Tried r known found (s + 1)
-        go true q e = absurd (f e)
-        go false q e = pass known (tried .long) (tried .memory) (and-false (spansAt w values s r) q)
+        go : (a b : Bool) → (getD known s 0 ≡ 0) ⊎ (getD known s 0 ≡ 1 + bit b) → (not (eqb (getD known s 0) 1) && a) ≡ false → (a && b) ≡ false
+        go false b m q = refl
+        go true false m q = refl
+        go true true m q = absurd (⊎-elim (λ z. differ 0 z refl) (λ z. differ 2 z refl) m)
+          where
+            differ : (k : ℕ) → getD known s 0 ≡ k → eqb k 1 ≡ false → ⊥
+            differ k z f = clash (ap (λ (v : ℕ). not (eqb v 1) && true) z ∙ ap (λ (t : Bool). not t && true) f) q
 
     -- a start that is remembered as holding enough
     pub known-enough : getD known s 0 ≡ 2 → enoughAt w need values s ≡ true

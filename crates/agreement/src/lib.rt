@@ -1,8 +1,8 @@
 // The steps of a round on naturals: readings moved up by 2^31.
 ghost use mathlib.Core.Path.{_≡_};
-ghost use mathlib.Core.Bool.{_&&_};
+ghost use mathlib.Core.Bool.{not, _&&_};
 ghost use Prim.Native.Nat.{_+_, _-_, _≤_, _<_, min};
-ghost use lib.Dec.{leb, ltb};
+ghost use lib.Dec.{leb, ltb, eqb};
 ghost use lib.ListN.{length};
 ghost use Rattle.arithmetic.specs.Counting.{bit, count};
 ghost use Rattle.arithmetic.specs.Writing.{table};
@@ -19,12 +19,13 @@ const SHORT: u8 = 1;
 
 const ENOUGH: u8 = 2;
 
-// Whether a present reading lies in the span from a start.
-fn opens(start: u64, value: u64, window: u32) -> bool
-    ensures { λ r. ⌜ r ≡ within-nat window (ltb start 4294967296) start (ltb value 4294967296) value ⌝ }
+// Whether a span is to be tried for a present reading: it holds the reading, and was not found short.
+fn tries(mark: u8, start: u64, value: u64, window: u32) -> bool
+    ensures { λ r. ⌜ r ≡ (not (eqb mark 1) && within-nat window (ltb start 4294967296) start (ltb value 4294967296) value) ⌝ }
 {
-    (value < LIMIT)
-        & ((start <= value) & (std::num::wrapping_sub_u64(value, start) <= window as u64))
+    (mark != SHORT)
+        & ((value < LIMIT)
+            & ((start <= value) & (std::num::wrapping_sub_u64(value, start) <= window as u64)))
 }
 
 // How far the span from a present start reaches, up to the last reading.
@@ -61,27 +62,25 @@ fn accepts(values: &[u64], window: u32, need: u32, known: &mut [u8], r: usize) -
     let mut s = 0;
     'starts: while s < values.len() {
         let start = values[s];
-        if opens(start, value, window) {
-            let mark = known[s];
+        let mark = known[s];
+        if tries(mark, start, value, window) {
             if mark == ENOUGH {
                 found = true;
                 break 'starts;
             }
-            if mark == UNCOUNTED {
-                let far = reach(start, window);
-                let mut count: u32 = 0;
-                let mut t = 0;
-                'readings: while t < values.len() {
-                    count += held(start, far, values[t]);
-                    if need <= count {
-                        known[s] = ENOUGH;
-                        found = true;
-                        break 'starts;
-                    }
-                    t += 1;
+            let far = reach(start, window);
+            let mut count: u32 = 0;
+            let mut t = 0;
+            'readings: while t < values.len() {
+                count += held(start, far, values[t]);
+                if need <= count {
+                    known[s] = ENOUGH;
+                    found = true;
+                    break 'starts;
                 }
-                known[s] = SHORT;
+                t += 1;
             }
+            known[s] = SHORT;
         }
         s += 1;
     }

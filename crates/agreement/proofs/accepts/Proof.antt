@@ -11,7 +11,7 @@ use Rattle.arithmetic.specs.Counting.{bit}
 use Rattle.arithmetic.proofs.Bools.{and-intro}
 use Rattle.agreement.specs.Values.{spansAt}
 use mathlib.Core.Logic.{⊎-elim}
-use Rattle.agreement.proofs.Spans.{Tried, Counted, held-small, untried, count-small, start-present, held-spans, begin, count-on, count-enough, pass-counted, pass-short, pass-outside, known-enough, admitted, not-admitted, remember}
+use Rattle.agreement.proofs.Spans.{Tried, Counted, held-small, untried, count-small, tried-holds, start-present, held-spans, begin, count-on, count-enough, pass-counted, pass-untried, known-enough, admitted, not-admitted, remember}
 use Rattle.agreement.proofs.accepts.Statement.{statement}
 use Rattle.agreement.proofs.accepts.Tie as tie
 
@@ -48,23 +48,23 @@ shared-slice-read-start :
     tie.Need-shared-slice-read-start Inv-readings μ-readings Inv-starts μ-starts
 shared-slice-read-start c = search needs
 
-opens-requires : tie.Need-opens-requires Inv-readings μ-readings Inv-starts μ-starts
-opens-requires c κs = search needs
-
 slice-read-mark : tie.Need-slice-read-mark Inv-readings μ-readings Inv-starts μ-starts
 slice-read-mark c = search needs
+
+tries-requires : tie.Need-tries-requires Inv-readings μ-readings Inv-starts μ-starts
+tries-requires c κs = search needs
 
 reach-requires : tie.Need-reach-requires Inv-readings μ-readings Inv-starts μ-starts
 unfolding spansAt
 reach-requires c κs =
-    let a = c .before .before .before .before .before .before .before .before .before .before .before .args in
-    start-present (a .window) (a .values .now) (c .before .before .before .before .before .before .before .starts .s) (a .r) (sym (c .before .before .before .before .opens .ensures) ∙ c .before .before .before .if1 .taken)
+    let a = c .before .before .before .before .before .before .before .before .before .before .args in
+    start-present (a .window) (a .values .now) (c .before .before .before .before .before .before .starts .s) (a .r) (tried-holds (a .window) (a .values .now) (getD (c .before .before .before .before .before .before .starts .known) (c .before .before .before .before .before .before .starts .s) 0) (c .before .before .before .before .before .before .starts .s) (a .r) (c .before .before .tries .ensures) (c .before .if1 .taken))
 
 readings-holds : tie.Need-readings-holds Inv-readings μ-readings Inv-starts μ-starts
 readings-holds c =
-    let a = c .before .before .before .before .before .before .before .before .before .before .before .before .args in
-    let s = c .before .before .before .before .before .before .before .before .starts in
-    begin (a .window) (a .need) (a .values .now) (a .r) (s .known) (s .found) (s .s) (c .before .before .before .before .before .before .before .starts-test .taken) (s .inv)
+    let a = c .before .before .before .before .before .before .before .before .before .before .before .args in
+    let s = c .before .before .before .before .before .before .before .starts in
+    begin (a .window) (a .need) (a .values .now) (a .r) (s .known) (s .found) (s .s) (c .before .before .before .before .before .before .starts-test .taken) (s .inv)
 
 mul-held : tie.Need-mul-held Inv-readings μ-readings Inv-starts μ-starts
 mul-held c = search needs
@@ -76,18 +76,19 @@ shared-slice-read-held c = search needs
 held-requires : tie.Need-held-requires Inv-readings μ-readings Inv-starts μ-starts
 unfolding spansAt
 held-requires c κs =
-    let a = c .before .before .before .before .before .before .before .before .before .before .before .before .before .before .before .args in
-    let p = start-present (a .window) (a .values .now) (c .before .before .before .before .before .before .before .before .before .before .before .starts .s) (a .r) (sym (c .before .before .before .before .before .before .before .before .opens .ensures) ∙ c .before .before .before .before .before .before .before .if1 .taken) in
+    let a = c .before .before .before .before .before .before .before .before .before .before .before .before .before .before .args in
+    let p = start-present (a .window) (a .values .now) (c .before .before .before .before .before .before .before .before .before .before .starts .s) (a .r) (tried-holds (a .window) (a .values .now) (getD (c .before .before .before .before .before .before .before .before .before .before .starts .known) (c .before .before .before .before .before .before .before .before .before .before .starts .s) 0) (c .before .before .before .before .before .before .before .before .before .before .starts .s) (a .r) (c .before .before .before .before .before .before .tries .ensures) (c .before .before .before .before .before .if1 .taken)) in
     (p, omega (arith, p, c .before .before .before .reach .ensures))
 
 add-count : tie.Need-add-count Inv-readings μ-readings Inv-starts μ-starts
 add-count c =
-    let a = c .before .before .before .before .before .before .before .before .before .before .before .before .before .before .before .before .args in
+    let a = c .before .before .before .before .before .before .before .before .before .before .before .before .before .before .before .args in
+    let o = c .before .before .before .before .before .before .before .before .before .before .before .starts .s in
     let i = c .before .before .before .readings in
     omega (
       arith,
-      count-small (a .window) (a .need) (a .values .now) (a .r) (i .known) (i .found) (c .before .before .before .before .before .before .before .before .before .before .before .before .starts .s) (c .before .before .before .before .before .before .before .before .before .before .before .starts-test .taken) (i .inv .tried) (i .count) (i .t) (i .inv),
-      held-small (getD (a .values .now) (c .before .before .before .before .before .before .before .before .before .before .before .before .starts .s) 0) (getD (a .values .now) (i .t) 0) (c .before .before .before .before .reach .result) (c .held .result) (c .held .ensures),
+      count-small (a .window) (a .need) (a .values .now) (a .r) (i .known) (i .found) o (c .before .before .before .before .before .before .before .before .before .before .starts-test .taken) (i .inv .tried) (i .count) (i .t) (i .inv),
+      held-small (getD (a .values .now) o 0) (getD (a .values .now) (i .t) 0) (c .before .before .before .before .reach .result) (c .held .result) (c .held .ensures),
     )
 
 slice-write-known : tie.Need-slice-write-known Inv-readings μ-readings Inv-starts μ-starts
@@ -102,15 +103,15 @@ readings-less c = search needs
 readings-again : tie.Need-readings-again Inv-readings μ-readings Inv-starts μ-starts
 unfolding spansAt
 readings-again c =
-    let a = c .before .before .before .before .before .before .before .before .before .before .before .before .before .before .before .before .before .args in
-    let o = c .before .before .before .before .before .before .before .before .before .before .before .before .before .starts .s in
+    let a = c .before .before .before .before .before .before .before .before .before .before .before .before .before .before .before .before .args in
+    let o = c .before .before .before .before .before .before .before .before .before .before .before .before .starts .s in
     let i = c .before .before .before .before .readings in
-    let p = start-present (a .window) (a .values .now) o (a .r) (sym (c .before .before .before .before .before .before .before .before .before .before .opens .ensures) ∙ c .before .before .before .before .before .before .before .before .before .if1 .taken) in
-    count-on (a .window) (a .need) (a .values .now) (a .r) (i .known) (i .found) o (c .before .before .before .before .before .before .before .before .before .before .before .before .starts-test .taken) (i .inv .tried) (i .count) (i .t) (i .inv)
+    let p = start-present (a .window) (a .values .now) o (a .r) (tried-holds (a .window) (a .values .now) (getD (c .before .before .before .before .before .before .before .before .before .before .before .before .starts .known) o 0) o (a .r) (c .before .before .before .before .before .before .before .before .tries .ensures) (c .before .before .before .before .before .before .before .if1 .taken)) in
+    count-on (a .window) (a .need) (a .values .now) (a .r) (i .known) (i .found) o (c .before .before .before .before .before .before .before .before .before .before .before .starts-test .taken) (i .inv .tried) (i .count) (i .t) (i .inv)
     (c .before .before .before .readings-test .taken)
     (c .before .held .result)
     (held-spans (a .window) (a .values .now) o (i .t) (c .before .before .before .before .before .reach .result) (c .before .held .result) p (c .before .before .before .before .before .reach .ensures) (c .before .held .ensures))
-    (c .if4 .left)
+    (c .if3 .left)
 
 slice-write-known-2 : tie.Need-slice-write-known-2 Inv-readings μ-readings Inv-starts μ-starts
 slice-write-known-2 c = search needs
@@ -124,22 +125,16 @@ starts-less c = search needs
 starts-again : tie.Need-starts-again Inv-readings μ-readings Inv-starts μ-starts
 unfolding spansAt
 starts-again c =
-    let a = c .before .before .before .before .before .before .before .before .args in
-    let s = c .before .before .before .before .starts in
-    let below = c .before .before .before .starts-test .taken in
+    let a = c .before .before .before .before .before .before .before .before .before .args in
+    let s = c .before .before .before .before .before .starts in
+    let below = c .before .before .before .before .starts-test .taken in
     ⊎-elim
     (λ u.
-    rw (u .7, u .8)
-    (pass-counted (a .window) (a .need) (a .values .now) (a .r) (u .5 .known) (u .5 .found) (s .s) below (u .5 .inv .tried) (u .5 .count) (u .5 .t) (u .5 .inv) (u .6 .left)))
-    (λ v.
-    ⊎-elim
-    (λ u.
-    rw (u .4, u .5)
-    (pass-short (a .window) (a .need) (a .values .now) (a .r) (s .known) (s .found) (s .s) below (s .inv) (u .2 .left) (u .3 .left)))
+    rw (u .5, u .6)
+    (pass-counted (a .window) (a .need) (a .values .now) (a .r) (u .3 .known) (u .3 .found) (s .s) below (u .3 .inv .tried) (u .3 .count) (u .3 .t) (u .3 .inv) (u .4 .left)))
     (λ u.
     rw (u .1, u .2)
-    (pass-outside (a .window) (a .need) (a .values .now) (a .r) (s .known) (s .found) (s .s) below (s .inv) (sym (c .before .opens .ensures) ∙ u .0 .left)))
-    v)
+    (pass-untried (a .window) (a .need) (a .values .now) (a .r) (s .known) (s .found) (s .s) below (s .inv) (c .before .tries .ensures) (u .0 .left)))
     (c .if1 .came)
 
 same-length : tie.Need-same-length Inv-readings μ-readings Inv-starts μ-starts
@@ -159,10 +154,11 @@ unfolding spansAt
 returns-2 c =
     let a = c .before .before .before .before .before .before .before .before .before .before .args in
     let s = c .before .before .before .before .before .before .starts in
+    let o = s .s in
     let below = c .before .before .before .before .before .starts-test .taken in (
       sym
-          (admitted (a .window) (a .need) (a .values .now) (a .r) (s .s) below
-          (and-intro (sym (c .before .before .before .opens .ensures) ∙ c .before .before .if1 .taken) (known-enough (a .window) (a .need) (a .values .now) (a .r) (s .known) (s .found) (s .s) below (s .inv) (c .if2 .taken)))),
+          (admitted (a .window) (a .need) (a .values .now) (a .r) o below
+          (and-intro (tried-holds (a .window) (a .values .now) (getD (c .before .before .before .before .before .before .starts .known) o 0) o (a .r) (c .before .before .tries .ensures) (c .before .if1 .taken)) (known-enough (a .window) (a .need) (a .values .now) (a .r) (s .known) (s .found) o below (s .inv) (c .if2 .taken)))),
       s .inv .memory,
     )
 
@@ -172,18 +168,18 @@ same-length-3 c = simp length-set (omega (arith, c .before .before .before .befo
 returns-3 : tie.Need-returns-3 Inv-readings μ-readings Inv-starts μ-starts
 unfolding spansAt
 returns-3 c =
-    let a = c .before .before .before .before .before .before .before .before .before .before .before .before .before .before .before .before .before .args in
-    let o = c .before .before .before .before .before .before .before .before .before .before .before .before .before .starts .s in
-    let below = c .before .before .before .before .before .before .before .before .before .before .before .before .starts-test .taken in
+    let a = c .before .before .before .before .before .before .before .before .before .before .before .before .before .before .before .before .args in
+    let o = c .before .before .before .before .before .before .before .before .before .before .before .before .starts .s in
+    let below = c .before .before .before .before .before .before .before .before .before .before .before .starts-test .taken in
     let i = c .before .before .before .before .readings in
-    let opened = sym (c .before .before .before .before .before .before .before .before .before .before .opens .ensures) ∙ c .before .before .before .before .before .before .before .before .before .if1 .taken in
+    let opened = tried-holds (a .window) (a .values .now) (getD (c .before .before .before .before .before .before .before .before .before .before .before .before .starts .known) o 0) o (a .r) (c .before .before .before .before .before .before .before .before .tries .ensures) (c .before .before .before .before .before .before .before .if1 .taken) in
     let p = start-present (a .window) (a .values .now) o (a .r) opened in
     let enough =
     count-enough (a .window) (a .need) (a .values .now) (a .r) (i .known) (i .found) o below (i .inv .tried) (i .count) (i .t) (i .inv)
     (c .before .before .before .readings-test .taken)
     (c .before .held .result)
     (held-spans (a .window) (a .values .now) o (i .t) (c .before .before .before .before .before .reach .result) (c .before .held .result) p (c .before .before .before .before .before .reach .ensures) (c .before .held .ensures))
-    (c .if4 .taken) in (
+    (c .if3 .taken) in (
       sym (admitted (a .window) (a .need) (a .values .now) (a .r) o below (and-intro opened enough)),
       remember (a .window) (a .need) (a .values .now) (i .known) o 2 (omega (arith, i .inv .tried .long, i .inv .tried .few)) (ap (λ (b : Bool). 1 + bit b) (sym enough)) (i .inv .tried .memory),
     )
@@ -201,8 +197,8 @@ accepts-spec =
     starts-holds
     mul-start
     shared-slice-read-start
-    opens-requires
     slice-read-mark
+    tries-requires
     reach-requires
     readings-holds
     mul-held

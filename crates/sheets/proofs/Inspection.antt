@@ -11,7 +11,7 @@ use Rattle.model.specs.declared.Refusal.{Refusal}
 use Rattle.model.specs.RoundSheet.{settingsAt, entryCount, sheetLength, markAt, bitsAt}
 use Rattle.model.specs.Refusals.{refusal, orNext, firstOf, settingsChecks, sheetChecks, tooShort, badLength, badMark, badMissing, rowChecks, entryChecks}
 use Rattle.model.specs.Calls.{granted, refused, verdict}
-use Rattle.sheets.proofs.Rows.{first-append, next-none}
+use Rattle.sheets.proofs.Rows.{first-append, next-none, none-left, none-right}
 use Rattle.sheets.proofs.Limits.{Limits, limits, entries-most}
 use Rattle.sheets.proofs.Checks.{settings-passed, sheet-length-passed}
 use Rattle.sheets.proofs.Outcomes.{granted-none, granted-same}
@@ -93,3 +93,21 @@ module _ (s : List ℕ) where
 
     pub validation-passes : (c : Settings) → c ≡ settingsAt s → orNext (badMark (markAt s) E) (badMissing (markAt s) (bitsAt s E) E) ≡ none → granted c ≡ verdict (firstOf (rowChecks s)) (settingsAt s)
     validation-passes c e h = rw (rows-after-sizes, h) (ap granted e)
+
+-- what it means that these checks grant settings
+pub record Validated (s : List ℕ) (c : Settings) : Type 0 where
+  pub sizes : Inspected s c
+  pub rows : firstOf (rowChecks s) ≡ none
+  pub entries : firstOf (entryChecks s) ≡ none
+
+pub validated : (s : List ℕ) (c : Settings) → verdict (firstOf (rowChecks s)) (settingsAt s) ≡ granted c → Validated s c
+unfolding rowChecks
+validated s c h =
+    record {
+      sizes = inspected s c (rw (none-left (sheetChecks s) (entryChecks s) rows) (ap granted (granted-same (firstOf (rowChecks s)) (settingsAt s) c h)));
+      rows = rows;
+      entries = none-right (sheetChecks s) (entryChecks s) rows;
+    }
+  where
+    rows : firstOf (rowChecks s) ≡ none
+    rows = granted-none (firstOf (rowChecks s)) (settingsAt s) c h

@@ -4,6 +4,7 @@ pub mod Checks
 pub mod Searching
 pub mod Outcomes
 pub mod Inspection
+pub mod Shown
 pub mod Words
 pub mod Parts
 pub mod Readings

@@ -1,0 +1,11 @@
+-- What the reader leaves, in document 01's terms.
+use mathlib.Core.List.{List}
+use Prim.Native.Nat.{ℕ}
+use lib.IntN.{ℤ}
+use Rattle.model.specs.Calls.{Read}
+use Rattle.inspection.specs.declared.Opened.{Opened}
+use Rattle.inspection.specs.Answers.{openedAs}
+
+-- the reader's answer, with the two lent arrays as it leaves them
+abbrev pub readAs : Opened → List ℕ → List ℤ → Read
+readAs r marks readings = record { verdict = openedAs r; marks = marks; readings = readings }

@@ -5,7 +5,7 @@ ghost use lib.ListN.{length};
 ghost use mir.Syntax.{w32};
 ghost use mir.Val.{toZ};
 ghost use Rattle.arithmetic.specs.Writing.{table, overwrite};
-ghost use Rattle.model.specs.RoundSheet.{settingsAt, rowEntries, markAt, bitsAt};
+ghost use Rattle.model.specs.RoundSheet.{settingsAt, rowEntries, bitsAt};
 ghost use Rattle.model.specs.Calls.{verdict, row, read};
 ghost use Rattle.sheets.specs.Entries.{readRows};
 ghost use Rattle.inspection.specs.Answers.{openedAs};
@@ -40,18 +40,6 @@ pub fn row(sheet: &[u8], r: usize) -> &[u8]
     let width = row_entries(settings);
     let start = 8 + inspection::entry_count(settings) + 4 * (r * width);
     &sheet[start..start + 4 * width]
-}
-
-// Fills the first entries of marks with the sheet's.
-fn copy_marks(sheet: &[u8], entries: usize, marks: &mut [u8])
-    requires { ⌜ (8 + entries ≤ length (now sheet)) × (entries ≤ length (now marks)) ⌝ }
-    ensures { λ _. ⌜ now (marks .exit) ≡ overwrite (table (markAt (now (sheet .entry))) entries) (now (marks .entry)) ⌝ }
-{
-    let mut e: usize = 0;
-    'entries: while e < entries {
-        marks[e] = sheet[8 + e];
-        e += 1;
-    }
 }
 
 // Fills the first entries of readings with the sheet's.
@@ -103,7 +91,8 @@ pub fn read(sheet: &[u8], marks: &mut [u8], readings: &mut [i32]) -> Opened
         Opened::Refused(r) => Opened::Refused(r),
         Opened::Granted(settings) => {
             let entries = inspection::entry_count(settings);
-            copy_marks(sheet, entries, marks);
+            let body = 8 + entries;
+            bytes::copy(&sheet[8..body], marks);
             decode(sheet, entries, readings);
             Opened::Granted(settings)
         }

@@ -8,7 +8,7 @@ use native.Mathlib.Numerals.{add-one, add-two, add-three}
 use native.Mathlib.Omega.{arith}
 use borrow.Author.Tests.{le-leb, lt-leb}
 use lib.ListN.{length, take, drop, set, length-append, length-drop}
-use lib.Seq.{sets-eq, take-at, drop-at, drop-append-add, drop-drop}
+use lib.Seq.{sets-eq, take-length, take-at, drop-at, drop-append-add, drop-drop}
 use Rattle.arithmetic.specs.Writing.{table, overwrite}
 use Rattle.arithmetic.proofs.Writing.{length-table, overwrite-snoc}
 use Rattle.model.specs.RoundSheet.{bytes4}
@@ -71,6 +71,11 @@ module _ {A : Type 0} where
 
   pub store-ended : (f : ℕ → A) (n e : ℕ) (old now : List A) → e ≤ n → n ≤ e → now ≡ overwrite (table f e) old → now ≡ overwrite (table f n) old
   store-ended f n e old now a b s = s ∙ ap (λ (k : ℕ). overwrite (table f k) old) (le-antisymm a b)
+
+  -- a whole list copied to the front
+  pub copy-overwrites : (new old : List A) → take (length new) new ++ drop (length new) old ≡ overwrite new old
+  unfolding overwrite
+  copy-overwrites new old = ap (λ (l : List A). l ++ drop (length new) old) (take-length new)
 
   -- a part written behind what was written
   pub overwrite-append : (p q old : List A) (k : ℕ) → length p ≡ k → take k (overwrite p old) ++ overwrite q (drop k (overwrite p old)) ≡ overwrite (p ++ q) old

@@ -5,8 +5,10 @@ ghost use lib.ListN.{length};
 ghost use mir.Syntax.{w32};
 ghost use mir.Val.{toZ};
 ghost use Rattle.arithmetic.specs.Writing.{table, overwrite};
-ghost use Rattle.model.specs.RoundSheet.{rowEntries, markAt, bitsAt};
-ghost use Rattle.model.specs.Calls.{row, read};
+ghost use Rattle.model.specs.RoundSheet.{settingsAt, rowEntries, bitsAt};
+ghost use Rattle.model.specs.Calls.{verdict, row, read};
+ghost use Rattle.sheets.specs.Entries.{readRows};
+ghost use Rattle.inspection.specs.Answers.{openedAs};
 ghost use Rattle.sheet.specs.Answers.{readAs};
 use ensemble::Tick;
 use inspection::Opened;
@@ -38,4 +40,61 @@ pub fn row(sheet: &[u8], r: usize) -> &[u8]
     let width = row_entries(settings);
     let start = 8 + inspection::entry_count(settings) + 4 * (r * width);
     &sheet[start..start + 4 * width]
+}
+
+// Fills the first entries of readings with the sheet's.
+fn decode(sheet: &[u8], entries: usize, readings: &mut [i32])
+    requires { ⌜ (8 + entries + 4 * entries ≤ length (now sheet)) × (entries ≤ length (now readings)) ⌝ }
+    ensures { λ _. ⌜ now (readings .exit) ≡ overwrite (table (λ e. toZ w32 (bitsAt (now (sheet .entry)) entries e)) entries) (now (readings .entry)) ⌝ }
+{
+    let mut e: usize = 0;
+    'entries: while e < entries {
+        let i = 8 + entries + 4 * e;
+        let tick = Tick::from_bits(words::join(sheet[i], sheet[i + 1], sheet[i + 2], sheet[i + 3]));
+        let ticks = tick.0;
+        readings[e] = ticks;
+        e += 1;
+    }
+}
+
+// Checks 1 to 9 of the reader, lent arrays of these lengths.
+fn open(sheet: &[u8], marks: usize, readings: usize) -> Opened
+    ensures { λ r. ⌜ openedAs r ≡ verdict (readRows (now (sheet .entry)) marks readings) (settingsAt (now (sheet .entry))) ⌝ }
+{
+    match inspection::inspect(sheet) {
+        Opened::Refused(r) => Opened::Refused(r),
+        Opened::Granted(settings) => {
+            let entries = inspection::entry_count(settings);
+            if marks < entries {
+                return Opened::Refused(Refusal {
+                    number: 7,
+                    place: 0,
+                });
+            }
+            if readings < entries {
+                return Opened::Refused(Refusal {
+                    number: 7,
+                    place: 0,
+                });
+            }
+            inspection::validate(sheet)
+        }
+    }
+}
+
+// The reader: the settings, with the first entries of marks and readings filled from the sheet, or the first refusal of checks 1 to 9,
+// which fills nothing.
+pub fn read(sheet: &[u8], marks: &mut [u8], readings: &mut [i32]) -> Opened
+    ensures { λ r. ⌜ readAs r (now (marks .exit)) (now (readings .exit)) ≡ read (now (sheet .entry)) (now (marks .entry)) (now (readings .entry)) ⌝ }
+{
+    match open(sheet, marks.len(), readings.len()) {
+        Opened::Refused(r) => Opened::Refused(r),
+        Opened::Granted(settings) => {
+            let entries = inspection::entry_count(settings);
+            let body = 8 + entries;
+            bytes::copy(&sheet[8..body], marks);
+            decode(sheet, entries, readings);
+            Opened::Granted(settings)
+        }
+    }
 }

@@ -5,6 +5,7 @@ pub mod Searching
 pub mod Outcomes
 pub mod Inspection
 pub mod Shown
+pub mod Opening
 pub mod Words
 pub mod Parts
 pub mod Readings

@@ -18,6 +18,7 @@ use Rattle.model.specs.AnswerSheet.{answerLength}
 use Rattle.model.specs.Steps.{roundAt}
 use Rattle.model.specs.Refusals.{Row, orNext, firstOf, settingsChecks, sheetChecks, entryChecks, readChecks, writeChecks, rowChecks, settleChecks, badLength, noRoom, badMark, badMissing, tooManyFaults}
 use Rattle.model.specs.Calls.{granted, refused, verdict, marksOf, ticksOf, readAfter, read, writtenAfter, write, row, lent}
+use Rattle.sheets.specs.Entries.{readRows}
 use Rattle.sheets.proofs.Rows.{first-append, next-none}
 
 -- ---- verdicts
@@ -40,8 +41,8 @@ module _ {A : Type 0} where
 
 module _ (s marks : List ℕ) (readings : List ℤ) where
   -- the rows in their order: checks 1 to 6, 7 of each array, 8 and 9
-  pub read-rows : firstOf (readChecks s marks readings) ≡ orNext (firstOf (sheetChecks s)) (orNext (noRoom (length marks) (entryCount (settingsAt s))) (orNext (noRoom (length readings) (entryCount (settingsAt s))) (firstOf (entryChecks s))))
-  unfolding readChecks firstOf
+  pub read-rows : firstOf (readChecks s marks readings) ≡ readRows s (length marks) (length readings)
+  unfolding readChecks firstOf readRows
   read-rows = first-append (sheetChecks s) (noRoom (length marks) (entryCount (settingsAt s)) ∷ noRoom (length readings) (entryCount (settingsAt s)) ∷ entryChecks s)
 
   pub read-grants : firstOf (readChecks s marks readings) ≡ none → read s marks readings ≡ record { verdict = granted (settingsAt s); marks = overwrite (marksOf s) marks; readings = overwrite (ticksOf s) readings }

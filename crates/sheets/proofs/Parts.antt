@@ -8,8 +8,10 @@ use native.Mathlib.Nat.{add-assoc}
 use native.Mathlib.Omega.{arith}
 use lib.Dec.{ltb}
 use lib.ListN.{length, take, drop, length-drop}
-use lib.Seq.{length-take-le, getD-take, getD-drop, take-all}
+use lib.Seq.{ext-getD, length-take-le, getD-take, getD-drop, take-all}
 use Rattle.arithmetic.specs.Counting.{lowest}
+use Rattle.arithmetic.specs.Writing.{table}
+use Rattle.arithmetic.proofs.Writing.{length-table, getD-table}
 use Rattle.arithmetic.proofs.Counting.{lowest-ext, lowest-found}
 use Rattle.model.specs.RoundSheet.{byte, word, markAt, bitsAt}
 use Rattle.model.specs.Refusals.{refusal, orNext, badMark, badMissing}
@@ -19,6 +21,18 @@ use Rattle.sheets.proofs.Words.{word-ext}
 -- a number read in what is left of a list
 pub word-drop : (s : List ℕ) (k i : ℕ) → word (drop k s) i ≡ word s (k + i)
 word-drop s k i = word-ext (drop k s) s i (k + i) (λ b h. getD-drop k s (i + b) 0 ∙ ap (byte s) (sym (add-assoc k i b)))
+
+-- the entries of a part of a list are that part
+pub table-part : (s : List ℕ) (k n : ℕ) → k + n ≤ length s → table (λ e. byte s (k + e)) n ≡ take n (drop k s)
+table-part s k n h =
+    ext-getD 0 (table (λ e. byte s (k + e)) n) (take n (drop k s))
+    (length-table (λ e. byte s (k + e)) n ∙ sym (length-take-le n (drop k s) fits))
+    (λ i l.
+    let i-in : i < n = rw (length-table (λ e. byte s (k + e)) n) at l in
+    getD-table (λ e. byte s (k + e)) n i 0 i-in ∙ sym (getD-take n (drop k s) i 0 i-in ∙ getD-drop k s i 0))
+  where
+    fits : n ≤ length (drop k s)
+    fits = let d = length-drop k s in omega arith
 
 -- bytes 8 to 8 + E, and the rest
 abbrev pub marksPart : List ℕ → ℕ → List ℕ
@@ -39,6 +53,13 @@ module _ (s : List ℕ) (E : ℕ) (long : length s ≡ 8 + 5 * E) where
 
   pub marksPart-at : (e : ℕ) → e < E → byte (marksPart s E) e ≡ markAt s e
   marksPart-at e h = getD-take (8 + E - 8) (drop 8 s) e 0 (omega arith) ∙ getD-drop 8 s e 0
+
+  pub marksPart-table : marksPart s E ≡ table (markAt s) E
+  marksPart-table =
+      ap (λ (k : ℕ). take k (drop 8 s)) same ∙ sym (table-part s 8 E (omega arith))
+    where
+      same : 8 + E - 8 ≡ E
+      same = omega arith
 
   readingsPart-rest : readingsPart s E ≡ drop (8 + E) s
   readingsPart-rest = take-all (length s - (8 + E)) (drop (8 + E) s) (let d = length-drop (8 + E) s in omega arith)

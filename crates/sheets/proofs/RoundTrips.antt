@@ -16,6 +16,7 @@ use Rattle.model.specs.declared.Settings.{Settings}
 use Rattle.model.specs.RoundSheet.{byte, settingsAt, entryCount, sheetLength, markAt, bitsAt, sheetBytes}
 use Rattle.model.specs.Refusals.{firstOf, settingsChecks, sheetChecks, entryChecks, readChecks, writeChecks, noRoom}
 use Rattle.model.specs.Calls.{granted, verdict, Read, marksOf, ticksOf, read, Written, write}
+use Rattle.sheets.specs.Entries.{readRows}
 use Rattle.sheets.proofs.Rows.{first-append, next-none-left, next-none-right, none-at, none-left}
 use Rattle.sheets.proofs.Outcomes.{granted-none, granted-same, read-rows, read-grants, entryRows, write-grants}
 use Rattle.sheets.proofs.Checks.{length-pass, length-passed, room-pass, room-passed, marks-pass, marks-passed, missing-pass, missing-passed, sheet-length-passed}
@@ -26,14 +27,17 @@ use Rattle.sheets.proofs.Reread.{sheet-again, sheet-well-formed}
 
 module _ (s marks : List ℕ) (readings : List ℤ) where
   pub read-passes : firstOf (sheetChecks s) ≡ none → entryCount (settingsAt s) ≤ length marks → entryCount (settingsAt s) ≤ length readings → firstOf (entryChecks s) ≡ none → firstOf (readChecks s marks readings) ≡ none
+  unfolding readRows
   read-passes a b d e =
       read-rows s marks readings
       ∙ rw (a, room-pass (length marks) (entryCount (settingsAt s)) b, room-pass (length readings) (entryCount (settingsAt s)) d, e)
 
   pub read-sheet-passed : firstOf (readChecks s marks readings) ≡ none → firstOf (sheetChecks s) ≡ none
+  unfolding readRows
   read-sheet-passed h = next-none-left (firstOf (sheetChecks s)) _ (sym (read-rows s marks readings) ∙ h)
 
   pub read-entries-passed : firstOf (readChecks s marks readings) ≡ none → firstOf (entryChecks s) ≡ none
+  unfolding readRows
   read-entries-passed h =
       next-none-right (noRoom (length readings) (entryCount (settingsAt s))) (firstOf (entryChecks s))
       (next-none-right (noRoom (length marks) (entryCount (settingsAt s))) _

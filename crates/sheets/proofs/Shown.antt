@@ -2,18 +2,18 @@
 -- Assumes nothing.
 use mathlib.Core.Bool.{Bool, true, false, cond}
 use mathlib.Core.List.{List, []}
-use mathlib.Core.Path.{_≡_, refl, sym, ap, ap₂, _∙_, subst⁻¹}
-use Prim.Native.Nat.{ℕ, suc, _+_, _*_, _-_, _≤_, _<_}
+use mathlib.Core.Path.{_≡_, sym, ap, ap₂, _∙_, subst⁻¹}
+use Prim.Native.Nat.{ℕ, _+_, _*_, _-_, _≤_, _<_}
 use native.Mathlib.Nat.{suc-mul, mul-le-mul-right, add-sub-cancel-left}
 use native.Mathlib.Omega.{arith}
 use borrow.Author.Tests.{lt-ltb, le-ltb}
-use lib.Dec.{eqb, ltb}
-use lib.ListN.{length, take, drop}
+use lib.Dec.{eqb}
+use lib.ListN.{take, drop}
 use Rattle.model.specs.declared.Settings.{Settings}
 use Rattle.model.specs.RoundSheet.{settingsAt, entryCount, rowEntries, rowPart}
 use Rattle.model.specs.Calls.{row}
 use Rattle.sheets.proofs.Outcomes.{row-shown, row-past}
-use Rattle.sheets.proofs.Inspection.{Inspected, Validated}
+use Rattle.sheets.proofs.Inspection.{Validated}
 
 -- a row lies within the entries
 pub row-within : (c : Settings) (r : ℕ) → r < c .n → r * rowEntries c + rowEntries c ≤ entryCount c

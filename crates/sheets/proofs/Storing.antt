@@ -1,13 +1,14 @@
 -- Stores into a lent buffer: four bytes at a place, and entries one after another from the front.
 -- Assumes nothing.
 use mathlib.Core.List.{List, [], _∷_, _++_, append-assoc}
-use mathlib.Core.Path.{_≡_, sym, ap, ap₂, _∙_}
+use mathlib.Core.Path.{_≡_, refl, sym, ap, ap₂, _∙_}
 use Prim.Native.Nat.{ℕ, _+_, _/_, _%_, _≤_, _<_}
+use native.Mathlib.Nat.{le-antisymm}
 use native.Mathlib.Numerals.{add-one, add-two, add-three}
 use native.Mathlib.Omega.{arith}
 use borrow.Author.Tests.{le-leb, lt-leb}
 use lib.ListN.{length, take, drop, set, length-append, length-drop}
-use lib.Seq.{sets-eq, take-at, drop-at, drop-append-add, drop-drop}
+use lib.Seq.{sets-eq, take-length, take-at, drop-at, drop-append-add, drop-drop}
 use Rattle.arithmetic.specs.Writing.{table, overwrite}
 use Rattle.arithmetic.proofs.Writing.{length-table, overwrite-snoc}
 use Rattle.model.specs.RoundSheet.{bytes4}
@@ -55,14 +56,26 @@ put-word-next new old i x e h =
         ∙ ap (λ (k : ℕ). drop k old) (ap (λ (k : ℕ). k + 4) e ∙ sym long)
 
 module _ {A : Type 0} where
-  -- the next entry of a table stored
-  pub store-next : (f : ℕ → A) (n : ℕ) (old : List A) (x : A) → x ≡ f n → n < length old → set (overwrite (table f n) old) n x ≡ overwrite (table f (n + 1)) old
+  -- a table stored entry by entry: nothing yet, the next entry, all of them
+  pub store-none : (f : ℕ → A) (old : List A) → old ≡ overwrite (table f 0) old
+  unfolding table overwrite
+  store-none f old = refl
+
+  pub store-next : (f : ℕ → A) (n : ℕ) (old now : List A) (x : A) → now ≡ overwrite (table f n) old → x ≡ f n → n < length old → set now n x ≡ overwrite (table f (n + 1)) old
   unfolding table
-  store-next f n old x e h =
-      ap (λ (k : ℕ). set (overwrite (table f n) old) k x) (sym (length-table f n))
+  store-next f n old now x s e h =
+      ap₂ (λ (l : List A) (k : ℕ). set l k x) s (sym (length-table f n))
       ∙ overwrite-snoc (table f n) old x (rw (length-table f n) h)
       ∙ ap (λ (y : A). overwrite (table f n ++ (y ∷ [])) old) e
       ∙ ap (λ (k : ℕ). overwrite (table f k) old) (sym (add-one n))
+
+  pub store-ended : (f : ℕ → A) (n e : ℕ) (old now : List A) → e ≤ n → n ≤ e → now ≡ overwrite (table f e) old → now ≡ overwrite (table f n) old
+  store-ended f n e old now a b s = s ∙ ap (λ (k : ℕ). overwrite (table f k) old) (le-antisymm a b)
+
+  -- a whole list copied to the front
+  pub copy-overwrites : (new old : List A) → take (length new) new ++ drop (length new) old ≡ overwrite new old
+  unfolding overwrite
+  copy-overwrites new old = ap (λ (l : List A). l ++ drop (length new) old) (take-length new)
 
   -- a part written behind what was written
   pub overwrite-append : (p q old : List A) (k : ℕ) → length p ≡ k → take k (overwrite p old) ++ overwrite q (drop k (overwrite p old)) ≡ overwrite (p ++ q) old

@@ -12,11 +12,6 @@ use Rattle.sheets.proofs.Inspection.{Validated, validated}
 use Rattle.sheets.proofs.Shown.{row-room, row-part, row-empty}
 use Rattle.sheet.proofs.row.Statement.{statement}
 use Rattle.sheet.proofs.row.Tie as tie
-use Rattle.sheet.proofs.row.Reads as reads
-use Rattle.sheet.proofs.row.Lts as lts
-use Rattle.inspection.proofs.entry_count.Reads as entry-count-reads
-use Rattle.inspection.proofs.validate.Reads as validate-reads
-use Rattle.sheet.proofs.row_entries.Reads as row-entries-reads
 
 -- what `validate` granted
 seen : (c : tie.After-entry-count) → Validated (c .before .before .before .before .before .before .before .before .before .args .sheet .now) (c .before .before .before .before .before .settings .given .0 .0)
@@ -31,23 +26,18 @@ fits c =
     (c .entry-count .result) (c .before .row-entries .result) (c .entry-count .ensures) (c .before .row-entries .ensures)
     (c .before .before .if1 .left)
 
--- src/lib.rt:31:37
 validate-requires : tie.Need-validate-requires
 validate-requires c κs = search needs
 
--- src/lib.rt:31:25
 enum-known-settings : tie.Need-enum-known-settings
 enum-known-settings c = search needs
 
--- src/lib.rt:32:16
 enum-told : tie.Need-enum-told
 enum-told c = search needs
 
--- src/lib.rt:32:9
 slice-aggregate-result : tie.Need-slice-aggregate-result
 slice-aggregate-result c = search needs
 
--- src/lib.rt:32:9
 returns : tie.Need-returns
 returns c =
     sym
@@ -55,15 +45,12 @@ returns c =
     (refused-some (firstOf (rowChecks (c .before .before .before .before .before .args .sheet .now))) (settingsAt (c .before .before .before .before .before .args .sheet .now)) (c .before .enum-told .given .0 .0)
     (sym (c .before .before .before .validate .ensures) ∙ ap openedAs (c .before .enum-told .given .1))))
 
--- src/lib.rt:34:13
 cast-n : tie.Need-cast-n
 cast-n c = search needs
 
--- src/lib.rt:36:9
 slice-aggregate-result-2 : tie.Need-slice-aggregate-result-2
 slice-aggregate-result-2 c = search needs
 
--- src/lib.rt:36:9
 returns-2 : tie.Need-returns-2
 returns-2 c =
     row-empty (c .before .before .before .before .before .before .before .before .args .sheet .now) (c .before .before .before .before .settings .given .0 .0)
@@ -71,72 +58,60 @@ returns-2 c =
     (c .before .before .before .before .before .before .before .before .args .r) (entryCount (c .before .before .before .before .settings .given .0 .0)) (rowEntries (c .before .before .before .before .settings .given .0 .0)) refl refl
     (c .before .if1 .taken)
 
--- src/lib.rt:38:9
 row-entries-requires : tie.Need-row-entries-requires
 row-entries-requires c κs = search needs
 
--- src/lib.rt:39:21
 entry-count-requires : tie.Need-entry-count-requires
 entry-count-requires c κs = search needs
 
--- src/lib.rt:39:17
 add-start : tie.Need-add-start
 add-start c =
     let few = seen c .sizes .few in
     let room = fits c in
     omega arith
 
--- src/lib.rt:39:62
 mul-start : tie.Need-mul-start
 mul-start c =
     let few = seen c .sizes .few in
     let room = fits c in
     omega arith
 
--- src/lib.rt:39:57
 mul-start-2 : tie.Need-mul-start-2
 mul-start-2 c =
     let few = seen c .sizes .few in
     let room = fits c in
     omega arith
 
--- src/lib.rt:39:17
 add-start-2 : tie.Need-add-start-2
 add-start-2 c =
     let few = seen c .sizes .few in
     let room = fits c in
     omega arith
 
--- src/lib.rt:40:27
 mul-result : tie.Need-mul-result
 mul-result c =
     let few = seen c .sizes .few in
     let room = fits c in
     omega arith
 
--- src/lib.rt:40:19
 add-result : tie.Need-add-result
 add-result c =
     let few = seen c .sizes .few in
     let room = fits c in
     omega arith
 
--- src/lib.rt:40:5
 sub-result : tie.Need-sub-result
 sub-result c = search needs
 
--- src/lib.rt:40:5
 part-result-start : tie.Need-part-result-start
 part-result-start c = search needs
 
--- src/lib.rt:40:5
 part-result-end : tie.Need-part-result-end
 part-result-end c =
     let long = seen c .sizes .long in
     let room = fits c in
     omega arith
 
--- src/lib.rt:28:1
 returns-3 : tie.Need-returns-3
 returns-3 c =
     row-part (c .before .before .before .before .before .before .before .before .before .before .args .sheet .now) (c .before .before .before .before .before .before .settings .given .0 .0) (seen (c .before)) (c .before .before .before .before .before .before .before .before .before .before .args .r)

@@ -5,19 +5,14 @@ use borrow.Author.Tests.{eq-eqb, ne-eqb}
 use Rattle.model.specs.RoundSheet.{rowEntries}
 use Rattle.sheet.proofs.row_entries.Statement.{statement}
 use Rattle.sheet.proofs.row_entries.Tie as tie
-use Rattle.sheet.proofs.row_entries.Reads as reads
-use Rattle.sheet.proofs.row_entries.Lts as lts
 
--- src/lib.rt:21:9
 cast-result : tie.Need-cast-result
 cast-result c = search needs
 
--- src/lib.rt:17:1
 returns : tie.Need-returns
 unfolding rowEntries
 returns c = rw (eq-eqb (c .before .before .before .args .settings .rule) 1 (c .before .if1 .taken))
 
--- src/lib.rt:17:1
 returns-2 : tie.Need-returns-2
 unfolding rowEntries
 returns-2 c = rw (ne-eqb (c .before .before .args .settings .rule) 1 (c .if1 .left))

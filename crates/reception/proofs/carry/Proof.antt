@@ -1,3 +1,6 @@
+-- `reception::carry` meets its contract: the bits' half and the mark say which case it is.
+-- Assumes nothing.
+use Rattle.reception.proofs.Carrying.{carry-missing, carry-low, carry-high}
 use borrow.Author.Needs.{needs}
 use Rattle.reception.proofs.carry.Statement.{statement}
 use Rattle.reception.proofs.carry.Tie as tie
@@ -6,7 +9,7 @@ use Rattle.reception.proofs.carry.Lts as lts
 
 -- src/lib.rt:22:9
 returns : tie.Need-returns
-returns c = ?
+returns c = carry-missing (c .before .args .mark) (c .before .args .bits) (c .if1 .taken)
 
 -- src/lib.rt:25:9
 add-result : tie.Need-add-result
@@ -18,11 +21,11 @@ sub-result c = search needs
 
 -- src/lib.rt:18:1
 returns-2 : tie.Need-returns-2
-returns-2 c = ?
+returns-2 c = carry-low (c .before .before .args .mark) (c .before .before .args .bits) (c .before .if1 .left) (c .if2 .taken)
 
 -- src/lib.rt:18:1
 returns-3 : tie.Need-returns-3
-returns-3 c = ?
+returns-3 c = carry-high (c .before .before .args .mark) (c .before .before .args .bits) (c .before .if1 .left) (c .if2 .left) (c .before .before .fits .bits .fits)
 
 pub carry-spec : {M : Type 1} → statement M
 carry-spec = tie.close (tie.spec returns add-result sub-result returns-2 returns-3)

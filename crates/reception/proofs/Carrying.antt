@@ -1,7 +1,8 @@
 -- The natural that stands for a copy, by its mark and its bits.
 -- Assumes nothing.
 use mathlib.Core.Path.{_≡_, refl, sym, ap, _∙_}
-use Prim.Native.Nat.{ℕ, suc, _+_, _-_, _≤_, _<_}
+use Prim.Native.Nat.{ℕ, suc, _+_, _*_, _-_, _≤_, _<_}
+use native.Mathlib.Nat.{mul-le-mul, mul-le-mul-right, suc-mul}
 use native.Mathlib.Omega.{arith}
 use borrow.Author.Tests.{eq-eqb, ne-eqb, lt-ltb, le-ltb}
 use Rattle.arithmetic.proofs.Shift.{up}
@@ -23,3 +24,13 @@ module _ (mark bits : ℕ) where
       where
         below : bits - 2147483648 ≡ 2147483648 - suc (4294967296 - suc bits)
         below = omega arith
+
+-- row r of n lies in the square
+pub row-room : (r n : ℕ) → r < n → r * n + n ≤ n * n
+row-room r n h =
+    let a : suc r * n ≤ n * n = mul-le-mul-right n h in
+    let e = suc-mul r n in
+    omega arith
+
+pub square-most : (n : ℕ) → n ≤ 64 → n * n ≤ 4096
+square-most n h = mul-le-mul h h

@@ -6,8 +6,7 @@ ghost use Rattle.arithmetic.specs.Writing.{table};
 ghost use Rattle.model.specs.RoundSheet.{byte, word};
 ghost use Rattle.model.specs.Steps.{decidedReading};
 ghost use Rattle.decision.specs.Rows.{copiesIn, byMajority};
-ghost use Rattle.reception.specs.Carried.{carried, copyOf, received};
-
+ghost use Rattle.reception.specs.Carried.{carried, copyOf, rowDecided, received};
 use decision::Decision;
 use model::Settings;
 
@@ -47,5 +46,23 @@ fn receive_row(marks: &[u8], row: &[u8], need: u32) -> u64
     match decision::decide(marks, row, need) {
         Decision::Decided(bits) => carry(1, bits),
         Decision::Undecided => MISSING,
+    }
+}
+
+// The readings as decided, a row for each cabinet.
+fn receive_relayed(sheet: &[u8], settings: Settings, need: u32, values: &mut [u64])
+    requires { ⌜ (settings .n ≤ 64) × (8 + settings .n * settings .n ≤ length (now sheet)) × (length (now values) ≡ settings .n) ⌝ }
+    ensures { λ _. ⌜ now (values .exit) ≡ table (λ r. carried (rowDecided (now (sheet .entry)) settings need r)) (settings .n) ⌝ }
+{
+    let n = settings.n as usize;
+    let mut r: usize = 0;
+    'rows: while r < n {
+        let start = 8 + r * n;
+        values[r] = receive_row(
+            &sheet[start..start + n],
+            rows::row_part(sheet, settings, r),
+            need,
+        );
+        r += 1;
     }
 }

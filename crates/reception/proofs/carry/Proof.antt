@@ -4,26 +4,19 @@ use Rattle.reception.proofs.Carrying.{carry-missing, carry-low, carry-h
 use borrow.Author.Needs.{needs}
 use Rattle.reception.proofs.carry.Statement.{statement}
 use Rattle.reception.proofs.carry.Tie as tie
-use Rattle.reception.proofs.carry.Reads as reads
-use Rattle.reception.proofs.carry.Lts as lts
 
--- src/lib.rt:22:9
 returns : tie.Need-returns
 returns c = carry-missing (c .before .args .mark) (c .before .args .bits) (c .if1 .taken)
 
--- src/lib.rt:25:9
 add-result : tie.Need-add-result
 add-result c = search needs
 
--- src/lib.rt:27:9
 sub-result : tie.Need-sub-result
 sub-result c = search needs
 
--- src/lib.rt:18:1
 returns-2 : tie.Need-returns-2
 returns-2 c = carry-low (c .before .before .args .mark) (c .before .before .args .bits) (c .before .if1 .left) (c .if2 .taken)
 
--- src/lib.rt:18:1
 returns-3 : tie.Need-returns-3
 returns-3 c = carry-high (c .before .before .args .mark) (c .before .before .args .bits) (c .before .if1 .left) (c .if2 .left) (c .before .before .fits .bits .fits)
 

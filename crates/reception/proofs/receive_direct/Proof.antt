@@ -13,10 +13,6 @@ use Rattle.decision.specs.Rows.{copiesIn}
 use Rattle.reception.specs.Carried.{carried, copyOf}
 use Rattle.reception.proofs.receive_direct.Statement.{statement}
 use Rattle.reception.proofs.receive_direct.Tie as tie
-use Rattle.reception.proofs.receive_direct.Reads as reads
-use Rattle.reception.proofs.receive_direct.Lts as lts
-use Rattle.reception.proofs.carry.Reads as carry-reads
-use Rattle.words.proofs.word_at.Reads as word-at-reads
 
 abbrev Inv-readings : tie.InvT-readings
 Inv-readings marks row values₀ t₀ values t = (t ≤ length marks) × (values ≡ overwrite (table (λ i. carried (copiesIn marks row i)) t) values₀) × (length values ≡ length values₀)
@@ -24,57 +20,46 @@ Inv-readings marks row values₀ t₀ values t = (t ≤ length marks) × (values
 abbrev μ-readings : tie.MeasureT-readings
 μ-readings marks row values₀ t₀ values t = length marks - t
 
--- src/lib.rt:37:5
 readings-holds : tie.Need-readings-holds Inv-readings μ-readings
 readings-holds c = (search needs, store-none (λ i. carried (copiesIn (c .before .before .before .args .marks .now) (c .before .before .before .args .row .now) i)) (c .before .before .before .args .values .now), refl)
 
--- src/lib.rt:38:27
 shared-slice-read-carry : tie.Need-shared-slice-read-carry Inv-readings μ-readings
 shared-slice-read-carry c = search needs
 
--- src/lib.rt:38:57
 mul-word-at : tie.Need-mul-word-at Inv-readings μ-readings
 mul-word-at c = search needs
 
--- src/lib.rt:38:37
 word-at-requires : tie.Need-word-at-requires Inv-readings μ-readings
 word-at-requires c κs = search needs
 
--- src/lib.rt:38:21
 carry-requires : tie.Need-carry-requires Inv-readings μ-readings
 carry-requires c κs = search needs
 
--- src/lib.rt:38:9
 mul-values : tie.Need-mul-values Inv-readings μ-readings
 mul-values c = search needs
 
--- src/lib.rt:38:9
 slice-write-values : tie.Need-slice-write-values Inv-readings μ-readings
 slice-write-values c = search needs
 
--- src/lib.rt:39:9
 add-t : tie.Need-add-t Inv-readings μ-readings
 add-t c = search needs
 
--- src/lib.rt:37:5
 readings-less : tie.Need-readings-less Inv-readings μ-readings
 readings-less c = search needs
 
--- src/lib.rt:37:5
 readings-again : tie.Need-readings-again Inv-readings μ-readings
-readings-again c =
-    ( search needs,
-    store-next (λ i. carried (copiesIn (c .before .before .before .before .before .before .before .before .args .marks .now) (c .before .before .before .before .before .before .before .before .args .row .now) i)) (c .before .before .before .before .readings .t) (c .before .before .before .before .before .before .before .before .args .values .now) (c .before .before .before .before .readings .values) (c .carry .result)
-    (c .before .before .before .before .readings .inv .1)
-    (c .carry .ensures ∙ ap (λ (x : ℕ). carried (copyOf (getD (c .before .before .before .before .before .before .before .before .args .marks .now) (c .before .before .before .before .readings .t) 0) x)) (c .before .word-at .ensures))
-    (omega (arith, c .before .before .before .readings-test .taken, c .before .before .before .before .before .before .before .before .pre .0)),
-    length-set (c .before .before .before .before .readings .values) (c .before .before .before .before .readings .t) (c .carry .result) ∙ c .before .before .before .before .readings .inv .2)
+readings-again c = (
+  search needs,
+  store-next (λ i. carried (copiesIn (c .before .before .before .before .before .before .before .before .args .marks .now) (c .before .before .before .before .before .before .before .before .args .row .now) i)) (c .before .before .before .before .readings .t) (c .before .before .before .before .before .before .before .before .args .values .now) (c .before .before .before .before .readings .values) (c .carry .result)
+      (c .before .before .before .before .readings .inv .1)
+      (c .carry .ensures ∙ ap (λ (x : ℕ). carried (copyOf (getD (c .before .before .before .before .before .before .before .before .args .marks .now) (c .before .before .before .before .readings .t) 0) x)) (c .before .word-at .ensures))
+      (omega (arith, c .before .before .before .readings-test .taken, c .before .before .before .before .before .before .before .before .pre .0)),
+  length-set (c .before .before .before .before .readings .values) (c .before .before .before .before .readings .t) (c .carry .result) ∙ c .before .before .before .before .readings .inv .2,
+)
 
--- src/lib.rt:32:1
 same-length : tie.Need-same-length Inv-readings μ-readings
 same-length c = search needs
 
--- src/lib.rt:32:1
 returns : tie.Need-returns Inv-readings μ-readings
 returns c =
     store-ended (λ i. carried (copiesIn (c .before .before .before .before .before .args .marks .now) (c .before .before .before .before .before .args .row .now) i)) (length (c .before .before .before .before .before .args .marks .now)) (c .before .readings .t) (c .before .before .before .before .before .args .values .now) (c .before .readings .values)

@@ -7,34 +7,24 @@ use Rattle.reception.specs.Carried.{carried}
 use borrow.Author.Needs.{needs}
 use Rattle.reception.proofs.receive_row.Statement.{statement}
 use Rattle.reception.proofs.receive_row.Tie as tie
-use Rattle.reception.proofs.receive_row.Reads as reads
-use Rattle.reception.proofs.receive_row.Lts as lts
-use Rattle.decision.proofs.decide.Reads as decide-reads
-use Rattle.reception.proofs.carry.Reads as carry-reads
 
--- src/lib.rt:47:11
 decide-requires : tie.Need-decide-requires
 decide-requires c κs = search needs
 
--- src/lib.rt:48:27
 enum-known-bits : tie.Need-enum-known-bits
 enum-known-bits c = search needs
 
--- src/lib.rt:48:36
 carry-requires : tie.Need-carry-requires
 carry-requires c κs = search needs
 
--- src/lib.rt:49:32
 enum-told : tie.Need-enum-told
 enum-told c = search needs
 
--- src/lib.rt:44:1
 returns : tie.Need-returns
 returns c =
     c .carry .ensures
     ∙ ap (λ (d : Decision). carried (decidedReading d)) (sym (ap decisionOf (c .before .before .bits .given .1)) ∙ c .before .before .before .before .decide .ensures)
 
--- src/lib.rt:44:1
 returns-2 : tie.Need-returns-2
 unfolding carried
 returns-2 c =

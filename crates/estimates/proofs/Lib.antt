@@ -1,0 +1,4 @@
+pub mod Loops
+pub mod Selection
+pub mod Narrowing
+pub mod Estimated

@@ -17,11 +17,11 @@ use Rattle.rounds.proofs.Shifted.{average-nat, median-nat, midpoint-nat, estima
 use Rattle.estimates.specs.Values.{valueAt, presentAt, usedAt, estimateOf, newValueOf}
 
 -- the parts of a disjunction that fails
-or-left : (a b : Bool) → (a || b) ≡ false → a ≡ false
+pub or-left : (a b : Bool) → (a || b) ≡ false → a ≡ false
 or-left true b h = h
 or-left false b h = refl
 
-or-right : (a b : Bool) → (a || b) ≡ false → b ≡ false
+pub or-right : (a b : Bool) → (a || b) ≡ false → b ≡ false
 or-right true b h = clash refl h
 or-right false b h = h
 

@@ -7,21 +7,21 @@ use mathlib.Core.Option.{Option, none, some}
 use mathlib.Core.Path.{_≡_, refl, sym, ap, ap₂, _∙_}
 use Prim.Native.Nat.{ℕ, _+_, _/_, _≤_, _<_}
 use native.Mathlib.Omega.{arith}
-use borrow.Author.Tests.{lt-ltb, le-ltb, lt-leb, ne-eqb, eq-eqb, ltb-true, ltb-false, eqb-true, not-false}
+use borrow.Author.Tests.{le-ltb, lt-leb, ne-eqb, eq-eqb, ltb-false, eqb-true, not-false}
 use lib.Dec.{leb, ltb, eqb}
 use lib.ListN.{length, getD, replicate, getD-replicate}
 use Rattle.arithmetic.specs.Counting.{count, lowest}
 use Rattle.arithmetic.specs.Writing.{table}
-use Rattle.arithmetic.proofs.Bools.{clash, and-left}
+use Rattle.arithmetic.proofs.Bools.{and-left}
 use Rattle.arithmetic.proofs.Counting.{count-ext, count-le, lowest-ext, lowest-found}
 use Rattle.arithmetic.proofs.Sums.{total, total-ext}
 use Rattle.arithmetic.proofs.Writing.{length-table, getD-table}
 use Rattle.rounds.proofs.Natural.{accepted-present}
-use Rattle.rounds.proofs.Shifted.{is-numbered, nat-at, numbered-nat, average-nat, median-nat, midpoint-nat, estimate-nat, mean-nat, used-nat}
+use Rattle.rounds.proofs.Shifted.{is-numbered, nat-at, numbered-nat, average-nat, median-nat, midpoint-nat, estimate-nat, mean-nat}
 use Rattle.estimates.proofs.Estimated.{or-left, or-right}
-use Rattle.estimates.specs.Values.{valueAt, presentAt, usedAt, newValueOf}
+use Rattle.estimates.specs.Values.{valueAt, presentAt, newValueOf}
 use Rattle.estimates.specs.Values.{estimateOf as estimateOfPresent}
-use Rattle.agreement.specs.Values.{acceptedAt, Remembered, keptAt, keptOf, countOf, estimateOf, valueOf, agreedOf, unfit, nothing}
+use Rattle.agreement.specs.Values.{acceptedAt, Remembered, keptAt, keptOf, countOf, estimateOf, valueOf, agreedOf, nothing}
 use Rattle.agreement.specs.declared.Agreed.{Agreed}
 
 -- two conjunctions are equal where their first parts are, and the second where the first passes

@@ -4,10 +4,15 @@ ghost use mathlib.Core.Bool.{not, cond, _&&_, _||_};
 ghost use Prim.Native.Nat.{_+_, _-_, _≤_, _<_, min};
 ghost use lib.Dec.{leb, ltb, eqb};
 ghost use lib.ListN.{length};
+ghost use mir.Syntax.{w32};
+ghost use mir.Val.{toZ, ofZ};
 ghost use Rattle.arithmetic.specs.Counting.{bit};
 ghost use Rattle.arithmetic.specs.Writing.{table};
-ghost use Rattle.rounds.proofs.Shifted.{within-nat};
+ghost use Rattle.arithmetic.proofs.Shift.{down};
+ghost use Rattle.model.specs.Ensemble.{present, missing};
+ghost use Rattle.rounds.proofs.Shifted.{shift, within-nat};
 ghost use Rattle.agreement.specs.Values.{acceptedAt, Remembered, keptAt, keptOf, countOf, agreedOf};
+use estimates::BIAS;
 use estimates::LIMIT;
 
 // The accepted count, and the estimate and the new value as naturals.
@@ -15,6 +20,39 @@ pub struct Agreed {
     pub count: u32,
     pub estimate: u64,
     pub value: u64,
+}
+
+// The natural of a reading: the number that 32 bits in two's complement are, moved up by 2^31.
+pub fn bias(bits: u32) -> u64
+    ensures { λ r. ⌜ (toZ w32 bits ≡ down 2147483648 r) × (r < 4294967296) ⌝ }
+{
+    let wide = bits as u64;
+    if wide < BIAS {
+        wide + BIAS
+    } else {
+        wide - BIAS
+    }
+}
+
+// The bits of the reading that a natural is.
+pub fn unbias(value: u64) -> u32
+    ensures { λ r. ⌜ r ≡ cond (ltb value 4294967296) (ofZ w32 (down 2147483648 value)) 0 ⌝ }
+{
+    if LIMIT <= value {
+        return 0;
+    }
+    if value < BIAS {
+        (value + BIAS) as u32
+    } else {
+        (value - BIAS) as u32
+    }
+}
+
+// The natural of an entry: of its bits where it is marked present, and else a missing one.
+pub fn entry_value(mark: u8, bits: u32) -> u64
+    ensures { λ r. ⌜ cond (eqb mark 1) (present (toZ w32 bits)) missing ≡ shift 2147483648 (ltb r 4294967296) r ⌝ }
+{
+    if mark == 1 { bias(bits) } else { LIMIT }
 }
 
 // What is known of a span: not counted yet, too few readings, enough.
@@ -96,11 +134,7 @@ fn accepts(values: &[u64], window: u32, need: u32, known: &mut [u8], r: usize) -
 fn kept_value(accepted: bool, value: u64) -> u64
     ensures { λ r. ⌜ r ≡ cond accepted value 4294967296 ⌝ }
 {
-    if accepted {
-        value
-    } else {
-        LIMIT
-    }
+    if accepted { value } else { LIMIT }
 }
 
 // Keeps the accepted readings, the others missing, and counts them.
@@ -134,14 +168,26 @@ pub fn agree(values: &[u64], window: u32, need: u32, kind: u8, kept: &mut [u64])
     ensures { λ r. ⌜ (r .count ≤ 64) × (r .estimate < 4294967296) × (r .value < 4294967296) ⌝ }
 {
     if misfit(values.len(), kept.len()) {
-        return Agreed { count: 0, estimate: 0, value: 0 };
+        return Agreed {
+            count: 0,
+            estimate: 0,
+            value: 0,
+        };
     }
     let mut known = [UNCOUNTED; 64];
     let count = keep_accepted(values, window, need, &mut known, &mut *kept);
     if count == 0 {
-        return Agreed { count: 0, estimate: 0, value: 0 };
+        return Agreed {
+            count: 0,
+            estimate: 0,
+            value: 0,
+        };
     }
     let estimate = estimates::estimate(kind, &*kept);
     let value = estimates::new_value(&*kept, estimate);
-    Agreed { count, estimate, value }
+    Agreed {
+        count,
+        estimate,
+        value,
+    }
 }

@@ -2,7 +2,7 @@
 -- Assumes nothing.
 use mathlib.Core.Option.{none, some}
 use mathlib.Core.Path.{_≡_, refl, sym, ap, _∙_}
-use Prim.Native.Nat.{ℕ, zero, suc, _≤_, _<_}
+use Prim.Native.Nat.{ℕ, zero, suc, _+_, _≤_, _<_}
 use borrow.Author.Tests.{le-ltb}
 use native.Mathlib.Omega.{arith}
 use Rattle.model.specs.declared.Settings.{Settings}
@@ -11,7 +11,7 @@ use Rattle.model.specs.Planner.{Plan, planFrom, advance, after}
 use Rattle.model.specs.Refusals.{Row, firstOf, planChecks, stepChecks}
 use Rattle.model.specs.Calls.{Verdict, granted, refused, verdict, plan, step}
 use Rattle.planning.specs.Stepping.{thenStep, steps}
-use Rattle.planning.proofs.Checks.{MayStart, MayStep, none-may-start, may-start-none, may-step-none}
+use Rattle.planning.proofs.Checks.{Passes, MayStep, none-may-start, may-step-none}
 use Rattle.planning.proofs.Rounds.{rounds-after}
 use Rattle.planning.proofs.Windows.{passes-after, accuracy-after-le}
 
@@ -20,17 +20,18 @@ pub plan-checks-rounds : (c : Settings) (κ k : ℕ) → k ≤ 32 → planChecks
 unfolding planChecks
 plan-checks-rounds c κ k l = rw (le-ltb 32 k l)
 
-pub start-may-step : (c : Settings) (κ j k : ℕ) → MayStart c κ j → k < 32 → MayStep (after k (planFrom c κ))
-start-may-step c κ j k s l =
-    record {
-      passes = passes-after k (planFrom c κ) (s .passes);
-      early = (let r = rounds-after k (planFrom c κ) in omega arith);
-      accurate = (let a = accuracy-after-le k (planFrom c κ) (s .passes) in omega arith);
-    }
+-- an accuracy that may start allows every step within 32 rounds
+pub may-step-after : (p : Plan) (k : ℕ) → Passes (p .settings) → p .accuracy ≤ 1000000000 → p .rounds + k < 32 → MayStep (after k p)
+may-step-after p k s h l =
+    let r = rounds-after k p in
+    let a = accuracy-after-le k p s in
+    record { passes = passes-after k p s; early = omega arith; accurate = omega arith }
 
 -- a start that is granted never meets the step's refusal within 32 rounds
 pub granted-start-steps : (c : Settings) (κ k : ℕ) → firstOf (planChecks c κ 0) ≡ none → k < 32 → firstOf (stepChecks (after k (planFrom c κ))) ≡ none
-granted-start-steps c κ k e l = may-step-none (after k (planFrom c κ)) (start-may-step c κ 0 k (none-may-start c κ 0 e) l)
+granted-start-steps c κ k e l =
+    let s = none-may-start c κ 0 e in
+    may-step-none (after k (planFrom c κ)) (may-step-after (planFrom c κ) k (s .passes) (s .accurate) (omega arith))
 
 -- ---- what the calls give
 

@@ -1,0 +1,3 @@
+mod Shares
+mod Verdicts
+mod Turns

@@ -1,0 +1,55 @@
+-- `planner::run` meets its contract. The invariant: at most `rounds` turns are done, and the plan is the start that many rounds on.
+-- The measure is what is left of the rounds.
+-- Assumes nothing.
+use mathlib.Core.Path.{_≡_, ap, _∙_}
+use Prim.Native.Nat.{ℕ, _-_, _≤_, zero-le}
+use native.Mathlib.Omega.{arith}
+use Rattle.model.specs.Planner.{after}
+use Rattle.planning.proofs.Checks.{none-may-start}
+use Rattle.planner.specs.Answers.{planOf}
+use Rattle.planner.proofs.Turns.{no-turn, turn, turn-passes}
+use Rattle.planner.proofs.run.Statement.{statement}
+use Rattle.planner.proofs.run.Tie as tie
+
+abbrev Inv-rounds : tie.InvT-rounds
+Inv-rounds rounds start k₀ reached k = (k ≤ rounds) × (planOf reached ≡ after k (planOf start))
+
+abbrev μ-rounds : tie.MeasureT-rounds
+μ-rounds rounds start k₀ reached k = rounds - k
+
+rounds-holds : tie.Need-rounds-holds Inv-rounds μ-rounds
+rounds-holds c = (zero-le, no-turn (planOf (c .args .start)))
+
+following-requires : tie.Need-following-requires Inv-rounds μ-rounds
+following-requires c κs =
+    let a = c .before .before in
+    let s = none-may-start (a .args .start .settings) (a .args .start .accuracy) (a .args .rounds) (a .pre .0) in
+    turn-passes (planOf (a .args .start)) (a .args .rounds) (c .before .rounds .k) (a .pre .0) (a .pre .1) (omega arith) (c .before .rounds .inv .1)
+
+add-k : tie.Need-add-k Inv-rounds μ-rounds
+add-k c = omega arith
+
+rounds-less : tie.Need-rounds-less Inv-rounds μ-rounds
+rounds-less c = omega arith
+
+rounds-again : tie.Need-rounds-again Inv-rounds μ-rounds
+rounds-again c =
+    (omega arith, turn (planOf (c .before .before .before .args .start)) (c .before .before .rounds .k) (c .before .before .rounds .inv .1) (c .following .ensures))
+
+returns : tie.Need-returns Inv-rounds μ-rounds
+returns c =
+    let done : c .before .rounds .k ≡ c .before .before .args .rounds = omega arith in
+    c .before .rounds .inv .1 ∙ ap (λ (k : ℕ). after k (planOf (c .before .before .args .start))) done
+
+pub run-spec : {M : Type 1} → statement M
+run-spec =
+    tie.close
+    (tie.spec
+    Inv-rounds
+    μ-rounds
+    rounds-holds
+    following-requires
+    add-k
+    rounds-less
+    rounds-again
+    returns)

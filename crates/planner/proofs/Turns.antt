@@ -1,24 +1,43 @@
--- The planner's loops: after k turns the plan is the start k rounds on, and each turn's step is granted.
+-- The planner's loops: after k turns the plan is the start k rounds on, each turn's step is granted, and what the loop for a
+-- target answers is right.
 -- Assumes nothing.
 use mathlib.Core.Option.{none}
-use mathlib.Core.Path.{_≡_, refl, sym, ap, _∙_}
-use Prim.Native.Nat.{ℕ, _+_, _<_}
+use mathlib.Core.Path.{_≡_, sym, ap, _∙_}
+use Prim.Native.Nat.{ℕ, _+_, _≤_, _<_}
 use native.Mathlib.Numerals.{add-one}
 use native.Mathlib.Omega.{arith}
-use Rattle.model.specs.Planner.{Plan, advance, after}
-use Rattle.model.specs.Refusals.{firstOf, planChecks, stepChecks}
-use Rattle.planning.proofs.Checks.{none-may-start, may-step-none}
-use Rattle.planning.proofs.Steps.{may-step-after}
+use Rattle.model.specs.declared.Settings.{Settings}
+use Rattle.model.specs.Planner.{Plan, planFrom, advance, after, windowAfter}
+use Rattle.model.specs.Refusals.{refusal, firstOf, planChecks, stepChecks}
+use Rattle.model.specs.Calls.{granted, refused, Target}
+use Rattle.planning.proofs.Steps.{granted-start-steps}
+use Rattle.planning.proofs.Targets.{target-missed, target-reached}
 
-pub no-turn : (p : Plan) → p ≡ after 0 p
+-- no turn: a plan with no round done is a fresh one
+pub no-turn : (p : Plan) → p .rounds ≡ 0 → p ≡ after 0 (planFrom (p .settings) (p .accuracy))
 unfolding after
-no-turn p = refl
+no-turn p e = ap (λ (k : ℕ). record { settings = p .settings; accuracy = p .accuracy; rounds = k }) e
 
-pub turn : (p : Plan) (k : ℕ) {q r : Plan} → q ≡ after k p → r ≡ advance q → r ≡ after (k + 1) p
-unfolding after
-turn p k e d = d ∙ ap advance e ∙ ap (λ (j : ℕ). after j p) (sym (add-one k))
+module _ (c : Settings) (κ k : ℕ) {q : Plan} (e : q ≡ after k (planFrom c κ)) where
+  -- one turn more
+  pub turn : {r : Plan} → r ≡ advance q → r ≡ after (k + 1) (planFrom c κ)
+  unfolding after
+  turn d = d ∙ ap advance e ∙ ap (λ (j : ℕ). after j (planFrom c κ)) (sym (add-one k))
 
-pub turn-passes : (p : Plan) (j k : ℕ) {q : Plan} → firstOf (planChecks (p .settings) (p .accuracy) j) ≡ none → p .rounds ≡ 0 → k < 32 → q ≡ after k p → firstOf (stepChecks q) ≡ none
-turn-passes p j k e z l d =
-    let s = none-may-start (p .settings) (p .accuracy) j e in
-    ap (λ (q : Plan). firstOf (stepChecks q)) d ∙ may-step-none (after k p) (may-step-after p k (s .passes) (s .accurate) (omega arith))
+  pub turn-passes : firstOf (planChecks c κ 0) ≡ none → k < 32 → firstOf (stepChecks q) ≡ none
+  turn-passes s l = ap (λ (p : Plan). firstOf (stepChecks p)) e ∙ granted-start-steps c κ k s l
+
+  module _ (target : ℕ) (s : firstOf (planChecks c κ 0) ≡ none) (l : k ≤ 32) where
+    window-is : q .settings .window ≡ windowAfter k c κ
+    window-is = ap (λ (p : Plan). p .settings .window) e
+
+    pub turn-missed : 32 ≤ k → target < q .settings .window → Target c κ target (refused (refusal 12 0))
+    turn-missed h m =
+        let last : k ≡ 32 = omega arith in
+        let window = window-is ∙ ap (λ (j : ℕ). windowAfter j c κ) last in
+        target-missed c κ target s (omega arith)
+
+    pub turn-reached : q .settings .window ≤ target → Target c κ target (granted k)
+    turn-reached h =
+        let window = window-is in
+        target-reached c κ target s k l (omega arith)

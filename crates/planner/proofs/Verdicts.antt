@@ -2,15 +2,16 @@
 -- Assumes nothing.
 use mathlib.Core.Bool.{true, false, _||_}
 use mathlib.Core.Option.{none, some}
-use mathlib.Core.Path.{_≡_, sym, ap, _∙_}
+use mathlib.Core.Path.{_≡_, sym, ap, subst, _∙_}
 use Prim.Native.Nat.{ℕ}
 use lib.Dec.{ltb, leb}
 use Rattle.model.specs.declared.Settings.{Settings}
 use Rattle.model.specs.declared.Refusal.{Refusal}
 use Rattle.model.specs.Planner.{Plan, planFrom, advance, after}
 use Rattle.model.specs.Refusals.{Row, refusal, firstOf, settingsChecks, planChecks, stepChecks, badPlan}
-use Rattle.model.specs.Calls.{granted, refused, verdict, plan, step}
+use Rattle.model.specs.Calls.{Verdict, granted, refused, verdict, plan, step, Target}
 use Rattle.planning.proofs.Checks.{first-refuses, first-passes}
+use Rattle.planning.proofs.Steps.{plan-granted-row}
 
 module _ (c : Settings) (κ k : ℕ) where
   by-row : {row : Row} → firstOf (planChecks c κ k) ≡ row → verdict row (after k (planFrom c κ)) ≡ plan c κ k
@@ -53,3 +54,18 @@ module _ (p : Plan) where
 
   pub step-is : {q : Plan} → firstOf (stepChecks p) ≡ none → q ≡ advance p → granted q ≡ step p
   step-is e d = ap granted d ∙ step-by-row e
+
+-- a fresh plan that was granted has the settings and the accuracy asked for, and no round done
+module _ (c : Settings) (κ : ℕ) {p : Plan} (e : granted p ≡ plan c κ 0) where
+  fresh : p ≡ planFrom c κ
+  unfolding after
+  fresh = plan-granted-row c κ 0 e .1
+
+  pub fresh-passes : firstOf (planChecks (p .settings) (p .accuracy) 0) ≡ none
+  fresh-passes = rw fresh (plan-granted-row c κ 0 e .0)
+
+  pub fresh-rounds : p .rounds ≡ 0
+  fresh-rounds = ap (λ (q : Plan). q .rounds) fresh
+
+  pub fresh-target : (target : ℕ) (v : Verdict ℕ) → Target (p .settings) (p .accuracy) target v → Target c κ target v
+  fresh-target target v t = subst (λ (q : Plan). Target (q .settings) (q .accuracy) target v) fresh t

@@ -80,7 +80,7 @@ fn following(current: Plan) -> Plan
 fn run(start: Plan, rounds: u32) -> Plan
     requires { ⌜ firstOf (planChecks (start .settings) (start .accuracy) rounds) ≡ none ⌝ }
     requires { ⌜ start .rounds ≡ 0 ⌝ }
-    ensures { λ r. ⌜ planOf r ≡ after rounds (planOf start) ⌝ }
+    ensures { λ r. ⌜ planOf r ≡ after rounds (planFrom (start .settings) (start .accuracy)) ⌝ }
 {
     let mut reached = start;
     let mut k: u32 = 0;

@@ -16,6 +16,11 @@ use Rattle.model.specs.Refusals.{Row, when, orNext, firstOf, settingsChecks, pl
 
 -- ---- any rows
 
+pub first-of-one : (r : Row) → firstOf (r ∷ []) ≡ r
+unfolding firstOf
+first-of-one none = refl
+first-of-one (some r) = refl
+
 -- the rows of two lists: those of the first come first
 pub first-of-append : (rs ss : List Row) → firstOf (rs ++ ss) ≡ orNext (firstOf rs) (firstOf ss)
 unfolding firstOf

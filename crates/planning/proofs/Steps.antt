@@ -13,12 +13,17 @@ use Rattle.model.specs.Calls.{Verdict, granted, refused, verdict, plan, step}
 use Rattle.planning.specs.Stepping.{thenStep, steps}
 use Rattle.planning.proofs.Checks.{Passes, MayStep, none-may-start, may-step-none}
 use Rattle.planning.proofs.Rounds.{rounds-after}
+use Rattle.planning.proofs.Verdicts.{granted-row, refused-row}
 use Rattle.planning.proofs.Windows.{passes-after, accuracy-after-le}
 
 -- up to 32 the number of rounds decides nothing
 pub plan-checks-rounds : (c : Settings) (κ k : ℕ) → k ≤ 32 → planChecks c κ k ≡ planChecks c κ 0
 unfolding planChecks
 plan-checks-rounds c κ k l = rw (le-ltb 32 k l)
+
+-- a start that is granted for some rounds is granted for 0
+pub granted-for-none : (c : Settings) (κ k : ℕ) → firstOf (planChecks c κ k) ≡ none → firstOf (planChecks c κ 0) ≡ none
+granted-for-none c κ k e = ap firstOf (sym (plan-checks-rounds c κ k (none-may-start c κ k e .few))) ∙ e
 
 -- an accuracy that may start allows every step within 32 rounds
 pub may-step-after : (p : Plan) (k : ℕ) → Passes (p .settings) → p .accuracy ≤ 1000000000 → p .rounds + k < 32 → MayStep (after k p)
@@ -48,6 +53,18 @@ plan-refused c κ k e l =
 pub step-granted : (p : Plan) → firstOf (stepChecks p) ≡ none → step p ≡ granted (advance p)
 unfolding step
 step-granted p e = ap (λ (row : Row). verdict row (advance p)) e
+
+pub plan-granted-row : (c : Settings) (κ k : ℕ) {p : Plan} → granted p ≡ plan c κ k → (firstOf (planChecks c κ k) ≡ none) × (p ≡ after k (planFrom c κ))
+unfolding plan
+plan-granted-row c κ k e = granted-row (after k (planFrom c κ)) (firstOf (planChecks c κ k)) e
+
+pub plan-refused-row : (c : Settings) (κ k : ℕ) {r : Refusal} → refused r ≡ plan c κ k → firstOf (planChecks c κ k) ≡ some r
+unfolding plan
+plan-refused-row c κ k e = refused-row (after k (planFrom c κ)) (firstOf (planChecks c κ k)) e
+
+pub step-granted-row : (p : Plan) {q : Plan} → granted q ≡ step p → (firstOf (stepChecks p) ≡ none) × (q ≡ advance p)
+unfolding step
+step-granted-row p e = granted-row (advance p) (firstOf (stepChecks p)) e
 
 -- ---- going k rounds at once is k steps
 

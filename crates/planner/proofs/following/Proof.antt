@@ -9,8 +9,6 @@ use Rattle.planner.specs.Answers.{planOf}
 use Rattle.planner.proofs.Shares.{share-growth, share-window, shares-advance}
 use Rattle.planner.proofs.following.Statement.{statement}
 use Rattle.planner.proofs.following.Tie as tie
-use Rattle.planner.proofs.following.Reads as reads
-use Rattle.planner.proofs.following.Lts as lts
 
 share-requires : tie.Need-share-requires
 share-requires c κs =

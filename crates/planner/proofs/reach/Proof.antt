@@ -1,42 +1,64 @@
+-- `planner::reach` meets its contract. The invariant: at most 32 turns are done, and the plan is the start that many rounds on.
+-- The measure is what is left of 32.
+-- Assumes nothing.
+use mathlib.Core.Path.{_≡_, sym, ap, _∙_}
+use Prim.Native.Nat.{_-_, _≤_, zero-le}
+use native.Mathlib.Omega.{arith}
+use Rattle.model.specs.Planner.{planFrom, after}
+use Rattle.planner.specs.Answers.{planOf}
+use Rattle.planner.proofs.Turns.{no-turn, turn, turn-passes, turn-missed, turn-reached}
 use Rattle.planner.proofs.reach.Statement.{statement}
 use Rattle.planner.proofs.reach.Tie as tie
-use Rattle.planner.proofs.reach.Reads as reads
-use Rattle.planner.proofs.reach.Lts as lts
-use Rattle.planner.proofs.following.Reads as following-reads
 
 abbrev Inv-rounds : tie.InvT-rounds
-Inv-rounds target reached₀ k₀ reached k = ?
+Inv-rounds target start k₀ reached k = (k ≤ 32) × (planOf reached ≡ after k (planFrom (start .settings) (start .accuracy)))
 
 abbrev μ-rounds : tie.MeasureT-rounds
-μ-rounds target reached₀ k₀ reached k = ?
+μ-rounds target start k₀ reached k = 32 - k
 
--- src/lib.rt:136:5
 rounds-holds : tie.Need-rounds-holds Inv-rounds μ-rounds
-rounds-holds c = ?
+rounds-holds c = (zero-le, no-turn (planOf (c .args .start)) (c .pre .1))
 
--- src/lib.rt:138:13
 returns : tie.Need-returns Inv-rounds μ-rounds
-returns c = ?
+returns c =
+    let start = c .before .before .before .before .args .start in
+    let at = c .before .before .before .rounds in
+    turn-missed (start .settings) (start .accuracy) (at .k) (at .inv .1) (c .before .before .before .before .args .target)
+    (c .before .before .before .before .pre .0)
+    (at .inv .0)
+    (omega arith)
+    (omega arith)
 
--- src/lib.rt:140:9
 following-requires : tie.Need-following-requires Inv-rounds μ-rounds
-following-requires c κs = ?
+following-requires c κs =
+    let start = c .before .before .before .before .args .start in
+    turn-passes (start .settings) (start .accuracy) (c .before .before .before .rounds .k) (c .before .before .before .rounds .inv .1)
+    (c .before .before .before .before .pre .0)
+    (omega arith)
 
--- src/lib.rt:141:9
 add-k : tie.Need-add-k Inv-rounds μ-rounds
-add-k c = ?
+add-k c = omega arith
 
--- src/lib.rt:136:5
 rounds-less : tie.Need-rounds-less Inv-rounds μ-rounds
-rounds-less c = ?
+rounds-less c = omega arith
 
--- src/lib.rt:136:5
 rounds-again : tie.Need-rounds-again Inv-rounds μ-rounds
-rounds-again c = ?
+rounds-again c =
+    let start = c .before .before .before .before .before .args .start in (
+      omega arith,
+      turn (start .settings) (start .accuracy) (c .before .before .before .before .rounds .k)
+          (c .before .before .before .before .rounds .inv .1)
+          (c .following .ensures),
+    )
 
--- src/lib.rt:129:1
 returns-2 : tie.Need-returns-2 Inv-rounds μ-rounds
-returns-2 c = ?
+returns-2 c =
+    let start = c .before .before .before .args .start in
+    let at = c .before .before .rounds in
+    turn-reached (start .settings) (start .accuracy) (at .k) (at .inv .1) (c .before .before .before .args .target)
+    (c .before .before .before .pre .0)
+    (at .inv .0)
+    (omega arith)
 
 pub reach-spec : {M : Type 1} → statement M
 reach-spec =

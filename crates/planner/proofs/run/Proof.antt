@@ -4,27 +4,32 @@
 use mathlib.Core.Path.{_≡_, ap, _∙_}
 use Prim.Native.Nat.{ℕ, _-_, _≤_, zero-le}
 use native.Mathlib.Omega.{arith}
-use Rattle.model.specs.Planner.{after}
+use Rattle.model.specs.Planner.{planFrom, after}
 use Rattle.planning.proofs.Checks.{none-may-start}
+use Rattle.planning.proofs.Steps.{granted-for-none}
 use Rattle.planner.specs.Answers.{planOf}
 use Rattle.planner.proofs.Turns.{no-turn, turn, turn-passes}
 use Rattle.planner.proofs.run.Statement.{statement}
 use Rattle.planner.proofs.run.Tie as tie
 
 abbrev Inv-rounds : tie.InvT-rounds
-Inv-rounds rounds start k₀ reached k = (k ≤ rounds) × (planOf reached ≡ after k (planOf start))
+Inv-rounds rounds start k₀ reached k =
+    (k ≤ rounds) × (planOf reached ≡ after k (planFrom (start .settings) (start .accuracy)))
 
 abbrev μ-rounds : tie.MeasureT-rounds
 μ-rounds rounds start k₀ reached k = rounds - k
 
 rounds-holds : tie.Need-rounds-holds Inv-rounds μ-rounds
-rounds-holds c = (zero-le, no-turn (planOf (c .args .start)))
+rounds-holds c = (zero-le, no-turn (planOf (c .args .start)) (c .pre .1))
 
 following-requires : tie.Need-following-requires Inv-rounds μ-rounds
 following-requires c κs =
-    let a = c .before .before in
-    let s = none-may-start (a .args .start .settings) (a .args .start .accuracy) (a .args .rounds) (a .pre .0) in
-    turn-passes (planOf (a .args .start)) (a .args .rounds) (c .before .rounds .k) (a .pre .0) (a .pre .1) (omega arith) (c .before .rounds .inv .1)
+    let start = c .before .before .args .start in
+    let granted = c .before .before .pre .0 in
+    let s = none-may-start (start .settings) (start .accuracy) (c .before .before .args .rounds) granted in
+    turn-passes (start .settings) (start .accuracy) (c .before .rounds .k) (c .before .rounds .inv .1)
+    (granted-for-none (start .settings) (start .accuracy) (c .before .before .args .rounds) granted)
+    (omega arith)
 
 add-k : tie.Need-add-k Inv-rounds μ-rounds
 add-k c = omega arith
@@ -34,12 +39,16 @@ rounds-less c = omega arith
 
 rounds-again : tie.Need-rounds-again Inv-rounds μ-rounds
 rounds-again c =
-    (omega arith, turn (planOf (c .before .before .before .args .start)) (c .before .before .rounds .k) (c .before .before .rounds .inv .1) (c .following .ensures))
+    let start = c .before .before .before .args .start in (
+      omega arith,
+      turn (start .settings) (start .accuracy) (c .before .before .rounds .k) (c .before .before .rounds .inv .1) (c .following .ensures),
+    )
 
 returns : tie.Need-returns Inv-rounds μ-rounds
 returns c =
+    let start = c .before .before .args .start in
     let done : c .before .rounds .k ≡ c .before .before .args .rounds = omega arith in
-    c .before .rounds .inv .1 ∙ ap (λ (k : ℕ). after k (planOf (c .before .before .args .start))) done
+    c .before .rounds .inv .1 ∙ ap (λ (k : ℕ). after k (planFrom (start .settings) (start .accuracy))) done
 
 pub run-spec : {M : Type 1} → statement M
 run-spec =

@@ -1,3 +1,4 @@
 mod Shares
-mod Verdicts
+mod Rows
 mod Turns
+mod Fresh

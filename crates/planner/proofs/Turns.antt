@@ -2,15 +2,16 @@
 -- target answers is right.
 -- Assumes nothing.
 use mathlib.Core.Option.{none}
-use mathlib.Core.Path.{_≡_, sym, ap, _∙_}
+use mathlib.Core.Path.{_≡_, sym, ap, subst, _∙_}
 use Prim.Native.Nat.{ℕ, _+_, _≤_, _<_}
 use native.Mathlib.Numerals.{add-one}
 use native.Mathlib.Omega.{arith}
 use Rattle.model.specs.declared.Settings.{Settings}
 use Rattle.model.specs.Planner.{Plan, planFrom, advance, after, windowAfter}
-use Rattle.model.specs.Refusals.{refusal, firstOf, planChecks, stepChecks}
+use Rattle.model.specs.Refusals.{refusal, firstOf, settingsChecks, planChecks}
 use Rattle.model.specs.Calls.{granted, refused, Target}
-use Rattle.planning.proofs.Steps.{granted-start-steps}
+use Rattle.planning.proofs.Checks.{MayStart, MayStep, passes-none}
+use Rattle.planning.proofs.Steps.{may-step-after}
 use Rattle.planning.proofs.Targets.{target-missed, target-reached}
 
 -- no turn: a plan with no round done is a fresh one
@@ -24,8 +25,11 @@ module _ (c : Settings) (κ k : ℕ) {q : Plan} (e : q ≡ after k (planFrom c �
   unfolding after
   turn d = d ∙ ap advance e ∙ ap (λ (j : ℕ). after j (planFrom c κ)) (sym (add-one k))
 
-  pub turn-passes : firstOf (planChecks c κ 0) ≡ none → k < 32 → firstOf (stepChecks q) ≡ none
-  turn-passes s l = ap (λ (p : Plan). firstOf (stepChecks p)) e ∙ granted-start-steps c κ k s l
+  -- the next turn's step is granted
+  pub turn-allowed : (j : ℕ) → MayStart c κ j → k < 32 → (firstOf (settingsChecks (q .settings)) ≡ none) × ((q .rounds < 32) × (q .accuracy ≤ 1100000000))
+  turn-allowed j s l =
+      let step = subst MayStep (sym e) (may-step-after (planFrom c κ) k (s .passes) (s .accurate) (omega arith)) in
+      (passes-none (q .settings) (step .passes), (step .early, step .accurate))
 
   module _ (target : ℕ) (s : firstOf (planChecks c κ 0) ≡ none) (l : k ≤ 32) where
     window-is : q .settings .window ≡ windowAfter k c κ

@@ -6,9 +6,7 @@ use Rattle.model.specs.Planner as planner
 use Rattle.model.specs.Calls.{Verdict, granted, refused}
 use Rattle.planner.specs.declared.Plan.{Plan}
 use Rattle.planner.specs.declared.Planned.{Planned}
-use Rattle.planner.specs.declared.Planned.the-variants as planned
 use Rattle.planner.specs.declared.Counted.{Counted}
-use Rattle.planner.specs.declared.Counted.the-variants as counted
 
 abbrev pub planOf : Plan → planner.Plan
 planOf p = record { settings = p .settings; accuracy = p .accuracy; rounds = p .rounds }

@@ -1,12 +1,14 @@
 // Document 01, "The planner": the window and the accuracy after some rounds, and the rounds that reach a target.
 ghost use mathlib.Core.Path.{_≡_};
 ghost use mathlib.Core.Bool.{cond, _&&_, _||_};
+ghost use mathlib.Core.List.{[], _∷_, _++_};
 ghost use mathlib.Core.Option.{none};
 ghost use Prim.Native.Nat.{_*_, _≤_, _<_};
 ghost use lib.Dec.{eqb, leb, ltb};
-ghost use Rattle.model.specs.Planner.{ceilDiv, planFrom, advance, after};
-ghost use Rattle.model.specs.Refusals.{firstOf, settingsChecks, planChecks, stepChecks};
+ghost use Rattle.model.specs.Planner.{ceilDiv, nextWindow, withWindow, planFrom, advance, after};
+ghost use Rattle.model.specs.Refusals.{orNext, badPlan, firstOf, settingsChecks, planChecks};
 ghost use Rattle.model.specs.Calls.{plan, step, Target};
+ghost use Rattle.ensemble.specs.Answers.{rowOf};
 ghost use Rattle.planner.specs.Answers.{planOf, verdictOf, countedOf};
 use ensemble::Screened;
 use model::Refusal;
@@ -19,6 +21,7 @@ pub struct Plan {
     pub rounds: u32,
 }
 
+// What the planner and a step answer.
 pub enum Planned {
     Granted(Plan),
     Refused(Refusal),
@@ -42,9 +45,41 @@ fn bad_step(rounds: u32, accuracy: u32) -> bool
     (32 <= rounds) | (1_100_000_000 < accuracy)
 }
 
-// The factor of the next window.
-fn factor(rule: u8, estimator: u8) -> u32
-    ensures { λ r. ⌜ r ≡ cond (eqb rule 1 && eqb estimator 1) 1 2 ⌝ }
+// Check 11.
+fn check_plan(fails: bool) -> Screened
+    ensures { λ r. ⌜ rowOf r ≡ badPlan fails ⌝ }
+{
+    if fails {
+        Screened::Refused(Refusal {
+            number: 11,
+            place: 0,
+        })
+    } else {
+        Screened::Passed
+    }
+}
+
+// The first refusal stands.
+fn first_of(row: Screened, next: Screened) -> Screened
+    ensures { λ r. ⌜ rowOf r ≡ orNext (rowOf row) (rowOf next) ⌝ }
+{
+    match row {
+        Screened::Passed => next,
+        Screened::Refused(refusal) => Screened::Refused(refusal),
+    }
+}
+
+// Checks 2 to 5, and then 11.
+fn check_all(settings: Settings, fails: bool) -> Screened
+    ensures { λ r. ⌜ rowOf r ≡ firstOf (settingsChecks settings ++ (badPlan fails ∷ [])) ⌝ }
+{
+    let of_settings = ensemble::screen(settings);
+    let of_plan = check_plan(fails);
+    first_of(of_settings, of_plan)
+}
+
+fn window_factor(rule: u8, estimator: u8) -> u32
+    ensures { λ r. ⌜ (r ≡ cond (eqb rule 1 && eqb estimator 1) 1 2) × (r ≤ 2) ⌝ }
 {
     if (rule == 1) & (estimator == 1) { 1 } else { 2 }
 }
@@ -52,23 +87,33 @@ fn factor(rule: u8, estimator: u8) -> u32
 // ⌈factor × m × window / N⌉
 fn share(settings: Settings, factor: u32) -> u32
     requires { ⌜ (firstOf (settingsChecks settings) ≡ none) × (factor ≤ 2) ⌝ }
-    ensures { λ r. ⌜ r ≡ ceilDiv (factor * (settings .m * settings .window)) (settings .n) ⌝ }
+    ensures { λ r. ⌜ (r ≡ ceilDiv (factor * (settings .m * settings .window)) (settings .n)) × (r ≤ 1000000) ⌝ }
 {
     let n = settings.n as u32;
     let product = factor * ((settings.m as u32) * settings.window);
     (product + (n - 1)) / n
 }
 
+// The settings with the next window.
+fn narrowed(settings: Settings) -> Settings
+    requires { ⌜ firstOf (settingsChecks settings) ≡ none ⌝ }
+    ensures { λ r. ⌜ (r ≡ withWindow settings (nextWindow settings)) × (firstOf (settingsChecks r) ≡ none) ⌝ }
+{
+    let factor = window_factor(settings.rule, settings.estimator);
+    let mut next = settings;
+    next.window = share(settings, factor);
+    next
+}
+
 // The plan one round on.
-fn following(current: Plan) -> Plan
-    requires { ⌜ firstOf (stepChecks (planOf current)) ≡ none ⌝ }
+fn advance(current: Plan) -> Plan
+    requires { ⌜ firstOf (settingsChecks (current .settings)) ≡ none ⌝ }
+    requires { ⌜ (current .rounds < 32) × (current .accuracy ≤ 1100000000) ⌝ }
     ensures { λ r. ⌜ planOf r ≡ advance (planOf current) ⌝ }
 {
     let settings = current.settings;
+    let next = narrowed(settings);
     let growth = share(settings, 1);
-    let window = share(settings, factor(settings.rule, settings.estimator));
-    let mut next = settings;
-    next.window = window;
     Plan {
         settings: next,
         accuracy: current.accuracy + growth,
@@ -76,7 +121,20 @@ fn following(current: Plan) -> Plan
     }
 }
 
-// The plan some rounds on from a start that is granted.
+impl Plan {
+    // The plan one round on.
+    pub fn step(self) -> Planned
+        ensures { λ r. ⌜ verdictOf r ≡ step (planOf self) ⌝ }
+    {
+        let settings = self.settings;
+        match check_all(settings, bad_step(self.rounds, self.accuracy)) {
+            Screened::Refused(refusal) => Planned::Refused(refusal),
+            Screened::Passed => Planned::Granted(advance(self)),
+        }
+    }
+}
+
+// The plan some rounds on from a fresh plan.
 fn run(start: Plan, rounds: u32) -> Plan
     requires { ⌜ firstOf (planChecks (start .settings) (start .accuracy) rounds) ≡ none ⌝ }
     requires { ⌜ start .rounds ≡ 0 ⌝ }
@@ -85,7 +143,7 @@ fn run(start: Plan, rounds: u32) -> Plan
     let mut reached = start;
     let mut k: u32 = 0;
     'rounds: while k < rounds {
-        reached = following(reached);
+        reached = advance(reached);
         k += 1;
     }
     reached
@@ -95,43 +153,20 @@ fn run(start: Plan, rounds: u32) -> Plan
 pub fn plan_for(settings: Settings, accuracy: u32, rounds: u32) -> Planned
     ensures { λ r. ⌜ verdictOf r ≡ plan settings accuracy rounds ⌝ }
 {
-    if let Screened::Refused(refusal) = ensemble::screen(settings) {
-        return Planned::Refused(refusal);
-    }
-    if bad_start(accuracy, rounds) {
-        return Planned::Refused(Refusal {
-            number: 11,
-            place: 0,
-        });
-    }
-    let start = Plan {
-        settings,
-        accuracy,
-        rounds: 0,
-    };
-    Planned::Granted(run(start, rounds))
-}
-
-impl Plan {
-    // The plan one round on.
-    pub fn step(self) -> Planned
-        ensures { λ r. ⌜ verdictOf r ≡ step (planOf self) ⌝ }
-    {
-        let settings = self.settings;
-        if let Screened::Refused(refusal) = ensemble::screen(settings) {
-            return Planned::Refused(refusal);
+    match check_all(settings, bad_start(accuracy, rounds)) {
+        Screened::Refused(refusal) => Planned::Refused(refusal),
+        Screened::Passed => {
+            let start = Plan {
+                settings,
+                accuracy,
+                rounds: 0,
+            };
+            Planned::Granted(run(start, rounds))
         }
-        if bad_step(self.rounds, self.accuracy) {
-            return Planned::Refused(Refusal {
-                number: 11,
-                place: 0,
-            });
-        }
-        Planned::Granted(following(self))
     }
 }
 
-// The fewest rounds whose window is at or below the target.
+// Goes forward from a fresh plan until its window is at or below the target.
 fn reach(start: Plan, target: u32) -> Counted
     requires { ⌜ firstOf (planChecks (start .settings) (start .accuracy) 0) ≡ none ⌝ }
     requires { ⌜ start .rounds ≡ 0 ⌝ }
@@ -146,13 +181,13 @@ fn reach(start: Plan, target: u32) -> Counted
                 place: 0,
             });
         }
-        reached = following(reached);
+        reached = advance(reached);
         k += 1;
     }
     Counted::Granted(k)
 }
 
-// A count of at most 32 rounds whose window is at or below the target.
+// A count of at most 32 rounds whose window is at or below the target. Which of those that fit is not promised.
 pub fn rounds_for(settings: Settings, accuracy: u32, target: u32) -> Counted
     ensures { λ r. ⌜ Target settings accuracy target (countedOf r) ⌝ }
 {

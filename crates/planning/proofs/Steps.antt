@@ -9,7 +9,7 @@ use Rattle.model.specs.declared.Settings.{Settings}
 use Rattle.model.specs.declared.Refusal.{Refusal}
 use Rattle.model.specs.Planner.{Plan, planFrom, advance, after}
 use Rattle.model.specs.Refusals.{Row, firstOf, planChecks, stepChecks}
-use Rattle.model.specs.Calls.{Verdict, granted, refused, verdict, plan, step}
+use Rattle.model.specs.Calls.{granted, refused, verdict, plan, step}
 use Rattle.planning.specs.Stepping.{thenStep, steps}
 use Rattle.planning.proofs.Checks.{Passes, MayStep, none-may-start, may-step-none}
 use Rattle.planning.proofs.Rounds.{rounds-after}
@@ -40,20 +40,16 @@ granted-start-steps c κ k e l =
 
 -- ---- what the calls give
 
-pub plan-granted : (c : Settings) (κ k : ℕ) → firstOf (planChecks c κ 0) ≡ none → k ≤ 32 → plan c κ k ≡ granted (after k (planFrom c κ))
+-- each is its first row's refusal, or grants
+pub plan-by-row : (c : Settings) (κ k : ℕ) {row : Row} → firstOf (planChecks c κ k) ≡ row → plan c κ k ≡ verdict row (after k (planFrom c κ))
 unfolding plan
-plan-granted c κ k e l =
-    ap (λ (row : Row). verdict row (after k (planFrom c κ))) (ap firstOf (plan-checks-rounds c κ k l) ∙ e)
+plan-by-row c κ k e = ap (λ (row : Row). verdict row (after k (planFrom c κ))) e
 
-pub plan-refused : (c : Settings) (κ k : ℕ) {r : Refusal} → firstOf (planChecks c κ 0) ≡ some r → k ≤ 32 → plan c κ k ≡ refused r
-unfolding plan
-plan-refused c κ k e l =
-    ap (λ (row : Row). verdict row (after k (planFrom c κ))) (ap firstOf (plan-checks-rounds c κ k l) ∙ e)
-
-pub step-granted : (p : Plan) → firstOf (stepChecks p) ≡ none → step p ≡ granted (advance p)
+pub step-by-row : (p : Plan) {row : Row} → firstOf (stepChecks p) ≡ row → step p ≡ verdict row (advance p)
 unfolding step
-step-granted p e = ap (λ (row : Row). verdict row (advance p)) e
+step-by-row p e = ap (λ (row : Row). verdict row (advance p)) e
 
+-- and what it gives tells which
 pub plan-granted-row : (c : Settings) (κ k : ℕ) {p : Plan} → granted p ≡ plan c κ k → (firstOf (planChecks c κ k) ≡ none) × (p ≡ after k (planFrom c κ))
 unfolding plan
 plan-granted-row c κ k e = granted-row (after k (planFrom c κ)) (firstOf (planChecks c κ k)) e
@@ -73,12 +69,15 @@ pub plan-suc : (c : Settings) (κ k : ℕ) → k < 32 → plan c κ (suc k) ≡ 
 unfolding after
 plan-suc c κ k l = go (firstOf (planChecks c κ 0)) refl
   where
+    at : (j : ℕ) {row : Row} → j ≤ 32 → firstOf (planChecks c κ 0) ≡ row → plan c κ j ≡ verdict row (after j (planFrom c κ))
+    at j h e = plan-by-row c κ j (ap firstOf (plan-checks-rounds c κ j h) ∙ e)
+
     go : (row : Row) → firstOf (planChecks c κ 0) ≡ row → plan c κ (suc k) ≡ thenStep (plan c κ k)
     go none e =
-        plan-granted c κ (suc k) e l
-        ∙ sym (step-granted (after k (planFrom c κ)) (granted-start-steps c κ k e l))
-        ∙ sym (ap thenStep (plan-granted c κ k e (omega arith)))
-    go (some r) e = plan-refused c κ (suc k) e l ∙ sym (ap thenStep (plan-refused c κ k e (omega arith)))
+        at (suc k) l e
+        ∙ sym (step-by-row (after k (planFrom c κ)) (granted-start-steps c κ k e l))
+        ∙ sym (ap thenStep (at k (omega arith) e))
+    go (some r) e = at (suc k) l e ∙ sym (ap thenStep (at k (omega arith) e))
 
 pub plan-steps : (c : Settings) (κ k : ℕ) → k ≤ 32 → plan c κ k ≡ steps k (plan c κ 0)
 unfolding steps

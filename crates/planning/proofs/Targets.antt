@@ -12,9 +12,9 @@ use native.Mathlib.Nat.{le-trans}
 use Rattle.model.specs.declared.Settings.{Settings}
 use Rattle.model.specs.declared.Refusal.{Refusal}
 use Rattle.model.specs.Planner.{planFrom, windowAfter}
-use Rattle.model.specs.Refusals.{refusal, firstOf, settingsChecks, planChecks, targetChecks, targetMissed}
+use Rattle.model.specs.Refusals.{Row, orNext, refusal, firstOf, settingsChecks, planChecks, targetChecks, targetMissed}
 use Rattle.model.specs.Calls.{granted, refused, Target}
-use Rattle.planning.proofs.Checks.{first-of-one, first-refuses, first-passes, none-may-start}
+use Rattle.planning.proofs.Checks.{first-of-snoc, none-may-start}
 use Rattle.planning.proofs.Windows.{window-after-mono}
 
 or-none : (b : Bool) → (b || false) ≡ b
@@ -27,20 +27,23 @@ module _ (c : Settings) (κ target : ℕ) where
   unfolding planChecks targetChecks
   target-checks = append-assoc (settingsChecks c) _ _ ∙ (rw (or-none (ltb 1000000000 κ)))
 
+  by-row : {row : Row} → firstOf (planChecks c κ 0) ≡ row → firstOf (targetChecks c κ target) ≡ orNext row (targetMissed (windowAfter 32 c κ) target)
+  by-row e =
+      ap firstOf (sym target-checks)
+      ∙ first-of-snoc (planChecks c κ 0) _
+      ∙ ap (λ (row : Row). orNext row (targetMissed (windowAfter 32 c κ) target)) e
+
   pub start-refuses-target : {r : Refusal} → firstOf (planChecks c κ 0) ≡ some r → Target c κ target (refused r)
-  start-refuses-target e = ap firstOf (sym target-checks) ∙ first-refuses (planChecks c κ 0) _ e
+  start-refuses-target e = by-row e
 
   module _ (e : firstOf (planChecks c κ 0) ≡ none) where
-    twelve : firstOf (targetChecks c κ target) ≡ targetMissed (windowAfter 32 c κ) target
-    twelve = ap firstOf (sym target-checks) ∙ first-passes (planChecks c κ 0) _ e ∙ first-of-one _
-
     pub target-missed : target < windowAfter 32 c κ → Target c κ target (refused (refusal 12 0))
     unfolding targetMissed
-    target-missed l = twelve ∙ (rw (lt-ltb target (windowAfter 32 c κ) l))
+    target-missed l = by-row e ∙ (rw (lt-ltb target (windowAfter 32 c κ) l))
 
     pub target-reached : (k : ℕ) → k ≤ 32 → windowAfter k c κ ≤ target → Target c κ target (granted k)
     unfolding targetMissed
     target-reached k l h =
         let s = none-may-start c κ 0 e in
         let last = le-trans (window-after-mono k 32 (planFrom c κ) (s .passes) l) h in
-        (twelve ∙ (rw (le-ltb target (windowAfter 32 c κ) last)), record { most = l; fits = h })
+        (by-row e ∙ (rw (le-ltb target (windowAfter 32 c κ) last)), record { most = l; fits = h })

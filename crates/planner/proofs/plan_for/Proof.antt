@@ -1,61 +1,55 @@
--- `planner::plan_for` meets its contract: at each `return` the tests that led there say which check refuses first, or that
--- none does and the start is granted.
+-- `planner::plan_for` meets its contract: the rows decide, and where none refuses the plan some rounds on is granted.
 -- Assumes nothing.
 use borrow.Author.Needs.{needs}
-use mathlib.Core.Path.{refl, sym, ap, _∙_}
+use mathlib.Core.Option.{none}
+use mathlib.Core.Path.{_≡_, refl, sym, ap, _∙_}
+use Rattle.model.specs.Refusals.{firstOf, planChecks}
+use Rattle.model.specs.Calls.{granted}
 use Rattle.ensemble.specs.Answers.{rowOf}
-use Rattle.planner.proofs.Verdicts.{settings-refuse-plan, start-refused, start-passes, plan-is}
+use Rattle.planning.proofs.Steps.{plan-by-row}
+use Rattle.planner.proofs.Rows.{plan-row}
 use Rattle.planner.proofs.plan_for.Statement.{statement}
 use Rattle.planner.proofs.plan_for.Tie as tie
 
-screen-requires : tie.Need-screen-requires
-screen-requires c κs = search needs
-
-enum-known-refusal : tie.Need-enum-known-refusal
-enum-known-refusal c = search needs
-
-returns : tie.Need-returns
-returns c =
-    let a = c .before .before .before .before .args in
-    settings-refuse-plan (a .settings) (a .accuracy) (a .rounds)
-    (sym (c .before .before .before .screen .ensures) ∙ ap rowOf (c .before .refusal .given .1))
-
-enum-told : tie.Need-enum-told
-enum-told c = search needs
+row : (c : tie.After-check-all) → firstOf (planChecks (c .before .before .args .settings) (c .before .before .args .accuracy) (c .before .before .args .rounds)) ≡ rowOf (c .check-all .result)
+row c =
+    let a = c .before .before .args in
+    plan-row (a .settings) (a .accuracy) (a .rounds) (c .check-all .ensures) (c .before .bad-start .ensures)
 
 bad-start-requires : tie.Need-bad-start-requires
 bad-start-requires c κs = search needs
 
+check-all-requires : tie.Need-check-all-requires
+check-all-requires c κs = search needs
+
+enum-known-refusal : tie.Need-enum-known-refusal
+enum-known-refusal c = search needs
+
+enum-told : tie.Need-enum-told
+enum-told c = search needs
+
+run-requires : tie.Need-run-requires
+run-requires c κs = (row (c .before .before) ∙ ap rowOf (c .enum-told .given .1), refl)
+
+returns : tie.Need-returns
+returns c =
+    let a = c .before .before .before .before .before .args in
+    sym (plan-by-row (a .settings) (a .accuracy) (a .rounds) (row (c .before .before .before) ∙ ap rowOf (c .before .refusal .given .1)))
+
 returns-2 : tie.Need-returns-2
 returns-2 c =
     let a = c .before .before .before .before .before .args in
-    start-refused (a .settings) (a .accuracy) (a .rounds)
-    (sym (c .before .before .before .before .screen .ensures) ∙ ap rowOf (c .before .before .enum-told .given .1))
-    (sym (c .before .bad-start .ensures) ∙ c .if1 .taken)
-
-run-requires : tie.Need-run-requires
-run-requires c κs =
-    let a = c .before .before .before .before .before .args in (
-      start-passes (a .settings) (a .accuracy) (a .rounds)
-          (sym (c .before .before .before .before .screen .ensures) ∙ ap rowOf (c .before .before .enum-told .given .1))
-          (sym (c .before .bad-start .ensures) ∙ c .if1 .left),
-      refl,
-    )
-
-returns-3 : tie.Need-returns-3
-returns-3 c =
-    let a = c .before .before .before .before .before .before .args in
-    plan-is (a .settings) (a .accuracy) (a .rounds) (run-requires (c .before) (c .run .lifetimes) .0) (c .run .ensures)
+    ap granted (c .run .ensures)
+    ∙ sym (plan-by-row (a .settings) (a .accuracy) (a .rounds) (run-requires (c .before) (c .run .lifetimes) .0))
 
 pub plan-for-spec : {M : Type 1} → statement M
 plan-for-spec =
     tie.close
     (tie.spec
-    screen-requires
-    enum-known-refusal
-    returns
-    enum-told
     bad-start-requires
-    returns-2
+    check-all-requires
+    enum-known-refusal
+    enum-told
     run-requires
-    returns-3)
+    returns
+    returns-2)

@@ -1,12 +1,13 @@
 -- `planner::reach` meets its contract. The invariant: at most 32 turns are done, and the plan is the start that many rounds on.
 -- The measure is what is left of 32.
 -- Assumes nothing.
-use mathlib.Core.Path.{_≡_, sym, ap, _∙_}
+use mathlib.Core.Path.{_≡_}
 use Prim.Native.Nat.{_-_, _≤_, zero-le}
 use native.Mathlib.Omega.{arith}
 use Rattle.model.specs.Planner.{planFrom, after}
+use Rattle.planning.proofs.Checks.{none-may-start}
 use Rattle.planner.specs.Answers.{planOf}
-use Rattle.planner.proofs.Turns.{no-turn, turn, turn-passes, turn-missed, turn-reached}
+use Rattle.planner.proofs.Turns.{no-turn, turn, turn-allowed, turn-missed, turn-reached}
 use Rattle.planner.proofs.reach.Statement.{statement}
 use Rattle.planner.proofs.reach.Tie as tie
 
@@ -21,19 +22,19 @@ rounds-holds c = (zero-le, no-turn (planOf (c .args .start)) (c .pre .1))
 
 returns : tie.Need-returns Inv-rounds μ-rounds
 returns c =
-    let start = c .before .before .before .before .args .start in
+    let s = c .before .before .before .before in
     let at = c .before .before .before .rounds in
-    turn-missed (start .settings) (start .accuracy) (at .k) (at .inv .1) (c .before .before .before .before .args .target)
-    (c .before .before .before .before .pre .0)
+    turn-missed (s .args .start .settings) (s .args .start .accuracy) (at .k) (at .inv .1) (s .args .target) (s .pre .0)
     (at .inv .0)
     (omega arith)
     (omega arith)
 
-following-requires : tie.Need-following-requires Inv-rounds μ-rounds
-following-requires c κs =
-    let start = c .before .before .before .before .args .start in
-    turn-passes (start .settings) (start .accuracy) (c .before .before .before .rounds .k) (c .before .before .before .rounds .inv .1)
-    (c .before .before .before .before .pre .0)
+advance-requires : tie.Need-advance-requires Inv-rounds μ-rounds
+advance-requires c κs =
+    let s = c .before .before .before .before in
+    let at = c .before .before .before .rounds in
+    turn-allowed (s .args .start .settings) (s .args .start .accuracy) (at .k) (at .inv .1) 0
+    (none-may-start (s .args .start .settings) (s .args .start .accuracy) 0 (s .pre .0))
     (omega arith)
 
 add-k : tie.Need-add-k Inv-rounds μ-rounds
@@ -44,19 +45,15 @@ rounds-less c = omega arith
 
 rounds-again : tie.Need-rounds-again Inv-rounds μ-rounds
 rounds-again c =
-    let start = c .before .before .before .before .before .args .start in (
-      omega arith,
-      turn (start .settings) (start .accuracy) (c .before .before .before .before .rounds .k)
-          (c .before .before .before .before .rounds .inv .1)
-          (c .following .ensures),
-    )
+    let start = c .before .before .before .before .before .args .start in
+    let at = c .before .before .before .before .rounds in
+    (omega arith, turn (start .settings) (start .accuracy) (at .k) (at .inv .1) (c .advance .ensures))
 
 returns-2 : tie.Need-returns-2 Inv-rounds μ-rounds
 returns-2 c =
-    let start = c .before .before .before .args .start in
+    let s = c .before .before .before in
     let at = c .before .before .rounds in
-    turn-reached (start .settings) (start .accuracy) (at .k) (at .inv .1) (c .before .before .before .args .target)
-    (c .before .before .before .pre .0)
+    turn-reached (s .args .start .settings) (s .args .start .accuracy) (at .k) (at .inv .1) (s .args .target) (s .pre .0)
     (at .inv .0)
     (omega arith)
 
@@ -68,7 +65,7 @@ reach-spec =
     μ-rounds
     rounds-holds
     returns
-    following-requires
+    advance-requires
     add-k
     rounds-less
     rounds-again

@@ -2,12 +2,17 @@
 -- Assumes nothing.
 use borrow.Author.Needs.{needs}
 use mathlib.Core.Path.{_≡_, sym, ap, _∙_}
+use Rattle.model.specs.Calls.{granted, plan}
 use Rattle.planning.proofs.Steps.{plan-refused-row}
 use Rattle.planning.proofs.Targets.{start-refuses-target}
-use Rattle.planner.specs.Answers.{verdictOf, countedOf}
-use Rattle.planner.proofs.Verdicts.{fresh-passes, fresh-rounds, fresh-target}
+use Rattle.planner.specs.Answers.{planOf, verdictOf, countedOf}
+use Rattle.planner.proofs.Fresh.{fresh-passes, fresh-rounds, fresh-target}
 use Rattle.planner.proofs.rounds_for.Statement.{statement}
 use Rattle.planner.proofs.rounds_for.Tie as tie
+
+-- what `plan_for` granted
+fresh : (c : tie.After-known-told2) → granted (planOf (c .before .start .given .0 .0)) ≡ plan (c .before .before .before .before .args .settings) (c .before .before .before .before .args .accuracy) 0
+fresh c = sym (ap verdictOf (c .before .start .given .1)) ∙ c .before .before .before .plan-for .ensures
 
 plan-for-requires : tie.Need-plan-for-requires
 plan-for-requires c κs = search needs
@@ -21,8 +26,7 @@ enum-known-start c = search needs
 reach-requires : tie.Need-reach-requires
 reach-requires c κs =
     let a = c .before .before .before .before .args in
-    let fresh = sym (ap verdictOf (c .before .start .given .1)) ∙ c .before .before .before .plan-for .ensures in
-    (fresh-passes (a .settings) (a .accuracy) fresh, fresh-rounds (a .settings) (a .accuracy) fresh)
+    (fresh-passes (a .settings) (a .accuracy) (fresh c), fresh-rounds (a .settings) (a .accuracy) (fresh c))
 
 returns : tie.Need-returns
 returns c =
@@ -34,11 +38,7 @@ returns c =
 returns-2 : tie.Need-returns-2
 returns-2 c =
     let a = c .before .before .before .before .before .args in
-    fresh-target (a .settings) (a .accuracy)
-    (sym (ap verdictOf (c .before .before .start .given .1)) ∙ c .before .before .before .before .plan-for .ensures)
-    (a .target)
-    (countedOf (c .reach .result))
-    (c .reach .ensures)
+    fresh-target (a .settings) (a .accuracy) (fresh (c .before)) (a .target) (countedOf (c .reach .result)) (c .reach .ensures)
 
 pub rounds-for-spec : {M : Type 1} → statement M
 rounds-for-spec =

@@ -6,9 +6,8 @@ use Prim.Native.Nat.{ℕ, _-_, _≤_, zero-le}
 use native.Mathlib.Omega.{arith}
 use Rattle.model.specs.Planner.{planFrom, after}
 use Rattle.planning.proofs.Checks.{none-may-start}
-use Rattle.planning.proofs.Steps.{granted-for-none}
 use Rattle.planner.specs.Answers.{planOf}
-use Rattle.planner.proofs.Turns.{no-turn, turn, turn-passes}
+use Rattle.planner.proofs.Turns.{no-turn, turn, turn-allowed}
 use Rattle.planner.proofs.run.Statement.{statement}
 use Rattle.planner.proofs.run.Tie as tie
 
@@ -22,14 +21,11 @@ abbrev μ-rounds : tie.MeasureT-rounds
 rounds-holds : tie.Need-rounds-holds Inv-rounds μ-rounds
 rounds-holds c = (zero-le, no-turn (planOf (c .args .start)) (c .pre .1))
 
-following-requires : tie.Need-following-requires Inv-rounds μ-rounds
-following-requires c κs =
-    let start = c .before .before .args .start in
-    let granted = c .before .before .pre .0 in
-    let s = none-may-start (start .settings) (start .accuracy) (c .before .before .args .rounds) granted in
-    turn-passes (start .settings) (start .accuracy) (c .before .rounds .k) (c .before .rounds .inv .1)
-    (granted-for-none (start .settings) (start .accuracy) (c .before .before .args .rounds) granted)
-    (omega arith)
+advance-requires : tie.Need-advance-requires Inv-rounds μ-rounds
+advance-requires c κs =
+    let a = c .before .before .args in
+    let s = none-may-start (a .start .settings) (a .start .accuracy) (a .rounds) (c .before .before .pre .0) in
+    turn-allowed (a .start .settings) (a .start .accuracy) (c .before .rounds .k) (c .before .rounds .inv .1) (a .rounds) s (omega arith)
 
 add-k : tie.Need-add-k Inv-rounds μ-rounds
 add-k c = omega arith
@@ -39,16 +35,15 @@ rounds-less c = omega arith
 
 rounds-again : tie.Need-rounds-again Inv-rounds μ-rounds
 rounds-again c =
-    let start = c .before .before .before .args .start in (
-      omega arith,
-      turn (start .settings) (start .accuracy) (c .before .before .rounds .k) (c .before .before .rounds .inv .1) (c .following .ensures),
-    )
+    let start = c .before .before .before .args .start in
+    let at = c .before .before .rounds in
+    (omega arith, turn (start .settings) (start .accuracy) (at .k) (at .inv .1) (c .advance .ensures))
 
 returns : tie.Need-returns Inv-rounds μ-rounds
 returns c =
-    let start = c .before .before .args .start in
-    let done : c .before .rounds .k ≡ c .before .before .args .rounds = omega arith in
-    c .before .rounds .inv .1 ∙ ap (λ (k : ℕ). after k (planFrom (start .settings) (start .accuracy))) done
+    let a = c .before .before .args in
+    let done : c .before .rounds .k ≡ a .rounds = omega arith in
+    c .before .rounds .inv .1 ∙ ap (λ (k : ℕ). after k (planFrom (a .start .settings) (a .start .accuracy))) done
 
 pub run-spec : {M : Type 1} → statement M
 run-spec =
@@ -57,7 +52,7 @@ run-spec =
     Inv-rounds
     μ-rounds
     rounds-holds
-    following-requires
+    advance-requires
     add-k
     rounds-less
     rounds-again

@@ -33,7 +33,8 @@ module _ (c : Settings) where
     pub narrowed-passes : (w : ℕ) → w ≤ 1000000 → firstOf (settingsChecks (withWindow c w)) ≡ none
     narrowed-passes w l = passes-none (withWindow c w) (passes-window c w (none-passes c e) l)
 
-  pub share-window : {f w : ℕ} → f ≡ cond (eqb (c .rule) 1 && eqb (c .estimator) 1) 1 2 → w ≡ ceilDiv (f * (c .m * c .window)) (c .n) → w ≡ nextWindow c
+  pub share-window : {f w : ℕ} → f ≡ cond (eqb (c .rule) 1 && eqb (c .estimator) 1) 1 2
+      → w ≡ ceilDiv (f * (c .m * c .window)) (c .n) → w ≡ nextWindow c
   unfolding nextWindow windowFactor
   share-window e d = d ∙ ap (λ (f : ℕ). ceilDiv (f * (c .m * c .window)) (c .n)) e
 
@@ -41,7 +42,8 @@ module _ (c : Settings) where
   unfolding growth
   share-growth e = e ∙ ap (λ (a : ℕ). ceilDiv a (c .n)) (one-mul (c .m * c .window))
 
-pub shares-advance : (p : Plan) {c : Settings} {g : ℕ} → c ≡ withWindow (p .settings) (nextWindow (p .settings)) → g ≡ growth (p .settings) → record { settings = c; accuracy = p .accuracy + g; rounds = p .rounds + 1 } ≡ advance p
+pub shares-advance : (p : Plan) {c : Settings} {g : ℕ} → c ≡ withWindow (p .settings) (nextWindow (p .settings))
+    → g ≡ growth (p .settings) → record { settings = c; accuracy = p .accuracy + g; rounds = p .rounds + 1 } ≡ advance p
 unfolding advance
 shares-advance p e d =
     ap₂ (λ (c : Settings) (g : ℕ). record { settings = c; accuracy = p .accuracy + g; rounds = p .rounds + 1 }) e d

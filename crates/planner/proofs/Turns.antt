@@ -3,8 +3,7 @@
 -- Assumes nothing.
 use mathlib.Core.Option.{none}
 use mathlib.Core.Path.{_≡_, sym, ap, subst, _∙_}
-use Prim.Native.Nat.{ℕ, _+_, _≤_, _<_}
-use native.Mathlib.Numerals.{add-one}
+use Prim.Native.Nat.{ℕ, suc, _≤_, _<_}
 use native.Mathlib.Omega.{arith}
 use Rattle.model.specs.declared.Settings.{Settings}
 use Rattle.model.specs.Planner.{Plan, planFrom, advance, after, windowAfter}
@@ -15,18 +14,21 @@ use Rattle.planning.proofs.Steps.{may-step-after}
 use Rattle.planning.proofs.Targets.{target-missed, target-reached}
 
 -- no turn: a plan with no round done is a fresh one
-pub no-turn : (p : Plan) → p .rounds ≡ 0 → p ≡ after 0 (planFrom (p .settings) (p .accuracy))
+pub no-turn : (p : Plan) {k : ℕ} → p .rounds ≡ 0 → k ≡ 0 → p ≡ after k (planFrom (p .settings) (p .accuracy))
 unfolding after
-no-turn p e = ap (λ (k : ℕ). record { settings = p .settings; accuracy = p .accuracy; rounds = k }) e
+no-turn p e z =
+    ap (λ (j : ℕ). record { settings = p .settings; accuracy = p .accuracy; rounds = j }) e
+    ∙ ap (λ (j : ℕ). after j (planFrom (p .settings) (p .accuracy))) (sym z)
 
 module _ (c : Settings) (κ k : ℕ) {q : Plan} (e : q ≡ after k (planFrom c κ)) where
   -- one turn more
-  pub turn : {r : Plan} → r ≡ advance q → r ≡ after (k + 1) (planFrom c κ)
+  pub turn : {r : Plan} {j : ℕ} → r ≡ advance q → j ≡ suc k → r ≡ after j (planFrom c κ)
   unfolding after
-  turn d = d ∙ ap advance e ∙ ap (λ (j : ℕ). after j (planFrom c κ)) (sym (add-one k))
+  turn d s = d ∙ ap advance e ∙ ap (λ (j : ℕ). after j (planFrom c κ)) (sym s)
 
   -- the next turn's step is granted
-  pub turn-allowed : (j : ℕ) → MayStart c κ j → k < 32 → (firstOf (settingsChecks (q .settings)) ≡ none) × ((q .rounds < 32) × (q .accuracy ≤ 1100000000))
+  pub turn-allowed : (j : ℕ) → MayStart c κ j → k < 32
+      → (firstOf (settingsChecks (q .settings)) ≡ none) × ((q .rounds < 32) × (q .accuracy ≤ 1100000000))
   turn-allowed j s l =
       let step = subst MayStep (sym e) (may-step-after (planFrom c κ) k (s .passes) (s .accurate) (omega arith)) in
       (passes-none (q .settings) (step .passes), (step .early, step .accurate))

@@ -141,10 +141,10 @@ fn run(start: Plan, rounds: u32) -> Plan
     ensures { λ r. ⌜ planOf r ≡ after rounds (planFrom (start .settings) (start .accuracy)) ⌝ }
 {
     let mut reached = start;
-    let mut k: u32 = 0;
-    'rounds: while k < rounds {
+    let mut left = rounds;
+    'rounds: while 0 < left {
         reached = advance(reached);
-        k += 1;
+        left -= 1;
     }
     reached
 }

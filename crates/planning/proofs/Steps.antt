@@ -21,27 +21,26 @@ pub plan-checks-rounds : (c : Settings) (κ k : ℕ) → k ≤ 32 → planChecks
 unfolding planChecks
 plan-checks-rounds c κ k l = rw (le-ltb 32 k l)
 
--- a start that is granted for some rounds is granted for 0
-pub granted-for-none : (c : Settings) (κ k : ℕ) → firstOf (planChecks c κ k) ≡ none → firstOf (planChecks c κ 0) ≡ none
-granted-for-none c κ k e = ap firstOf (sym (plan-checks-rounds c κ k (none-may-start c κ k e .few))) ∙ e
-
 -- an accuracy that may start allows every step within 32 rounds
-pub may-step-after : (p : Plan) (k : ℕ) → Passes (p .settings) → p .accuracy ≤ 1000000000 → p .rounds + k < 32 → MayStep (after k p)
+pub may-step-after : (p : Plan) (k : ℕ) → Passes (p .settings) → p .accuracy ≤ 1000000000 → p .rounds + k < 32
+    → MayStep (after k p)
 may-step-after p k s h l =
     let r = rounds-after k p in
     let a = accuracy-after-le k p s in
     record { passes = passes-after k p s; early = omega arith; accurate = omega arith }
 
 -- a start that is granted never meets the step's refusal within 32 rounds
-pub granted-start-steps : (c : Settings) (κ k : ℕ) → firstOf (planChecks c κ 0) ≡ none → k < 32 → firstOf (stepChecks (after k (planFrom c κ))) ≡ none
-granted-start-steps c κ k e l =
+pub start-step-passes : (c : Settings) (κ k : ℕ) → firstOf (planChecks c κ 0) ≡ none → k < 32
+    → firstOf (stepChecks (after k (planFrom c κ))) ≡ none
+start-step-passes c κ k e l =
     let s = none-may-start c κ 0 e in
     may-step-none (after k (planFrom c κ)) (may-step-after (planFrom c κ) k (s .passes) (s .accurate) (omega arith))
 
 -- ---- what the calls give
 
 -- each is its first row's refusal, or grants
-pub plan-by-row : (c : Settings) (κ k : ℕ) {row : Row} → firstOf (planChecks c κ k) ≡ row → plan c κ k ≡ verdict row (after k (planFrom c κ))
+pub plan-by-row : (c : Settings) (κ k : ℕ) {row : Row} → firstOf (planChecks c κ k) ≡ row
+    → plan c κ k ≡ verdict row (after k (planFrom c κ))
 unfolding plan
 plan-by-row c κ k e = ap (λ (row : Row). verdict row (after k (planFrom c κ))) e
 
@@ -49,18 +48,22 @@ pub step-by-row : (p : Plan) {row : Row} → firstOf (stepChecks p) ≡ row → 
 unfolding step
 step-by-row p e = ap (λ (row : Row). verdict row (advance p)) e
 
--- and what it gives tells which
-pub plan-granted-row : (c : Settings) (κ k : ℕ) {p : Plan} → granted p ≡ plan c κ k → (firstOf (planChecks c κ k) ≡ none) × (p ≡ after k (planFrom c κ))
+-- no step of a start that is granted refuses within 32 rounds
+pub start-step-granted : (c : Settings) (κ k : ℕ) → firstOf (planChecks c κ 0) ≡ none → k < 32
+    → step (after k (planFrom c κ)) ≡ granted (after (suc k) (planFrom c κ))
+unfolding after
+start-step-granted c κ k e l = step-by-row (after k (planFrom c κ)) (start-step-passes c κ k e l)
+
+-- what a call gives tells which
+pub plan-granted-row : (c : Settings) (κ k : ℕ) {p : Plan} → granted p ≡ plan c κ k
+    → (firstOf (planChecks c κ k) ≡ none) × (p ≡ after k (planFrom c κ))
 unfolding plan
 plan-granted-row c κ k e = granted-row (after k (planFrom c κ)) (firstOf (planChecks c κ k)) e
 
-pub plan-refused-row : (c : Settings) (κ k : ℕ) {r : Refusal} → refused r ≡ plan c κ k → firstOf (planChecks c κ k) ≡ some r
+pub plan-refused-row : (c : Settings) (κ k : ℕ) {r : Refusal} → refused r ≡ plan c κ k
+    → firstOf (planChecks c κ k) ≡ some r
 unfolding plan
 plan-refused-row c κ k e = refused-row (after k (planFrom c κ)) (firstOf (planChecks c κ k)) e
-
-pub step-granted-row : (p : Plan) {q : Plan} → granted q ≡ step p → (firstOf (stepChecks p) ≡ none) × (q ≡ advance p)
-unfolding step
-step-granted-row p e = granted-row (advance p) (firstOf (stepChecks p)) e
 
 -- ---- going k rounds at once is k steps
 
@@ -69,13 +72,14 @@ pub plan-suc : (c : Settings) (κ k : ℕ) → k < 32 → plan c κ (suc k) ≡ 
 unfolding after
 plan-suc c κ k l = go (firstOf (planChecks c κ 0)) refl
   where
-    at : (j : ℕ) {row : Row} → j ≤ 32 → firstOf (planChecks c κ 0) ≡ row → plan c κ j ≡ verdict row (after j (planFrom c κ))
+    at : (j : ℕ) {row : Row} → j ≤ 32 → firstOf (planChecks c κ 0) ≡ row
+        → plan c κ j ≡ verdict row (after j (planFrom c κ))
     at j h e = plan-by-row c κ j (ap firstOf (plan-checks-rounds c κ j h) ∙ e)
 
     go : (row : Row) → firstOf (planChecks c κ 0) ≡ row → plan c κ (suc k) ≡ thenStep (plan c κ k)
     go none e =
         at (suc k) l e
-        ∙ sym (step-by-row (after k (planFrom c κ)) (granted-start-steps c κ k e l))
+        ∙ sym (start-step-granted c κ k e l)
         ∙ sym (ap thenStep (at k (omega arith) e))
     go (some r) e = at (suc k) l e ∙ sym (ap thenStep (at k (omega arith) e))
 

@@ -27,7 +27,8 @@ module _ (c : Settings) (κ target : ℕ) where
   unfolding planChecks targetChecks
   target-checks = append-assoc (settingsChecks c) _ _ ∙ (rw (or-none (ltb 1000000000 κ)))
 
-  by-row : {row : Row} → firstOf (planChecks c κ 0) ≡ row → firstOf (targetChecks c κ target) ≡ orNext row (targetMissed (windowAfter 32 c κ) target)
+  by-row : {row : Row} → firstOf (planChecks c κ 0) ≡ row
+      → firstOf (targetChecks c κ target) ≡ orNext row (targetMissed (windowAfter 32 c κ) target)
   by-row e =
       ap firstOf (sym target-checks)
       ∙ first-of-snoc (planChecks c κ 0) _

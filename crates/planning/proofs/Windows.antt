@@ -74,7 +74,8 @@ unfolding after
 window-after-le zero p s = le-refl _
 window-after-le (suc k) p s = le-trans (window-advance-le (after k p) (passes-after k p s)) (window-after-le k p s)
 
-pub window-after-mono : (j k : ℕ) (p : Plan) → Passes (p .settings) → j ≤ k → after k p .settings .window ≤ after j p .settings .window
+pub window-after-mono : (j k : ℕ) (p : Plan) → Passes (p .settings) → j ≤ k
+    → after k p .settings .window ≤ after j p .settings .window
 window-after-mono j k p s l =
     let e : k - j + j ≡ k = omega arith in
     let split = ap (λ (i : ℕ). after i p .settings .window) (sym e) ∙ ap (λ (q : Plan). q .settings .window) (after-add (k - j) j p) in

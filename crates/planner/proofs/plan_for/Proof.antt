@@ -1,7 +1,6 @@
 -- `planner::plan_for` meets its contract: the rows decide, and where none refuses the plan some rounds on is granted.
 -- Assumes nothing.
 use borrow.Author.Needs.{needs}
-use mathlib.Core.Option.{none}
 use mathlib.Core.Path.{_≡_, refl, sym, ap, _∙_}
 use Rattle.model.specs.Refusals.{firstOf, planChecks}
 use Rattle.model.specs.Calls.{granted}
@@ -11,7 +10,9 @@ use Rattle.planner.proofs.Rows.{plan-row}
 use Rattle.planner.proofs.plan_for.Statement.{statement}
 use Rattle.planner.proofs.plan_for.Tie as tie
 
-row : (c : tie.After-check-all) → firstOf (planChecks (c .before .before .args .settings) (c .before .before .args .accuracy) (c .before .before .args .rounds)) ≡ rowOf (c .check-all .result)
+row : (c : tie.After-check-all)
+    → firstOf (planChecks (c .before .before .args .settings) (c .before .before .args .accuracy) (c .before .before .args .rounds))
+    ≡ rowOf (c .check-all .result)
 row c =
     let a = c .before .before .args in
     plan-row (a .settings) (a .accuracy) (a .rounds) (c .check-all .ensures) (c .before .bad-start .ensures)

@@ -1,7 +1,7 @@
 -- `planner::reach` meets its contract. The invariant: at most 32 turns are done, and the plan is the start that many rounds on.
 -- The measure is what is left of 32.
 -- Assumes nothing.
-use mathlib.Core.Path.{_≡_}
+use mathlib.Core.Path.{_≡_, refl}
 use Prim.Native.Nat.{_-_, _≤_, zero-le}
 use native.Mathlib.Omega.{arith}
 use Rattle.model.specs.Planner.{planFrom, after}
@@ -18,7 +18,7 @@ abbrev μ-rounds : tie.MeasureT-rounds
 μ-rounds target start k₀ reached k = 32 - k
 
 rounds-holds : tie.Need-rounds-holds Inv-rounds μ-rounds
-rounds-holds c = (zero-le, no-turn (planOf (c .args .start)) (c .pre .1))
+rounds-holds c = (zero-le, no-turn (planOf (c .args .start)) (c .pre .1) refl)
 
 returns : tie.Need-returns Inv-rounds μ-rounds
 returns c =
@@ -47,7 +47,7 @@ rounds-again : tie.Need-rounds-again Inv-rounds μ-rounds
 rounds-again c =
     let start = c .before .before .before .before .before .args .start in
     let at = c .before .before .before .before .rounds in
-    (omega arith, turn (start .settings) (start .accuracy) (at .k) (at .inv .1) (c .advance .ensures))
+    (omega arith, turn (start .settings) (start .accuracy) (at .k) (at .inv .1) (c .advance .ensures) (omega arith))
 
 returns-2 : tie.Need-returns-2 Inv-rounds μ-rounds
 returns-2 c =

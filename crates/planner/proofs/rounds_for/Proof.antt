@@ -11,7 +11,9 @@ use Rattle.planner.proofs.rounds_for.Statement.{statement}
 use Rattle.planner.proofs.rounds_for.Tie as tie
 
 -- what `plan_for` granted
-fresh : (c : tie.After-known-told2) → granted (planOf (c .before .start .given .0 .0)) ≡ plan (c .before .before .before .before .args .settings) (c .before .before .before .before .args .accuracy) 0
+fresh : (c : tie.After-known-told2)
+    → granted (planOf (c .before .start .given .0 .0))
+    ≡ plan (c .before .before .before .before .args .settings) (c .before .before .before .before .args .accuracy) 0
 fresh c = sym (ap verdictOf (c .before .start .given .1)) ∙ c .before .before .before .plan-for .ensures
 
 plan-for-requires : tie.Need-plan-for-requires

@@ -13,10 +13,12 @@ use Rattle.planner.proofs.Rows.{step-row}
 use Rattle.planner.proofs.Plan.step.Statement.{statement}
 use Rattle.planner.proofs.Plan.step.Tie as tie
 
-row : (c : tie.After-check-all) → firstOf (stepChecks (planOf (c .before .before .before .args .self))) ≡ rowOf (c .check-all .result)
+row : (c : tie.After-check-all)
+    → firstOf (stepChecks (planOf (c .before .before .before .args .self))) ≡ rowOf (c .check-all .result)
 row c = step-row (planOf (c .before .before .before .args .self)) (c .check-all .ensures) (c .before .bad-step .ensures)
 
-passes : (c : tie.After-enum-told) → firstOf (stepChecks (planOf (c .before .before .before .before .before .args .self))) ≡ none
+passes : (c : tie.After-enum-told)
+    → firstOf (stepChecks (planOf (c .before .before .before .before .before .args .self))) ≡ none
 passes c = row (c .before .before) ∙ ap rowOf (c .enum-told .given .1)
 
 bad-step-requires : tie.Need-bad-step-requires

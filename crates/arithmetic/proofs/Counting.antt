@@ -187,3 +187,24 @@ lowest-cases p (suc n) = ⊎-elim found (λ w. ⊎-elim (here w) (nowhere w) (bo
     nowhere : (lowest p n ≡ none) × ((i : ℕ) → i < n → p i ≡ false) → p n ≡ false → Out
     nowhere w e =
         inr (ap₂ (λ (o : Option ℕ) (b : Bool). orElse o b n) (w .0) e, λ i h. ⊎-elim (w .1 i) (λ s. ap p s ∙ e) (split-last i n h))
+
+-- what a search answers, read off the answer
+pub lowest-found : (p : ℕ → Bool) (n i : ℕ) → lowest p n ≡ some i → Lowest p n i
+lowest-found p n i e =
+    ⊎-elim
+    (λ w. let s : w .0 ≡ i = cc (w .1, e) in rw s at (w .2))
+    (λ w. let z : _≡_ {A = ℕ} 0 1 = cc (w .0, e) in absurd (impossible z))
+    (lowest-cases p n)
+  where
+    impossible : _≡_ {A = ℕ} 0 1 → ⊥
+    impossible z = omega arith
+
+pub lowest-missed : (p : ℕ → Bool) (n : ℕ) → lowest p n ≡ none → (i : ℕ) → i < n → p i ≡ false
+lowest-missed p n e =
+    ⊎-elim
+    (λ w. let z : _≡_ {A = ℕ} 0 1 = cc (w .1, e) in absurd (impossible z))
+    (λ w. w .1)
+    (lowest-cases p n)
+  where
+    impossible : _≡_ {A = ℕ} 0 1 → ⊥
+    impossible z = omega arith

@@ -2,18 +2,21 @@
 -- that the definitions give these answers, computed by the checker.
 --   Question, ask    what a case asks, and what the definitions answer
 --   Case, cases      a question with the answer that document 01 gives it, and the table of them
-use mathlib.Core.List.{List, [], _∷_}
+--   sheet1, listing1 case 1's sheet in bytes, and the listing that document 01 prints for it
+--   rowsShown        what the row accessor shows of case 1's and of case 10's sheet
+use mathlib.Core.List.{List, [], _∷_, map}
 use mathlib.Core.Option.{Option, none, some}
 use Prim.Native.Nat.{ℕ, _-_}
 use lib.ListN.{length, getD}
 use lib.IntN.{ℤ, pos, negsuc}
 use Rattle.model.specs.declared.Settings.{Settings}
 use Rattle.model.specs.declared.Refusal.{Refusal}
-use Rattle.model.specs.Ensemble.{Reading, missing, present}
-use Rattle.model.specs.RoundSheet.{fca, cca, average, median, midpoint}
+use Rattle.model.specs.Ensemble.{Reading, missing, present, ticks}
+use Rattle.model.specs.RoundSheet.{fca, cca, average, median, midpoint, sheetBytes}
 use Rattle.model.specs.Steps.{Decision, decided, knownFaulty, decide, Round, readingsOf, roundOf}
 use Rattle.model.specs.Planner.{planFrom, after}
 use Rattle.model.specs.Refusals.{Row, firstOf, tooManyFaults, targetChecks}
+use Rattle.model.specs.Calls.{row}
 
 pub data Question : Type 0 where
   -- the count, the estimate and the new value of a round
@@ -125,4 +128,40 @@ cases =
     -- 12: that plan, target 0: refusal 12; target 1: granted
     ∷ case 12 (target plan11 100 0) (refuses 12)
     ∷ case 12 (target plan11 100 1) grants
+    ∷ []
+
+-- ---- The listing that document 01 gives for case 1, and the rows of a sheet
+
+-- case 1's sheet, in bytes
+unfoldable pub sheet1 : List ℕ
+sheet1 = sheetBytes (settings 4 1 fca median 10) (1 ∷ 1 ∷ 1 ∷ 1 ∷ []) (pos 0 ∷ pos 4 ∷ pos 10 ∷ pos 500 ∷ [])
+
+-- its lines: `round 4 3 4 5`, `0 1 0`, `1 1 4`, `2 1 10`, `3 2 4`
+unfoldable pub listing1 : List ℕ
+listing1 =
+    114 ∷ 111 ∷ 117 ∷ 110 ∷ 100 ∷ 32 ∷ 52 ∷ 32 ∷ 51 ∷ 32 ∷ 52 ∷ 32 ∷ 53 ∷ 10
+    ∷ 48 ∷ 32 ∷ 49 ∷ 32 ∷ 48 ∷ 10
+    ∷ 49 ∷ 32 ∷ 49 ∷ 32 ∷ 52 ∷ 10
+    ∷ 50 ∷ 32 ∷ 49 ∷ 32 ∷ 49 ∷ 48 ∷ 10
+    ∷ 51 ∷ 32 ∷ 50 ∷ 32 ∷ 52 ∷ 10 ∷ []
+
+-- case 10's sheet, with 20 for the last
+unfoldable pub sheet10 : List ℕ
+sheet10 =
+    sheetBytes (settings 4 1 cca median 20)
+    (1 ∷ 1 ∷ 1 ∷ 1 ∷ 1 ∷ 1 ∷ 1 ∷ 1 ∷ 1 ∷ 1 ∷ 1 ∷ 1 ∷ 1 ∷ 1 ∷ 1 ∷ 0 ∷ [])
+    (map ticks (rows10 (at 20 ∷ at 20 ∷ at 20 ∷ missing ∷ [])))
+
+-- the rows that the accessor shows: for FCA a cabinet's four bytes, for CCA its N readings, for a number of N or above nothing
+unfoldable pub rowsShown : List (List ℕ)
+rowsShown = row sheet1 0 ∷ row sheet1 3 ∷ row sheet1 4 ∷ row sheet10 0 ∷ row sheet10 3 ∷ row sheet10 4 ∷ []
+
+unfoldable pub rowsWanted : List (List ℕ)
+rowsWanted =
+    (0 ∷ 0 ∷ 0 ∷ 0 ∷ [])
+    ∷ (244 ∷ 1 ∷ 0 ∷ 0 ∷ [])
+    ∷ []
+    ∷ (246 ∷ 255 ∷ 255 ∷ 255 ∷ 246 ∷ 255 ∷ 255 ∷ 255 ∷ 246 ∷ 255 ∷ 255 ∷ 255 ∷ 246 ∷ 255 ∷ 255 ∷ 255 ∷ [])
+    ∷ (20 ∷ 0 ∷ 0 ∷ 0 ∷ 20 ∷ 0 ∷ 0 ∷ 0 ∷ 20 ∷ 0 ∷ 0 ∷ 0 ∷ 0 ∷ 0 ∷ 0 ∷ 0 ∷ [])
+    ∷ []
     ∷ []

@@ -1,0 +1,190 @@
+-- Demand 3 and document 01, "Limits for sound cabinets": how far sound cabinets can be from each other and from true time, over a whole
+-- run of 0 to 32 rounds, whatever faulty cabinets send. The theorem is `guarantee` of proofs/Guarantee.antt.
+--
+-- The run settles with `settle`, steps with `step` and fills sheets with `write` of crates/model/specs/Calls.antt: the same definitions
+-- that the functions' promises are equations with.
+--
+-- Where this departs from the paper (document 004): t counts every cabinet outside the good set, faulty or sound with a bad first
+-- reading (the paper's Theorem 2 counts the faulty ones only); limits are whole numbers, rounded up; a reading may be missing; nothing
+-- is said of values that two cabinets share (Lemmas 5 and 7, the sharing half of Theorem 8, Theorem 10).
+-- What is not claimed: anything about networks or times of delivery; more than the first round where more than m are bad; what the
+-- program prints.
+--
+--   Station, Start              what a run starts from, and what must hold of it
+--   Sends, Allowed              what faulty cabinets do in a round, with the answer buffers lent in it
+--   State, heard, entryOf, sheetOf, settled, next    a round, step by step
+--   Good, bad                   the good cabinets, and t, the number of the others
+--   Every, First                a claim about every round, and about the first
+--   Close, Wide                 the limits for t ≤ m, and for m < t < N-m
+--   Guarantee                   both, of one run
+use mathlib.Core.Bool.{Bool, true, not, cond}
+use mathlib.Core.List.{List, [], _∷_}
+use mathlib.Core.Option.{none}
+use mathlib.Core.Path.{_≡_}
+use Prim.Native.Nat.{ℕ, _+_, _*_, _-_, _/_, _%_, _≤_, _<_}
+use lib.Dec.{eqb}
+use lib.IntN.{ℤ, natAbs, _-ℤ_}
+use lib.ListN.{length, replicate}
+use mir.Syntax.{w32}
+use mir.Val.{SFits, toZ}
+use Rattle.arithmetic.specs.Counting.{bit, count}
+use Rattle.arithmetic.specs.Writing.{table}
+use Rattle.model.specs.declared.Settings.{Settings}
+use Rattle.model.specs.Ensemble.{Reading, missing, present, Readings, isPresent, ticks}
+use Rattle.model.specs.RoundSheet.{cca, entryCount, sheetLength, word}
+use Rattle.model.specs.AnswerSheet.{answerLength}
+use Rattle.model.specs.Planner.{Plan, planFrom, ceilDiv}
+use Rattle.model.specs.Refusals.{firstOf, planChecks}
+use Rattle.model.specs.Calls.{Verdict, granted, refused, Written, write, settle, step}
+
+-- ---- Start
+
+-- "A reading is a signed 32-bit number of ticks", or missing
+abbrev pub IsReading : Reading → Type 0
+IsReading missing = Unit {0}
+IsReading (present z) = SFits w32 z
+
+pub record Station : Type 0 where
+  -- "the same for all cabinets"
+  pub settings : Settings
+  -- κ
+  pub accuracy : ℕ
+  -- "Each cabinet is sound or faulty, all through the run"
+  pub sound : ℕ → Bool
+  -- "Each sound one holds its first reading, present or missing"
+  pub first : Readings
+
+pub record Start (st : Station) : Type 0 where
+  -- "settings that the planner grants for 0 rounds"
+  pub grants : firstOf (planChecks (st .settings) (st .accuracy) 0) ≡ none
+  pub readings : (p : ℕ) → IsReading (st .first p)
+
+-- ---- Sending
+
+-- "A faulty one may send each cabinet anything or nothing, anew each round"
+pub record Sends : Type 0 where
+  -- what a faulty r sends to s
+  pub sent : ℕ → ℕ → Reading
+  -- CCA: what a faulty s relays to p as the value of r, "to each p apart"
+  pub relayed : ℕ → ℕ → ℕ → Reading
+  -- p's answer buffer, "whatever bytes it holds before"
+  pub buffer : ℕ → List ℕ
+
+pub record Allowed (st : Station) (x : Sends) : Type 0 where
+  -- "what it sends is held as a reading or as missing"
+  pub sent : (r s : ℕ) → IsReading (x .sent r s)
+  pub relayed : (r s p : ℕ) → IsReading (x .relayed r s p)
+  -- "The tray is long enough"
+  pub room : (p : ℕ) → answerLength (st .settings .n) ≤ length (x .buffer p)
+
+-- ---- A round
+
+pub record State : Type 0 where
+  pub plan : Plan
+  -- what each sound cabinet holds
+  pub held : Readings
+
+-- "The plan has window δ, accuracy κ and no round done"
+abbrev pub start : Station → State
+start st = record { plan = planFrom (st .settings) (st .accuracy); held = st .first }
+
+module _ (st : Station) (now : State) (x : Sends) where
+  -- "a sound cabinet sends what it holds (nothing, if that is missing) to every cabinet, itself included"
+  unfoldable pub heard : ℕ → ℕ → Reading
+  heard r s = cond (st .sound r) (now .held r) (x .sent r s)
+
+  -- "FCA: entry s is what s sent p. CCA: entry r × N + s is what r sent s, if s is sound"
+  unfoldable pub entryOf : ℕ → ℕ → Reading
+  entryOf p e =
+      cond (eqb (st .settings .rule) cca)
+      (cond (st .sound (e % st .settings .n)) (heard (e / st .settings .n) (e % st .settings .n)) (x .relayed (e / st .settings .n) (e % st .settings .n) p))
+      (heard e p)
+
+  -- "each sound cabinet p fills a round sheet with those settings, the plan's window as its δ"
+  unfoldable pub sheetOf : ℕ → List ℕ
+  sheetOf p =
+      write
+      (now .plan .settings)
+      (table (λ e. bit (isPresent (entryOf p e))) (entryCount (st .settings)))
+      (table (λ e. ticks (entryOf p e)) (entryCount (st .settings)))
+      (replicate (sheetLength (st .settings)) 0)
+      .buffer
+
+  -- "each sound cabinet settles its sheet"
+  unfoldable pub settled : ℕ → Written
+  settled p = settle (sheetOf p) (x .buffer p)
+
+-- "Its new value, bytes 6 to 9 of its answer sheet, is what it holds next"; "after a refusal it holds a missing reading"
+abbrev pub holds : Verdict ℕ → List ℕ → Reading
+holds (granted length) answer = present (toZ w32 (word answer 6))
+holds (refused r) answer = missing
+
+abbrev pub stepped : Verdict Plan → Plan → Plan
+stepped (granted next) plan = next
+stepped (refused r) plan = plan
+
+-- "Then the plan goes forward one round"
+unfoldable pub next : Station → State → Sends → State
+next st now x =
+    record {
+      plan = stepped (step (now .plan)) (now .plan);
+      held = λ p. holds (settled st now x p .verdict) (settled st now x p .buffer);
+    }
+
+-- ---- The good cabinets
+
+-- "The good cabinets are any set of sound ones whose first readings are present, within κ of one whole true value, the same all
+-- through the run, and within δ of each other"
+pub record Good (st : Station) (good : ℕ → Bool) (true-value : ℤ) : Type 0 where
+  pub sound : (p : ℕ) → p < st .settings .n → good p ≡ true → st .sound p ≡ true
+  pub present : (p : ℕ) → p < st .settings .n → good p ≡ true → isPresent (st .first p) ≡ true
+  pub accurate : (p : ℕ) → p < st .settings .n → good p ≡ true → natAbs (ticks (st .first p) -ℤ true-value) ≤ st .accuracy
+  pub precise : (p q : ℕ) → p < st .settings .n → q < st .settings .n → good p ≡ true → good q ≡ true → natAbs (ticks (st .first p) -ℤ ticks (st .first q)) ≤ st .settings .window
+
+-- t: "The other t cabinets are bad"
+abbrev pub bad : Station → (ℕ → Bool) → ℕ
+bad st good = count (λ p. not (good p)) (st .settings .n)
+
+-- ---- The limits
+
+-- a claim about every round of a list, from a state on
+abbrev pub Every : Station → (State → Sends → Type 0) → State → List Sends → Type 0
+Every st Claim now [] = Unit {0}
+Every st Claim now (x ∷ xs) = Claim now x × Every st Claim (next st now x) xs
+
+-- a claim about the first round of a list
+abbrev pub First : (State → Sends → Type 0) → State → List Sends → Type 0
+First Claim now [] = Unit {0}
+First Claim now (x ∷ xs) = Claim now x
+
+-- t ≤ m: "no sound cabinet and no step of the plan refuses, and after each round any two sound cabinets' new values differ by no more
+-- than the next window and each strays from true time by no more than the planned accuracy"
+pub record Close (st : Station) (true-value : ℤ) (now : State) (x : Sends) : Type 0 where
+  pub unrefused : (p : ℕ) → p < st .settings .n → st .sound p ≡ true → settled st now x p .verdict ≡ granted (answerLength (st .settings .n))
+  pub steps : step (now .plan) ≡ granted (next st now x .plan)
+  pub precise : (p q : ℕ) → p < st .settings .n → q < st .settings .n → st .sound p ≡ true → st .sound q ≡ true → natAbs (ticks (next st now x .held p) -ℤ ticks (next st now x .held q)) ≤ next st now x .plan .settings .window
+  pub accurate : (p : ℕ) → p < st .settings .n → st .sound p ≡ true → natAbs (ticks (next st now x .held p) -ℤ true-value) ≤ next st now x .plan .accuracy
+
+-- m < t < N-m, first round: "an unrefused value is within κ + ⌈(m+t)δ/N⌉ of true, and two differ by at most ⌈(N+2t+2m)δ/N⌉"
+pub record Wide (st : Station) (t : ℕ) (true-value : ℤ) (now : State) (x : Sends) : Type 0 where
+  pub accurate : (p : ℕ) → p < st .settings .n → st .sound p ≡ true → isPresent (next st now x .held p) ≡ true → natAbs (ticks (next st now x .held p) -ℤ true-value) ≤ st .accuracy + ceilDiv ((st .settings .m + t) * st .settings .window) (st .settings .n)
+  pub precise : (p q : ℕ) → p < st .settings .n → q < st .settings .n → st .sound p ≡ true → st .sound q ≡ true → isPresent (next st now x .held p) ≡ true → isPresent (next st now x .held q) ≡ true → natAbs (ticks (next st now x .held p) -ℤ ticks (next st now x .held q)) ≤ ceilDiv ((st .settings .n + 2 * t + 2 * st .settings .m) * st .settings .window) (st .settings .n)
+
+-- ---- The statement
+
+-- a claim about every element of a list
+abbrev pub Each : (Sends → Type 0) → List Sends → Type 0
+Each Claim [] = Unit {0}
+Each Claim (x ∷ xs) = Claim x × Each Claim xs
+
+pub record Guarantee (st : Station) (rounds : List Sends) (good : ℕ → Bool) (true-value : ℤ) : Type 0 where
+  pub few : bad st good ≤ st .settings .m → Every st (Close st true-value) (start st) rounds
+  pub many : st .settings .m < bad st good → bad st good < st .settings .n - st .settings .m → First (Wide st (bad st good) true-value) (start st) rounds
+
+-- "For every list of 0 to 32 rounds from a fresh plan, whatever the faulty cabinets send to whom in each"
+abbrev pub Demand3 : Type 0
+Demand3 =
+    (st : Station) → Start st
+    → (rounds : List Sends) → length rounds ≤ 32 → Each (Allowed st) rounds
+    → (good : ℕ → Bool) (true-value : ℤ) → Good st good true-value
+    → Guarantee st rounds good true-value

@@ -1,0 +1,4 @@
+pub mod Shifted
+pub mod Local
+pub mod Represent
+pub mod Natural

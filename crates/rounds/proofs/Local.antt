@@ -1,0 +1,123 @@
+-- A round depends on the readings of the cabinets below N alone: readings that agree there give the same round and the same answer sheet.
+-- Assumes nothing.
+use mathlib.Core.Bool.{Bool, true, false, cond, _&&_}
+use mathlib.Core.Option.{Option, none, some}
+use mathlib.Core.Path.{_≡_, refl, ap, ap₂, _∙_}
+use Prim.Native.Nat.{ℕ, _+_, _/_, _<_}
+use lib.Dec.{leb, ltb, eqb}
+use lib.IntN.{ℤ, pos, _+ℤ_}
+use lib.Signed.{leZ, ltZ, shrZ}
+use Rattle.arithmetic.specs.Counting.{count, lowest}
+use Rattle.arithmetic.proofs.Counting.{count-ext, any-ext, lowest-ext, lowest-found}
+use Rattle.arithmetic.proofs.Sums.{sum-ext}
+use Rattle.arithmetic.proofs.Writing.{table-ext}
+use Rattle.model.specs.declared.Settings.{Settings}
+use Rattle.model.specs.Ensemble.{Readings, ticks, quorum}
+use Rattle.model.specs.RoundSheet.{average, median}
+use Rattle.model.specs.AnswerSheet.{answerHeader, answerBytes}
+use Rattle.model.specs.Steps.{within, accepted, acceptedAt, numbered, ticksAt, averageOf, medianOf, midpointOf, estimate, mean, usedValue, markOf, Round, roundOf}
+
+-- two functions agree below n
+abbrev pub Agree : {A : Type 0} → ℕ → (ℕ → A) → (ℕ → A) → Type 0
+Agree n f g = (i : ℕ) → i < n → f i ≡ g i
+
+module _ (n : ℕ) (v u : Readings) (same : Agree n v u) where
+  pub accepted-local : (w need r : ℕ) → r < n → accepted w need n v r ≡ accepted w need n u r
+  unfolding accepted
+  accepted-local w need r h =
+      any-ext
+      (λ s. within w (v s) (v r) && leb need (count (λ t. within w (v s) (v t)) n))
+      (λ s. within w (u s) (u r) && leb need (count (λ t. within w (u s) (u t)) n))
+      n
+      (λ s l.
+      ap₂
+      (λ (a : Bool) (c : ℕ). a && leb need c)
+      (ap₂ (within w) (same s l) (same r h))
+      (count-ext (λ t. within w (v s) (v t)) (λ t. within w (u s) (u t)) n (λ t k. ap₂ (within w) (same s l) (same t k))))
+
+  module _ (acc bcc : ℕ → Bool) (both : Agree n acc bcc) where
+    pub count-local : count acc n ≡ count bcc n
+    count-local = count-ext acc bcc n both
+
+    -- how many accepted readings pass a test against r's
+    ranks-local : (test : ℤ → ℤ → Bool) (r : ℕ) → r < n → count (λ s. acc s && test (ticks (v s)) (ticks (v r))) n ≡ count (λ s. bcc s && test (ticks (u s)) (ticks (u r))) n
+    ranks-local test r h =
+        count-ext
+        (λ s. acc s && test (ticks (v s)) (ticks (v r)))
+        (λ s. bcc s && test (ticks (u s)) (ticks (u r)))
+        n
+        (λ s l. ap₂ (λ (a b : Bool). a && b) (both s l) (ap₂ test (ap ticks (same s l)) (ap ticks (same r h))))
+
+    ticks-local : (o : Option ℕ) → ((r : ℕ) → o ≡ some r → r < n) → ticksAt v o ≡ ticksAt u o
+    ticks-local (some r) f = ap ticks (same r (f r refl))
+    ticks-local none f = refl
+
+    pub numbered-local : (h : ℕ) → numbered acc n v h ≡ numbered bcc n u h
+    unfolding numbered
+    numbered-local h =
+        ticks-local (lowest test n) (λ r e. lowest-found test n r e .inRange)
+        ∙ ap (ticksAt u)
+        (lowest-ext test test' n
+        (λ r l.
+        ap₂ (λ (a b : Bool). a && b) (both r l)
+        (ap₂ (λ (i j : ℕ). leb h i && ltb j h) (ranks-local leZ r l) (ranks-local ltZ r l))))
+      where
+        test : ℕ → Bool
+        test r =
+            acc r
+            && (leb h (count (λ s. acc s && leZ (ticks (v s)) (ticks (v r))) n)
+            && ltb (count (λ s. acc s && ltZ (ticks (v s)) (ticks (v r))) n) h)
+
+        test' : ℕ → Bool
+        test' r =
+            bcc r
+            && (leb h (count (λ s. bcc s && leZ (ticks (u s)) (ticks (u r))) n)
+            && ltb (count (λ s. bcc s && ltZ (ticks (u s)) (ticks (u r))) n) h)
+
+    pub estimate-local : (kind : ℕ) → estimate kind acc n v ≡ estimate kind bcc n u
+    unfolding estimate averageOf medianOf midpointOf
+    estimate-local kind =
+        ap₂
+        (λ (a b : ℤ). cond (eqb kind average) a b)
+        (ap₂ shrZ
+        (sum-ext (λ r. cond (acc r) (ticks (v r)) (pos 0)) (λ r. cond (bcc r) (ticks (u r)) (pos 0)) n
+        (λ r l. ap₂ (λ (a : Bool) (z : ℤ). cond a z (pos 0)) (both r l) (ap ticks (same r l))))
+        count-local)
+        (ap₂
+        (λ (a b : ℤ). cond (eqb kind median) a b)
+        (ap (λ (c : ℕ). numbered acc n v ((c + 1) / 2)) count-local ∙ numbered-local ((count bcc n + 1) / 2))
+        (ap₂ (λ (a b : ℤ). shrZ (a +ℤ b) 2) (numbered-local 1) (ap (numbered acc n v) count-local ∙ numbered-local (count bcc n))))
+
+    pub used-local : {d e : ℤ} → d ≡ e → Agree n (usedValue acc v d) (usedValue bcc u e)
+    used-local p r l = rw (both r l, same r l, p)
+
+    pub mark-local : Agree n (λ r. markOf (acc r) (v r)) (λ r. markOf (bcc r) (u r))
+    mark-local r l = ap₂ markOf (both r l) (same r l)
+
+-- what two rounds that agree below n have in common
+pub record Alike (n : ℕ) (a b : Round) : Type 0 where
+  pub count : a .count ≡ b .count
+  pub estimate : a .estimate ≡ b .estimate
+  pub value : a .value ≡ b .value
+  pub mark : Agree n (a .mark) (b .mark)
+  pub used : Agree n (a .used) (b .used)
+
+pub round-local : (c : Settings) (v u : Readings) → Agree (c .n) v u → Alike (c .n) (roundOf c v) (roundOf c u)
+unfolding roundOf acceptedAt
+round-local c v u same =
+    let both : Agree (c .n) (λ r. accepted (c .window) (quorum c) (c .n) v r) (λ r. accepted (c .window) (quorum c) (c .n) u r) = λ r l. accepted-local (c .n) v u same (c .window) (quorum c) r l in
+    let e = estimate-local (c .n) v u same _ _ both (c .estimator) in
+    let used = used-local (c .n) v u same _ _ both e in
+    record {
+      count = count-local (c .n) v u same _ _ both;
+      estimate = e;
+      value = ap (mean (c .n)) (sum-ext _ _ (c .n) used);
+      mark = mark-local (c .n) v u same _ _ both;
+      used = used;
+    }
+
+-- rounds alike below n have the same answer sheet
+pub answer-local : (n : ℕ) (a b : Round) → Alike n a b → answerBytes n a ≡ answerBytes n b
+unfolding answerBytes answerHeader
+answer-local n a b s =
+    simp (s .count, s .estimate, s .value, table-ext (a .mark) (b .mark) n (s .mark), table-ext (a .used) (b .used) n (s .used))

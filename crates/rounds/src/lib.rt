@@ -1,0 +1,1 @@
+// Laws of document 01's steps of a round. It has no function.

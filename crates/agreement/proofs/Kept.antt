@@ -4,23 +4,15 @@ use mathlib.Core.Bool.{Bool, cond}
 use mathlib.Core.List.{List}
 use mathlib.Core.Path.{_≡_, refl, sym, ap, ap₂, _∙_}
 use Prim.Native.Nat.{ℕ, _+_, _≤_, _<_, zero-le}
-use native.Mathlib.Numerals.{add-one}
 use native.Mathlib.Omega.{arith}
 use lib.ListN.{length, getD, set}
 use mir.Val.{boolByte}
 use Rattle.arithmetic.specs.Counting.{bit, count}
 use Rattle.arithmetic.specs.Writing.{table, overwrite}
 use Rattle.arithmetic.proofs.Counting.{count-le}
-use Rattle.arithmetic.proofs.Writing.{length-table, length-overwrite, overwrite-nil, overwrite-snoc, overwrite-whole}
+use Rattle.arithmetic.proofs.Writing.{length-table, length-overwrite, overwrite-nil, overwrite-whole}
 use Rattle.agreement.specs.Values.{acceptedAt, keptAt, countOf, Remembered}
-use Rattle.estimates.proofs.Loops.{flag, count-next}
-
--- the next entry of a table, stored after those before it
-pub store-next : (f : ℕ → ℕ) (old : List ℕ) (r v : ℕ) → r < length old → v ≡ f r → set (overwrite (table f r) old) r v ≡ overwrite (table f (r + 1)) old
-unfolding table
-store-next f old r v h e =
-    let l = length-table f r in
-    rw (add-one r, e) (rw l at (overwrite-snoc (table f r) old (f r) (rw l h)))
+use Rattle.loops.proofs.Loops.{flag, count-next, store-next}
 
 module _ (w need : ℕ) (values kept₀ : List ℕ) where
   -- where the readings below r are kept

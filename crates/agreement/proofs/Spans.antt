@@ -17,14 +17,10 @@ use Rattle.arithmetic.specs.Counting.{bit, count}
 use Rattle.arithmetic.proofs.Bools.{iff-eq, and-left, and-right, and-intro, clash}
 use Rattle.arithmetic.proofs.Counting.{split-last, bit-le-one, count-le, any-true, any-false}
 use Rattle.rounds.proofs.Shifted.{within-nat, spans, accepted-nat}
-use Rattle.estimates.proofs.Loops.{count-next}
+use Rattle.loops.proofs.Parts.{and-false}
+use Rattle.loops.proofs.Loops.{count-next}
 use Rattle.estimates.specs.Values.{valueAt, presentAt}
 use Rattle.agreement.specs.Values.{spansAt, acceptedAt, enoughAt, Remembered}
-
--- a conjunction whose second part fails
-and-false : (a : Bool) {b : Bool} → b ≡ false → (a && b) ≡ false
-and-false true e = e
-and-false false e = refl
 
 pub held-small : (a b far h : ℕ) → h ≡ bit (leb a b && leb b (a + far)) → h ≤ 1
 held-small a b far h e = let l = bit-le-one (leb a b && leb b (a + far)) in omega arith

@@ -11,19 +11,18 @@ use borrow.Author.Tests.{lt-ltb, le-ltb, eq-eqb, ne-eqb, ltb-true, ltb-false, le
 use lib.Dec.{leb, ltb, eqb}
 use lib.ListN.{length, getD}
 use Rattle.arithmetic.specs.Counting.{bit, count}
-use Rattle.arithmetic.proofs.Bools.{clash}
 use Rattle.arithmetic.proofs.Sums.{total}
+use Rattle.loops.proofs.Parts.{or-left, or-right}
 use Rattle.rounds.proofs.Shifted.{average-nat, median-nat, midpoint-nat, estimate-nat, numbered-nat, mean-nat}
 use Rattle.estimates.specs.Values.{valueAt, presentAt, usedAt, estimateOf, newValueOf}
 
--- the parts of a disjunction that fails
-pub or-left : (a b : Bool) → (a || b) ≡ false → a ≡ false
-or-left true b h = h
-or-left false b h = refl
-
-pub or-right : (a b : Bool) → (a || b) ≡ false → b ≡ false
-or-right true b h = clash refl h
-or-right false b h = h
+-- what is used for a reading is below 2^32 where what replaces it is
+pub used-small : (v other : ℕ) → other < 4294967296 → cond (ltb v 4294967296) v other < 4294967296
+used-small v other h = go (ltb v 4294967296) refl
+  where
+    go : (b : Bool) → ltb v 4294967296 ≡ b → cond b v other < 4294967296
+    go true e = ltb-true v 4294967296 e
+    go false e = h
 
 -- the sum of the present readings is below 2^32 for each
 present-small : (s : List ℕ) (t : ℕ) → total (usedAt s 0) t ≤ 4294967295 * count (presentAt s) t

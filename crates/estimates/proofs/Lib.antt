@@ -1,4 +1,3 @@
-pub mod Loops
 pub mod Selection
 pub mod Narrowing
 pub mod Estimated

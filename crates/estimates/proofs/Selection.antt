@@ -13,12 +13,8 @@ use lib.Dec.{leb, ltb}
 use Rattle.arithmetic.specs.Counting.{bit, count}
 use Rattle.arithmetic.proofs.Bools.{clash, and-left, and-right, and-intro}
 use Rattle.arithmetic.proofs.Counting.{below, last, split-last, bit-le, count-mono, count-pos, count-some, lowest-none, lowest-cases}
+use Rattle.loops.proofs.Parts.{and-false}
 use Rattle.rounds.proofs.Shifted.{nat-at, is-numbered, numbered-nat}
-
--- a conjunction whose last part fails
-and-false : (a : Bool) {b : Bool} → b ≡ false → (a && b) ≡ false
-and-false true e = e
-and-false false e = refl
 
 -- a test that passes wherever another does, and once more, is counted more often
 count-less : (p q : ℕ → Bool) (n i : ℕ) → i < n → p i ≡ false → q i ≡ true → ((j : ℕ) → j < n → p j ≡ true → q j ≡ true) → count p n < count q n

@@ -6,7 +6,7 @@ use native.Mathlib.Omega.{arith}
 use Prim.Native.Nat.{_-_}
 use lib.ListN.{length}
 use Rattle.agreement.proofs.Kept.{Keeping, keep-none, keep-one, all-counted, all-kept, same-room, keep-small}
-use Rattle.estimates.proofs.Loops.{flag-small}
+use Rattle.loops.proofs.Loops.{flag-small}
 use Rattle.agreement.proofs.keep_accepted.Statement.{statement}
 use Rattle.agreement.proofs.keep_accepted.Tie as tie
 

@@ -6,7 +6,7 @@ use Prim.Native.Nat.{_-_}
 use lib.Dec.{ltb}
 use lib.ListN.{length, getD}
 use Rattle.estimates.specs.Values.{presentAt}
-use Rattle.estimates.proofs.Loops.{flag-small, Counts, count-none, count-small, count-one, count-all}
+use Rattle.loops.proofs.Loops.{flag-small, Counts, count-none, count-small, count-one, count-all}
 use Rattle.estimates.proofs.count_present.Statement.{statement}
 use Rattle.estimates.proofs.count_present.Tie as tie
 

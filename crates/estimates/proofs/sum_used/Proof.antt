@@ -5,7 +5,8 @@ use native.Mathlib.Omega.{arith}
 use Prim.Native.Nat.{_-_}
 use lib.ListN.{length, getD}
 use Rattle.estimates.specs.Values.{usedAt}
-use Rattle.estimates.proofs.Loops.{Adds, add-none, add-on, add-all, used-small}
+use Rattle.estimates.proofs.Estimated.{used-small}
+use Rattle.loops.proofs.Loops.{Adds, add-none, add-on, add-all}
 use Rattle.estimates.proofs.sum_used.Statement.{statement}
 use Rattle.estimates.proofs.sum_used.Tie as tie
 

@@ -1,17 +1,19 @@
--- Loops that count or add up the indices below n, one at a time.
+-- Loops that count or add up the indices below n, or store a table, one at a time.
 --   Counts p n c t   c counts those below t that pass p
 --   Adds f n s t     s is the sum of f below t, where f is below 2^32
 -- Assumes nothing.
-use mathlib.Core.Bool.{Bool, true, false, cond}
+use mathlib.Core.Bool.{Bool, true, false}
+use mathlib.Core.List.{List}
 use mathlib.Core.Path.{_≡_, refl, sym, ap₂, _∙_}
 use Prim.Native.Nat.{ℕ, _+_, _*_, _≤_, _<_, zero-le}
 use native.Mathlib.Nat.{le-refl}
 use native.Mathlib.Numerals.{add-one}
 use native.Mathlib.Omega.{arith}
-use borrow.Author.Tests.{ltb-true}
-use lib.Dec.{ltb}
+use lib.ListN.{length, set}
 use mir.Val.{boolByte}
 use Rattle.arithmetic.specs.Counting.{bit, count}
+use Rattle.arithmetic.specs.Writing.{table, overwrite}
+use Rattle.arithmetic.proofs.Writing.{length-table, overwrite-snoc}
 use Rattle.arithmetic.proofs.Counting.{count-le}
 use Rattle.arithmetic.proofs.Sums.{total}
 
@@ -77,10 +79,9 @@ module _ (f : ℕ → ℕ) (n : ℕ) where
     pub add-all : n ≤ t → s ≡ total f n
     add-all h = let e : t ≡ n = omega (arith, so-far .upTo) in rw (← e) (so-far .exact)
 
--- what is used for a reading is below 2^32 where what replaces it is
-pub used-small : (v other : ℕ) → other < 4294967296 → cond (ltb v 4294967296) v other < 4294967296
-used-small v other h = go (ltb v 4294967296) refl
-  where
-    go : (b : Bool) → ltb v 4294967296 ≡ b → cond b v other < 4294967296
-    go true e = ltb-true v 4294967296 e
-    go false e = h
+-- the next entry of a table, stored after those before it
+pub store-next : (f : ℕ → ℕ) (old : List ℕ) (r v : ℕ) → r < length old → v ≡ f r → set (overwrite (table f r) old) r v ≡ overwrite (table f (r + 1)) old
+unfolding table
+store-next f old r v h e =
+    let l = length-table f r in
+    rw (add-one r, e) (rw l at (overwrite-snoc (table f r) old (f r) (rw l h)))

@@ -1,2 +1,3 @@
 pub mod Spans
-pub mod Marks
+pub mod Kept
+pub mod Agreeing

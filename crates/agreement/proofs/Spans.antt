@@ -7,33 +7,20 @@ use mathlib.Core.Logic.{_⊎_, inr, ⊎-elim}
 use mathlib.Core.Path.{_≡_, refl, sym, ap, ap₂, _∙_}
 use Prim.Native.Nat.{ℕ, zero, suc, _+_, _-_, _%_, _^_, _≤_, _<_, min, zero-le, suc-le-suc}
 use native.Mathlib.Nat.{le-refl, not-suc-le-zero}
-use native.Mathlib.Numerals.{add-one}
 use native.Mathlib.Omega.{arith}
 use borrow.Author.Count.{below-more}
 use borrow.Author.Tests.{lt-ltb, le-leb, lt-leb, ltb-true, leb-true, eqb-true, eqb-false}
 use lib.Dec.{leb, ltb, eqb}
 use lib.ListN.{length, getD, set, length-set}
 use lib.Seq.{getD-set-same, getD-set-other}
-use mir.Val.{boolByte}
 use Rattle.arithmetic.specs.Counting.{bit, count}
 use Rattle.arithmetic.proofs.Bools.{iff-eq, and-left, and-right, and-intro, clash}
 use Rattle.arithmetic.proofs.Counting.{split-last, bit-le-one, count-le, any-true, any-false}
 use Rattle.rounds.proofs.Shifted.{within-nat, spans, accepted-nat}
-use Rattle.agreement.specs.Values.{valueAt, presentAt, spansAt, acceptedAt, enoughAt, Remembered}
-
--- a conjunction whose second part fails
-and-false : (a : Bool) {b : Bool} → b ≡ false → (a && b) ≡ false
-and-false true e = e
-and-false false e = refl
-
--- a flag as a number
-pub flag : (b : Bool) → boolByte b ≡ bit b
-flag true = refl
-flag false = refl
-
-pub flag-small : (b : Bool) → boolByte b ≤ 1
-flag-small true = le-refl 1
-flag-small false = zero-le
+use Rattle.loops.proofs.Parts.{and-false}
+use Rattle.loops.proofs.Loops.{count-next}
+use Rattle.estimates.specs.Values.{valueAt, presentAt}
+use Rattle.agreement.specs.Values.{spansAt, acceptedAt, enoughAt, Remembered}
 
 pub held-small : (a b far h : ℕ) → h ≡ bit (leb a b && leb b (a + far)) → h ≤ 1
 held-small a b far h e = let l = bit-le-one (leb a b && leb b (a + far)) in omega arith
@@ -100,10 +87,6 @@ count-grows p m (suc n) h =
     (λ l. let ih = count-grows p m n (native.Mathlib.Nat.le-of-suc-le-suc l) in omega arith)
     (λ e. rw e (le-refl (count p n + bit (p n))))
     (split-last m (suc n) (suc-le-suc h))
-
-pub count-next : (p : ℕ → Bool) (n : ℕ) → count p (n + 1) ≡ count p n + bit (p n)
-unfolding count
-count-next p n = rw (add-one n)
 
 -- ---- acceptance, start by start
 

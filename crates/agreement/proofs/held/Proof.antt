@@ -4,7 +4,8 @@ use borrow.Author.Needs.{needs}
 use mathlib.Core.Path.{ap, _∙_}
 use lib.Dec.{leb}
 use Rattle.arithmetic.specs.Counting.{bit}
-use Rattle.agreement.proofs.Spans.{flag, wrapped}
+use Rattle.loops.proofs.Loops.{flag}
+use Rattle.agreement.proofs.Spans.{wrapped}
 use native.Mathlib.Omega.{arith}
 use Rattle.agreement.proofs.held.Statement.{statement}
 use Rattle.agreement.proofs.held.Tie as tie

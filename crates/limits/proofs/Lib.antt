@@ -1,0 +1,4 @@
+pub mod Extremes
+pub mod Means
+pub mod Acceptance
+pub mod Ranks

@@ -1,0 +1,81 @@
+-- Quotients rounded up, and the mean of n numbers to the nearest, a half going up: how it moves with the sum.
+-- Assumes nothing.
+use mathlib.Core.Path.{_≡_, refl, sym, ap, _∙_, subst}
+use Prim.Native.Nat.{ℕ, zero, suc, _+_, _*_, _-_, _/_, _≤_, _<_}
+use native.Mathlib.Nat.{div-mul-le-self, lt-div-mul-add, add-mul-div-right, div-eq-of-lt, mul-comm, mul-assoc, mul-le-mul-right, add-mul}
+use native.Mathlib.Omega.{arith}
+use Rattle.arithmetic.proofs.Division.{div-mono}
+use Rattle.model.specs.Planner.{ceilDiv}
+use Rattle.rounds.proofs.Shifted.{mean-nat}
+
+pub ceil-div-covers : (b n : ℕ) → 0 < n → b ≤ ceilDiv b n * n
+unfolding ceilDiv
+ceil-div-covers b n h = omega (arith, lt-div-mul-add {a = b + (n - 1)} h)
+
+pub ceil-div-mono : {a b : ℕ} (n : ℕ) → 0 < n → a ≤ b → ceilDiv a n ≤ ceilDiv b n
+unfolding ceilDiv
+ceil-div-mono n h l = div-mono n h (omega arith)
+
+module _ (n : ℕ) (some-n : 0 < n) where
+  twice-pos : 0 < 2 * n
+  twice-pos = omega arith
+
+  pub record MeanOf (s : ℕ) : Type 0 where
+    pub below : 2 * n * mean-nat n s ≤ 2 * s + n
+    pub above : 2 * s + n < 2 * n * mean-nat n s + 2 * n
+
+  -- the mean is nearest to s / n
+  pub mean-nearest : (s : ℕ) → MeanOf s
+  unfolding mean-nat
+  mean-nearest s =
+      let c = mul-comm (2 * n) ((s + s + n) / (2 * n)) in
+      let l = div-mul-le-self (s + s + n) (2 * n) in
+      let u = lt-div-mul-add {a = s + s + n} twice-pos in
+      record { below = omega arith; above = omega arith }
+
+  pub mean-mono : {a b : ℕ} → a ≤ b → mean-nat n a ≤ mean-nat n b
+  unfolding mean-nat
+  mean-mono l = div-mono (2 * n) twice-pos (omega arith)
+
+  pub mean-shift : (s j : ℕ) → mean-nat n (s + j * n) ≡ mean-nat n s + j
+  unfolding mean-nat
+  mean-shift s j = ap (λ (y : ℕ). y / (2 * n)) moved ∙ add-mul-div-right (s + s + n) j twice-pos
+    where
+      moved : s + j * n + (s + j * n) + n ≡ s + s + n + j * (2 * n)
+      moved =
+          let c = mul-comm j (2 * n) in
+          let a = mul-assoc 2 n j in
+          let d = mul-comm n j in
+          omega arith
+
+  mean-zero : mean-nat n 0 ≡ 0
+  unfolding mean-nat
+  mean-zero = div-eq-of-lt (omega arith)
+
+  -- the mean of n equal numbers
+  pub mean-const : (j : ℕ) → mean-nat n (n * j) ≡ j
+  mean-const j =
+      let c : n * j ≡ 0 + j * n = omega (arith, mul-comm n j) in
+      let d = ap (mean-nat n) c in
+      omega (arith, mean-shift 0 j, mean-zero)
+
+  pub mean-upper : (s j : ℕ) → s ≤ n * j → mean-nat n s ≤ j
+  mean-upper s j l =
+      let c = mean-const j in
+      let d = mean-mono l in
+      omega arith
+
+  pub mean-lower : (s j : ℕ) → n * j ≤ s → j ≤ mean-nat n s
+  mean-lower s j l =
+      let c = mean-const j in
+      let d = mean-mono l in
+      omega arith
+
+  -- sums that differ by at most b have means that differ by at most b / n, rounded up
+  pub mean-close : (s u b : ℕ) → s ≤ u + b → mean-nat n s ≤ mean-nat n u + ceilDiv b n
+  mean-close s u b l =
+      let c = ceil-div-covers b n some-n in
+      let k : s ≤ u + ceilDiv b n * n = omega arith in
+      let d = mean-mono k in
+      let e = mean-shift u (ceilDiv b n) in
+      omega arith

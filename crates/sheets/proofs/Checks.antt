@@ -2,7 +2,6 @@
 -- Assumes nothing.
 use mathlib.Core.Bool.{Bool, true, false, not, _&&_}
 use mathlib.Core.List.{List, [], _∷_}
-use mathlib.Core.Logic.{⊎-elim}
 use mathlib.Core.Option.{none}
 use mathlib.Core.Path.{_≡_, refl, sym, ap, _∙_}
 use Prim.Native.Nat.{ℕ, _≤_, _<_}
@@ -11,7 +10,7 @@ use borrow.Author.Tests.{le-ltb, ltb-false, eq-eqb, eqb-true, not-false}
 use lib.Dec.{ltb, eqb}
 use lib.ListN.{length}
 use Rattle.arithmetic.specs.Counting.{lowest}
-use Rattle.arithmetic.proofs.Counting.{lowest-none, lowest-cases}
+use Rattle.arithmetic.proofs.Counting.{lowest-none, lowest-missed}
 use Rattle.model.specs.RoundSheet.{settingsAt, entryCount, sheetLength, markAt, bitsAt}
 use Rattle.model.specs.Refusals.{firstOf, settingsChecks, sheetChecks, entryChecks, tooShort, badLength, noRoom, badMark, badMissing}
 use Rattle.sheets.proofs.Rows.{first-append, next-none-right, none-at, none-left, when-none, entry-none}
@@ -38,14 +37,6 @@ room-passed given wanted h = ltb-false given wanted (when-none (ltb given wanted
 
 -- ---- 8 and 9: the entries
 
--- where a search finds nothing, nothing passes
-none-passes : (p : ℕ → Bool) (n : ℕ) → lowest p n ≡ none → (i : ℕ) → i < n → p i ≡ false
-none-passes p n e =
-    ⊎-elim
-    (λ w. absurd (let z : _≡_ {A = ℕ} 0 1 = cc (e, w .1) in omega arith))
-    (λ w. w .1)
-    (lowest-cases p n)
-
 module _ (mark : ℕ → ℕ) (E : ℕ) where
   pub marks-pass : ((e : ℕ) → e < E → mark e ≤ 1) → badMark mark E ≡ none
   unfolding badMark
@@ -54,7 +45,7 @@ module _ (mark : ℕ → ℕ) (E : ℕ) where
   pub marks-passed : badMark mark E ≡ none → (e : ℕ) → e < E → mark e ≤ 1
   unfolding badMark
   marks-passed h e l =
-      ltb-false 1 (mark e) (none-passes (λ i. ltb 1 (mark i)) E (entry-none (lowest (λ i. ltb 1 (mark i)) E) 8 h) e l)
+      ltb-false 1 (mark e) (lowest-missed (λ i. ltb 1 (mark i)) E (entry-none (lowest (λ i. ltb 1 (mark i)) E) 8 h) e l)
 
   module _ (bits : ℕ → ℕ) where
     zero-missing : (e : ℕ) → (mark e ≡ 0 → bits e ≡ 0) → (eqb (mark e) 0 && not (eqb (bits e) 0)) ≡ false
@@ -75,7 +66,7 @@ module _ (mark : ℕ → ℕ) (E : ℕ) where
         eqb-true (bits e) 0
         (not-false (eqb (bits e) 0)
         (ap (λ (b : Bool). b && not (eqb (bits e) 0)) (sym (eq-eqb (mark e) 0 m))
-        ∙ none-passes (λ i. eqb (mark i) 0 && not (eqb (bits i) 0)) E
+        ∙ lowest-missed (λ i. eqb (mark i) 0 && not (eqb (bits i) 0)) E
         (entry-none (lowest (λ i. eqb (mark i) 0 && not (eqb (bits i) 0)) E) 9 h) e l))
 
 -- ---- a whole sheet

@@ -4,13 +4,14 @@ use mathlib.Core.List.{List}
 use mathlib.Core.Option.{none}
 use mathlib.Core.Path.{_≡_, sym, ap, ap₂, _∙_, subst}
 use Prim.Native.Nat.{ℕ, _≤_, _<_}
+use native.Mathlib.Nat.{le-of-eq}
 use lib.IntN.{ℤ, pos}
 use lib.ListN.{length, getD, take}
 use mir.Syntax.{w32}
 use mir.Val.{SFits, toZ, ofZ}
 use mir.Facts.{toZ-ofZ}
 use Rattle.arithmetic.specs.Writing.{overwrite}
-use Rattle.arithmetic.proofs.Writing.{length-table, take-overwrite}
+use Rattle.arithmetic.proofs.Writing.{length-table, take-overwrite, overwrite-whole}
 use Rattle.model.specs.declared.Settings.{Settings}
 use Rattle.model.specs.RoundSheet.{byte, settingsAt, entryCount, sheetLength, markAt, bitsAt, sheetBytes}
 use Rattle.model.specs.Refusals.{firstOf, settingsChecks, sheetChecks, entryChecks, readChecks, writeChecks, noRoom}
@@ -74,6 +75,13 @@ module _ (c : Settings) (marks : List ℕ) (readings : List ℤ) (buffer : List 
   pub write-room : firstOf (writeChecks c marks readings buffer) ≡ none → sheetLength c ≤ length buffer
   unfolding writeChecks settingsChecks
   write-room h = room-passed (length buffer) (sheetLength c) (none-at (writeChecks c marks readings buffer) h 6)
+
+-- the writer fills a buffer of just the sheet's length with the sheet
+pub write-fills : (c : Settings) (marks : List ℕ) (readings : List ℤ) (buffer : List ℕ) → WellFormed c marks readings → length buffer ≡ sheetLength c → write c marks readings buffer ≡ record { verdict = granted (sheetLength c); buffer = sheetBytes c marks readings }
+write-fills c marks readings buffer w long =
+    write-grants c marks readings buffer (write-passes c marks readings buffer w (le-of-eq (sym long)))
+    ∙ ap (λ (b : List ℕ). record { verdict = granted (sheetLength c); buffer = b })
+    (overwrite-whole (sheetBytes c marks readings) buffer (le-of-eq (long ∙ sym (length-back c marks readings w))))
 
 -- ---- what is written reads back
 

@@ -6,6 +6,7 @@ use mathlib.Core.Bool.{Bool, true, false, not, cond}
 use mathlib.Core.Logic.{_⊎_, inl, inr, ⊎-elim}
 use mathlib.Core.Path.{_≡_, refl, sym, ap, _∙_, subst, subst⁻¹}
 use Prim.Native.Nat.{ℕ, _+_, _*_, _-_, _/_, _%_, _≤_, _<_}
+use native.Mathlib.Nat.{div-lt-iff-lt-mul}
 use native.Mathlib.Omega.{arith}
 use lib.Arith.{digits-div, digits-mod}
 use lib.Dec.{eqb}
@@ -18,8 +19,8 @@ use Rattle.crusaders.proofs.Decision.{decide-ext}
 use Rattle.crusaders.proofs.Equality.{present-inj, missing-present}
 use Rattle.crusaders.proofs.Rows.{faults, held-read, held-read-or-not, read-alike, read-direct, read-decided, read-all}
 use Rattle.model.specs.declared.Settings.{Settings}
-use Rattle.model.specs.Ensemble.{Reading, missing, present, Readings}
-use Rattle.model.specs.RoundSheet.{cca}
+use Rattle.model.specs.Ensemble.{Reading, missing, present, Readings, ticks}
+use Rattle.model.specs.RoundSheet.{cca, entryCount}
 use Rattle.model.specs.Planner.{withWindow}
 use Rattle.model.specs.Steps.{decide, decidedReading, readingsOf}
 use Rattle.guarantee.specs.Guarantee.{IsReading, Station, Sends, Allowed, State, heard, entryOf}
@@ -100,6 +101,10 @@ module _ (st : Station) (now : State) (x : Sends) where
   is-reading-present : (z : ℤ) (y : Reading) → y ≡ present z → IsReading y → SFits w32 z
   is-reading-present z y e i = subst IsReading e i
 
+  ticks-fit : (y : Reading) → IsReading y → SFits w32 (ticks y)
+  ticks-fit missing i = record { sfits = omega arith }
+  ticks-fit (present z) i = i
+
   is-reading-cond : (b : Bool) (y z : Reading) → (b ≡ true → IsReading y) → (b ≡ false → IsReading z) → IsReading (cond b y z)
   is-reading-cond true y z f g = f refl
   is-reading-cond false y z f g = g refl
@@ -125,3 +130,16 @@ module _ (st : Station) (now : State) (x : Sends) where
             read-all (SFits w32) (st .settings .n - st .settings .m) (st .settings .n) (copies p r) z (omega arith)
             (λ s a k q. is-reading-present a (copies p r s) q (copies-reading p r s l))
             e
+
+    -- the entries of p's sheet
+    entry-reading : (p e : ℕ) → e < entryCount (st .settings) → 0 < st .settings .n → IsReading (entryOf st now x p e)
+    unfolding entryOf entryCount
+    entry-reading p e l some =
+        is-reading-cond (eqb (st .settings .rule) cca)
+        (copies p (e / st .settings .n) (e % st .settings .n))
+        (heard st now x e p)
+        (λ b. copies-reading p (e / st .settings .n) (e % st .settings .n) (div-lt-iff-lt-mul some .1 (rw b at l)))
+        (λ b. heard-reading e p (rw b at l))
+
+    pub entry-fits : (p e : ℕ) → e < entryCount (st .settings) → 0 < st .settings .n → SFits w32 (ticks (entryOf st now x p e))
+    entry-fits p e l some = ticks-fit (entryOf st now x p e) (entry-reading p e l some)

@@ -1,16 +1,16 @@
--- Among the indices below n that pass a test, one with the least number and one with the greatest; and what two tests count apart.
+-- Among the indices below n that pass a test, one has the least number and one the greatest.
 -- Assumes nothing.
-use mathlib.Core.Bool.{Bool, true, false, not, _&&_}
+use mathlib.Core.Bool.{Bool, true, false}
 use mathlib.Core.Logic.{_⊎_, inl, inr, ⊎-elim}
-use mathlib.Core.Path.{_≡_, refl, sym, ap, _∙_}
+use mathlib.Core.Path.{_≡_, refl, ap, _∙_}
 use Prim.Native.Nat.{ℕ, zero, suc, _+_, _≤_, _<_}
 use native.Mathlib.Nat.{le-trans, le-step, lt-suc-self, not-suc-le-zero, eq-zero-or-pos}
 use native.Mathlib.Omega.{arith}
 use lib.Dec.{leb}
 use borrow.Author.Tests.{leb-true, leb-false}
 use Rattle.arithmetic.specs.Counting.{bit, count}
-use Rattle.arithmetic.proofs.Bools.{both-ways, clash, and-right}
-use Rattle.arithmetic.proofs.Counting.{split-last, count-mono, count-pos}
+use Rattle.arithmetic.proofs.Bools.{both-ways, clash}
+use Rattle.arithmetic.proofs.Counting.{split-last, count-pos}
 
 -- an index below n that passes p, and whose number comes before those of all others in the order R
 pub record Extreme (R : ℕ → ℕ → Type 0) (p : ℕ → Bool) (x : ℕ → ℕ) (n : ℕ) : Type 0 where

@@ -5,6 +5,7 @@ use Prim.Native.Nat.{ℕ, zero, suc, _+_, _*_, _-_, _/_, _≤_, _<_}
 use native.Mathlib.Nat.{div-mul-le-self, lt-div-mul-add, add-mul-div-right, div-eq-of-lt, mul-comm, mul-assoc, mul-le-mul-right, add-mul}
 use native.Mathlib.Omega.{arith}
 use Rattle.arithmetic.proofs.Division.{div-mono}
+use Rattle.arithmetic.proofs.Sums.{total, total-mono, total-add, total-const, total-scale}
 use Rattle.model.specs.Planner.{ceilDiv}
 use Rattle.rounds.proofs.Shifted.{mean-nat}
 
@@ -79,3 +80,43 @@ module _ (n : ℕ) (some-n : 0 < n) where
       let d = mean-mono k in
       let e = mean-shift u (ceilDiv b n) in
       omega arith
+
+  -- numbers that stray by d times w from others: their means stray by at most the sum of d times w, over n, rounded up
+  module _ (w : ℕ) (d : ℕ → ℕ) (most : ℕ) (sums : total d n ≤ most) where
+    total-close : (f g : ℕ → ℕ) → ((i : ℕ) → i < n → f i ≤ g i + d i * w) → total f n ≤ total g n + most * w
+    total-close f g h =
+        let a = total-mono f (λ i. g i + d i * w) n h in
+        let b = total-add g (λ i. d i * w) n in
+        let c = total-scale d w n in
+        let e = mul-le-mul-right w sums in
+        omega arith
+
+    pub mean-stray : (f g : ℕ → ℕ) → ((i : ℕ) → i < n → f i ≤ g i + d i * w) → mean-nat n (total f n) ≤ mean-nat n (total g n) + ceilDiv (most * w) n
+    mean-stray f g h = mean-close (total f n) (total g n) (most * w) (total-close f g h)
+
+    pub mean-stray-above : (f : ℕ → ℕ) (a : ℕ) → ((i : ℕ) → i < n → f i ≤ a + d i * w) → mean-nat n (total f n) ≤ a + ceilDiv (most * w) n
+    mean-stray-above f a h =
+        let s = mean-stray f (λ _. a) h in
+        let e = ap (mean-nat n) (total-const a n) in
+        omega (arith, mean-const a)
+
+    pub mean-stray-below : (f : ℕ → ℕ) (a c : ℕ) → ((i : ℕ) → i < n → a ≤ f i + c + d i * w) → a ≤ mean-nat n (total f n) + c + ceilDiv (most * w) n
+    mean-stray-below f a c h =
+        let s = mean-stray (λ _. a) (λ i. f i + c) h in
+        let e = ap (mean-nat n) (total-const a n) in
+        let t : total (λ i. f i + c) n ≡ total f n + c * n = omega (arith, total-add f (λ _. c) n, total-const c n, mul-comm c n) in
+        let u = ap (mean-nat n) t in
+        omega (arith, mean-const a, mean-shift (total f n) c)
+
+  -- the mean of numbers between two bounds lies between them
+  pub mean-above : (f : ℕ → ℕ) (a : ℕ) → ((i : ℕ) → i < n → a ≤ f i) → a ≤ mean-nat n (total f n)
+  mean-above f a h =
+      let t = total-mono (λ _. a) f n h in
+      let c = total-const a n in
+      mean-lower (total f n) a (omega arith)
+
+  pub mean-below : (f : ℕ → ℕ) (b : ℕ) → ((i : ℕ) → i < n → f i ≤ b) → mean-nat n (total f n) ≤ b
+  mean-below f b h =
+      let t = total-mono f (λ _. b) n h in
+      let c = total-const b n in
+      mean-upper (total f n) b (omega arith)

@@ -1,3 +1,4 @@
 pub mod Distances
 pub mod Entries
 pub mod Link
+pub mod Received

@@ -2,3 +2,5 @@ pub mod Distances
 pub mod Entries
 pub mod Link
 pub mod Received
+pub mod Round
+pub mod Guarantee

@@ -59,10 +59,10 @@ module _ (st : Station) (begins : Start st) (truth : ℤ) where
     closes : Close st truth now x
     closes =
         record {
-          unrefused = λ p l s. round-unrefused st good truth now x stand allowed few p;
+          unrefused = λ p s. round-unrefused st good truth now x stand allowed few p;
           steps = steps ∙ ap granted (sym (next-plan now x steps));
-          precise = λ p q lp lq sp sq. precise p q;
-          accurate = λ p l s. accurate p
+          precise = λ p q sp sq. precise p q;
+          accurate = λ p s. accurate p;
         }
 
     -- "After round one all sound cabinets are good for the new limits"
@@ -75,11 +75,12 @@ module _ (st : Station) (begins : Start st) (truth : ℤ) where
           sound = λ p l s. s;
           present = λ p l s. round-present st good truth now x stand allowed few p;
           accurate = λ p l s. accurate p;
-          precise = λ p q lp lq sp sq. precise p q
+          precise = λ p q lp lq sp sq. precise p q;
         }
       where
         advanced : advance (now .plan) .settings ≡ withWindow (now .plan .settings) (advance (now .plan) .settings .window)
         advanced = unfold advance in refl
+
         settings-next : next st now x .plan .settings ≡ withWindow (st .settings) (next st now x .plan .settings .window)
         settings-next =
             subst⁻¹ (λ (p : Plan). p .settings ≡ withWindow (st .settings) (p .settings .window)) (next-plan now x steps)
@@ -92,12 +93,13 @@ module _ (st : Station) (begins : Start st) (truth : ℤ) where
   every (x ∷ xs) good now j l each plan stand few =
       let more : j < 32 = omega arith in
       let rest : suc j + length xs ≤ 32 = omega arith in
-      let steps = plan-steps now x j more plan in
-      ( closes good now x stand (each .0) few steps,
-      every xs (st .sound) (next st now x) (suc j) rest (each .1)
-      (next-plan now x steps ∙ ap advance plan)
-      (stands good now x stand (each .0) few steps)
-      (le-trans (faults-bad st good truth now x stand (each .0)) few))
+      let steps = plan-steps now x j more plan in (
+        closes good now x stand (each .0) few steps,
+        every xs (st .sound) (next st now x) (suc j) rest (each .1)
+            (next-plan now x steps ∙ ap advance plan)
+            (stands good now x stand (each .0) few steps)
+            (le-trans (faults-bad st good truth now x stand (each .0)) few),
+      )
 
   -- the start of a run
   starts : (good : ℕ → Bool) → Good st good truth → Standing st good truth (start st)
@@ -109,15 +111,15 @@ module _ (st : Station) (begins : Start st) (truth : ℤ) where
         sound = g .sound;
         present = g .present;
         accurate = g .accurate;
-        precise = g .precise
+        precise = g .precise;
       }
 
   first : (rounds : List Sends) (good : ℕ → Bool) → Each (Allowed st) rounds → Good st good truth → bad st good < st .settings .n - st .settings .m → First (Wide st (bad st good) truth) (start st) rounds
   first [] good each g many = tt
   first (x ∷ xs) good each g many =
       record {
-        accurate = λ p l s e. wide-accurate st good truth (start st) x (starts good g) (each .0) many p e;
-        precise = λ p q lp lq sp sq ep eq. wide-precise st good truth (start st) x (starts good g) (each .0) many p q ep eq
+        accurate = λ p s e. wide-accurate st good truth (start st) x (starts good g) (each .0) many p e;
+        precise = λ p q sp sq ep eq. wide-precise st good truth (start st) x (starts good g) (each .0) many p q ep eq;
       }
 
 pub guarantee : Demand3
@@ -125,5 +127,5 @@ unfolding after
 guarantee st begins rounds l each good truth g =
     record {
       few = λ few. every st begins truth rounds good (start st) 0 (rw (zero-add (length rounds)) l) each refl (starts st begins truth good g) few;
-      many = λ m<t t<rest. first st begins truth rounds good each g t<rest
+      many = λ m<t t<rest. first st begins truth rounds good each g t<rest;
     }

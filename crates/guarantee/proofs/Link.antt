@@ -51,6 +51,7 @@ readings-local c f g same r l =
   where
     relayed : eqb (c .rule) cca ≡ true → {e : ℕ} → e < c .n * c .n → e < entryCount c
     relayed b h = rw b h
+
     direct : eqb (c .rule) cca ≡ false → r < entryCount c
     direct b = rw b l
 

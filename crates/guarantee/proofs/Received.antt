@@ -62,5 +62,6 @@ module _ (c : Settings) (v : Readings) (reads : (r : ℕ) → r < c .n → IsRea
           (λ r l e. zero-le)
           (λ r l e. let u = up-small (v r) (reads r l) in omega arith)
           .high
+
       below : (a : ℕ) → a ≤ 4_294_967_295 → a < 4_294_967_296
       below a h = omega arith

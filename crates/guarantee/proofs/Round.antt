@@ -118,7 +118,7 @@ module _ (st : Station) (good : ℕ → Bool) (truth : ℤ) (now : State) (x : S
   true-time =
       record {
         above = λ r l e. dist-above far (now .plan .accuracy) (ticks (now .held r)) truth (held-near r l e) truth-near (stand .accurate r l e);
-        below = λ r l e. dist-below far (now .plan .accuracy) (ticks (now .held r)) truth (held-near r l e) truth-near (stand .accurate r l e)
+        below = λ r l e. dist-below far (now .plan .accuracy) (ticks (now .held r)) truth (held-near r l e) truth-near (stand .accurate r l e);
       }
 
   held-here : (r : ℕ) → r < st .settings .n → good r ≡ true → now .held r ≡ present (ticks (now .held r))
@@ -156,7 +156,7 @@ module _ (st : Station) (good : ℕ → Bool) (truth : ℤ) (now : State) (x : S
         record {
           alike = alike few-many p;
           here = λ r l e.
-          ap isPresent (seen-held st now x w planned p r (ticks (now .held r)) (stand .sound r l e) (held-here r l e) (le-trans faults-bad few))
+              ap isPresent (seen-held st now x w planned p r (ticks (now .held r)) (stand .sound r l e) (held-here r l e) (le-trans faults-bad few));
         }
 
     some-accepted : (p : ℕ) → 0 < roundOf c (seen st now x w p) .count
@@ -185,6 +185,7 @@ module _ (st : Station) (good : ℕ → Bool) (truth : ℤ) (now : State) (x : S
       where
         both : valueOf (st .settings .n) (st .settings .m) w (has p) ≤ valueOf (st .settings .n) (st .settings .m) w (has q) + ceilDiv (2 * (st .settings .m * w)) (st .settings .n)
         both = precision-few (st .settings .n) (st .settings .m) w good g few-sheets (has p) (has q) (all-read p) (all-read q)
+
         go : (a : Bool) → eqb (st .settings .rule) cca ≡ a → (b : Bool) → eqb (st .settings .estimator) median ≡ b → valueOf (st .settings .n) (st .settings .m) w (has p) ≤ valueOf (st .settings .n) (st .settings .m) w (has q) + ceilDiv (cond (a && b) 1 2 * (st .settings .m * w)) (st .settings .n)
         go true ea true eb =
             rw (one-mul (st .settings .m * w))
@@ -236,7 +237,7 @@ module _ (st : Station) (good : ℕ → Bool) (truth : ℤ) (now : State) (x : S
     settles p e =
         record {
           alike = alike many p;
-          unrefused = subst (λ (a : ℕ). 0 < a) (received-count c (seen st now x w p) (reads p) far far-enough) (accepted-some p e)
+          unrefused = subst (λ (a : ℕ). 0 < a) (received-count c (seen st now x w p) (reads p) far far-enough) (accepted-some p e);
         }
 
     pub wide-precise : (p q : ℕ) → isPresent (next st now x .held p) ≡ true → isPresent (next st now x .held q) ≡ true → natAbs (ticks (next st now x .held p) -ℤ ticks (next st now x .held q)) ≤ ceilDiv ((st .settings .n + 2 * bad st good + 2 * st .settings .m) * w) (st .settings .n)

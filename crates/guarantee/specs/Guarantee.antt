@@ -13,9 +13,11 @@
 --   Station, Start              what a run starts from, and what must hold of it
 --   Sends, Allowed              what faulty cabinets do in a round, with the answer buffers lent in it
 --   State, heard, entryOf, sheetOf, settled, next    a round, step by step
+--   newValue, Unrefused, Sound, apart    words for the limits
 --   Good, bad                   the good cabinets, and t, the number of the others
 --   Every, First                a claim about every round, and about the first
---   Close, Wide                 the limits for t ≤ m, and for m < t < N-m
+--   closeGap, closeError, Close the limits for t ≤ m
+--   wideGap, wideError, Wide    the limits for m < t < N-m
 --   Guarantee                   both, of one run
 use mathlib.Core.Bool.{Bool, true, not, cond}
 use mathlib.Core.List.{List, [], _∷_}
@@ -131,6 +133,21 @@ next st now x =
       held = λ p. holds (settled st now x p .verdict) (settled st now x p .buffer);
     }
 
+-- p's new value, which it holds after the round unless it was refused
+abbrev pub newValue : Station → State → Sends → ℕ → ℤ
+newValue st now x p = ticks (next st now x .held p)
+
+abbrev pub Unrefused : Station → State → Sends → ℕ → Type 0
+Unrefused st now x p = isPresent (next st now x .held p) ≡ true
+
+-- p is one of the N, and sound
+abbrev pub Sound : Station → ℕ → Type 0
+Sound st p = (p < st .settings .n) × (st .sound p ≡ true)
+
+-- how far two whole numbers are apart
+abbrev pub apart : ℤ → ℤ → ℕ
+apart a b = natAbs (a -ℤ b)
+
 -- ---- The good cabinets
 
 -- "The good cabinets are any set of sound ones whose first readings are present, within κ of one whole true value, the same all
@@ -138,8 +155,8 @@ next st now x =
 pub record Good (st : Station) (good : ℕ → Bool) (true-value : ℤ) : Type 0 where
   pub sound : (p : ℕ) → p < st .settings .n → good p ≡ true → st .sound p ≡ true
   pub present : (p : ℕ) → p < st .settings .n → good p ≡ true → isPresent (st .first p) ≡ true
-  pub accurate : (p : ℕ) → p < st .settings .n → good p ≡ true → natAbs (ticks (st .first p) -ℤ true-value) ≤ st .accuracy
-  pub precise : (p q : ℕ) → p < st .settings .n → q < st .settings .n → good p ≡ true → good q ≡ true → natAbs (ticks (st .first p) -ℤ ticks (st .first q)) ≤ st .settings .window
+  pub accurate : (p : ℕ) → p < st .settings .n → good p ≡ true → apart (ticks (st .first p)) true-value ≤ st .accuracy
+  pub precise : (p q : ℕ) → p < st .settings .n → q < st .settings .n → good p ≡ true → good q ≡ true → apart (ticks (st .first p)) (ticks (st .first q)) ≤ st .settings .window
 
 -- t: "The other t cabinets are bad"
 abbrev pub bad : Station → (ℕ → Bool) → ℕ
@@ -157,18 +174,31 @@ abbrev pub First : (State → Sends → Type 0) → State → List Sends → Typ
 First Claim now [] = Unit {0}
 First Claim now (x ∷ xs) = Claim now x
 
+-- "the next window", and "the planned accuracy", of the plan that goes one round forward
+abbrev pub closeGap : Station → State → Sends → ℕ
+closeGap st now x = next st now x .plan .settings .window
+
+abbrev pub closeError : Station → State → Sends → ℕ
+closeError st now x = next st now x .plan .accuracy
+
 -- t ≤ m: "no sound cabinet and no step of the plan refuses, and after each round any two sound cabinets' new values differ by no more
 -- than the next window and each strays from true time by no more than the planned accuracy"
 pub record Close (st : Station) (true-value : ℤ) (now : State) (x : Sends) : Type 0 where
-  pub unrefused : (p : ℕ) → p < st .settings .n → st .sound p ≡ true → settled st now x p .verdict ≡ granted (answerLength (st .settings .n))
+  pub unrefused : (p : ℕ) → Sound st p → settled st now x p .verdict ≡ granted (answerLength (st .settings .n))
   pub steps : step (now .plan) ≡ granted (next st now x .plan)
-  pub precise : (p q : ℕ) → p < st .settings .n → q < st .settings .n → st .sound p ≡ true → st .sound q ≡ true → natAbs (ticks (next st now x .held p) -ℤ ticks (next st now x .held q)) ≤ next st now x .plan .settings .window
-  pub accurate : (p : ℕ) → p < st .settings .n → st .sound p ≡ true → natAbs (ticks (next st now x .held p) -ℤ true-value) ≤ next st now x .plan .accuracy
+  pub precise : (p q : ℕ) → Sound st p → Sound st q → apart (newValue st now x p) (newValue st now x q) ≤ closeGap st now x
+  pub accurate : (p : ℕ) → Sound st p → apart (newValue st now x p) true-value ≤ closeError st now x
 
 -- m < t < N-m, first round: "an unrefused value is within κ + ⌈(m+t)δ/N⌉ of true, and two differ by at most ⌈(N+2t+2m)δ/N⌉"
+abbrev pub wideError : Station → ℕ → ℕ
+wideError st t = st .accuracy + ceilDiv ((st .settings .m + t) * st .settings .window) (st .settings .n)
+
+abbrev pub wideGap : Station → ℕ → ℕ
+wideGap st t = ceilDiv ((st .settings .n + 2 * t + 2 * st .settings .m) * st .settings .window) (st .settings .n)
+
 pub record Wide (st : Station) (t : ℕ) (true-value : ℤ) (now : State) (x : Sends) : Type 0 where
-  pub accurate : (p : ℕ) → p < st .settings .n → st .sound p ≡ true → isPresent (next st now x .held p) ≡ true → natAbs (ticks (next st now x .held p) -ℤ true-value) ≤ st .accuracy + ceilDiv ((st .settings .m + t) * st .settings .window) (st .settings .n)
-  pub precise : (p q : ℕ) → p < st .settings .n → q < st .settings .n → st .sound p ≡ true → st .sound q ≡ true → isPresent (next st now x .held p) ≡ true → isPresent (next st now x .held q) ≡ true → natAbs (ticks (next st now x .held p) -ℤ ticks (next st now x .held q)) ≤ ceilDiv ((st .settings .n + 2 * t + 2 * st .settings .m) * st .settings .window) (st .settings .n)
+  pub accurate : (p : ℕ) → Sound st p → Unrefused st now x p → apart (newValue st now x p) true-value ≤ wideError st t
+  pub precise : (p q : ℕ) → Sound st p → Sound st q → Unrefused st now x p → Unrefused st now x q → apart (newValue st now x p) (newValue st now x q) ≤ wideGap st t
 
 -- ---- The statement
 

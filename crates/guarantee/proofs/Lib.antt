@@ -1,3 +1,5 @@
+pub mod Tested
+pub mod Witnesses
 pub mod Distances
 pub mod Entries
 pub mod Link

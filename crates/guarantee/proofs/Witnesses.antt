@@ -75,7 +75,7 @@ direct-meets = meets-tested _ _ _ _ _ _ _ (unfold computed in (refl, refl, refl,
 
 pub direct-rounds : DirectRounds
 unfolding computed directStation directFirst directSecond directNext
-direct-rounds = record { meets = direct-meets; counts = refl; first = refl; second = refl; widest = refl; else = refl }
+direct-rounds = record { meets = direct-meets; counts = refl; first = refl; second = refl; widest = refl; repeated = refl }
 
 crusaders-meets : Meets crusadersStation (crusadersFirst ∷ crusadersSecond ∷ []) (below 3) (pos 0)
 unfolding crusadersStation crusadersFirst crusadersSecond
@@ -83,4 +83,4 @@ crusaders-meets = meets-tested _ _ _ _ _ _ _ (unfold computed in (refl, refl, re
 
 pub crusaders-rounds : CrusadersRounds
 unfolding computed crusadersStation crusadersFirst crusadersSecond crusadersNext
-crusaders-rounds = record { meets = crusaders-meets; counts = refl; first = refl; second = refl; else = refl }
+crusaders-rounds = record { meets = crusaders-meets; counts = refl; first = refl; widest = refl; second = refl; repeated = refl }

@@ -190,7 +190,7 @@ pub record DirectRounds : Type 0 where
   -- 25
   pub widest : gap directStation directNext directSecond 0 1 ≡ closeGap directStation directNext directSecond
   -- cabinet 2 would accept the 90, and be 35 from cabinet 0
-  pub else : heldAfter directStation (unstepped directStation directNext) directSecond 3 ≡ minus 12 ∷ at 13 ∷ at 23 ∷ []
+  pub repeated : heldAfter directStation (unstepped directStation directNext) directSecond 3 ≡ minus 12 ∷ at 13 ∷ at 23 ∷ []
 
 -- CCA with median: N 4, m 1, windows 100, 25, 7, κ 0; cabinets 0, 1, 2 are good and read 0, which is true time; 3 is faulty
 unfoldable pub crusadersStation : Station
@@ -212,6 +212,8 @@ pub record CrusadersRounds : Type 0 where
   pub meets : Meets crusadersStation (crusadersFirst ∷ crusadersSecond ∷ []) (below 3) (pos 0)
   pub counts : bad crusadersStation (below 3) ≡ 1
   pub first : table (crusadersNext .held) 3 ≡ at 25 ∷ at 0 ∷ at 0 ∷ []
+  -- 25
+  pub widest : gap crusadersStation (start crusadersStation) crusadersFirst 0 1 ≡ closeGap crusadersStation (start crusadersStation) crusadersFirst
   pub second : heldAfter crusadersStation crusadersNext crusadersSecond 3 ≡ at 6 ∷ at 6 ∷ at 6 ∷ []
   -- cabinet 1 would accept the 50, and be 13 from the others, where the limit is 7
-  pub else : heldAfter crusadersStation (unstepped crusadersStation crusadersNext) crusadersSecond 3 ≡ at 6 ∷ at 19 ∷ at 6 ∷ []
+  pub repeated : heldAfter crusadersStation (unstepped crusadersStation crusadersNext) crusadersSecond 3 ≡ at 6 ∷ at 19 ∷ at 6 ∷ []

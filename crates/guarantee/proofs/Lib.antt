@@ -7,3 +7,4 @@ pub mod Received
 pub mod Round
 pub mod Guarantee
 pub mod Regulator
+pub mod Sanity

@@ -1,29 +1,28 @@
--- The regulator's case follows from `guarantee`: its limits at N 7, m 2 and t 3, and the plans that its steps hand on, in numbers.
+-- The regulator's case follows from `guarantee`: its limits at N 7, m 2 and t 3, and the plans that its steps hand on, in
+-- numbers.
 -- Assumes nothing.
 use mathlib.Core.Bool.{Bool, true, false, cond, _&&_}
 use mathlib.Core.List.{List, [], _∷_}
-use mathlib.Core.Logic.{⊎-elim}
 use mathlib.Core.Option.{none, some}
-use mathlib.Core.Path.{_≡_, refl, sym, ap, ap₂, _∙_, subst, subst⁻¹}
-use Prim.Native.Nat.{ℕ, zero, suc, _+_, _*_, _-_, _≤_, _<_}
-use native.Mathlib.Nat.{le-trans, mul-assoc, one-mul}
+use mathlib.Core.Path.{_≡_, refl, sym, ap, ap₂, _∙_}
+use Prim.Native.Nat.{ℕ, zero, suc, _+_, _*_}
+use native.Mathlib.Nat.{mul-assoc}
 use native.Mathlib.Omega.{arith}
 use lib.Dec.{eqb}
 use lib.IntN.{ℤ}
-use lib.ListN.{length}
-use Rattle.arithmetic.proofs.Bools.{both-ways}
-use Rattle.model.specs.declared.Settings.{Settings}
 use Rattle.model.specs.RoundSheet.{cca, median}
 use Rattle.model.specs.AnswerSheet.{answerLength}
 use Rattle.model.specs.Planner.{Plan, ceilDiv, windowFactor, nextWindow, growth, withWindow, planFrom, advance, after}
 use Rattle.model.specs.Refusals.{Row, firstOf, stepChecks}
-use Rattle.model.specs.Calls.{Verdict, granted, refused, verdict, step}
+use Rattle.model.specs.Calls.{granted, verdict, step}
 use Rattle.planning.proofs.Rounds.{settings-after}
-use Rattle.guarantee.specs.Guarantee.{Station, Start, Sends, Allowed, Each, State, start, next, Good, bad, Every, First, Close, Wide, wideGap, wideError, Guarantee}
-use Rattle.guarantee.specs.Regulator.{SevenPlannedForTwo, ThreeBad, sevenths, windowOf, accuracyOf, AtMostTwoBad, EveryNumbered, Regulators, RegulatorsCase}
+use Rattle.guarantee.specs.Guarantee.{Station, δ, κ, Sends, State, start, next, Every, First, Close, Wide, wideGap, wideError}
+use Rattle.guarantee.specs.Guarantee.{Guarantee}
+use Rattle.guarantee.specs.Regulator.{SevenPlannedForTwo, ThreeBad, sevenths, windowOf, accuracyOf, AtMostTwoBad}
+use Rattle.guarantee.specs.Regulator.{EveryNumbered, RegulatorsCase}
 use Rattle.guarantee.proofs.Guarantee.{guarantee}
 
--- a step that is granted hands on the next plan
+-- a step that is granted hands on the plan one round on
 step-advances : (p q : Plan) → step p ≡ granted q → q ≡ advance p
 unfolding step
 step-advances p q e = go (firstOf (stepChecks p)) e
@@ -33,8 +32,13 @@ step-advances p q e = go (firstOf (stepChecks p)) e
     go (some r) h = cc
 
 module _ (st : Station) (seven : SevenPlannedForTwo st) where
-  -- the planner's windows and accuracies
-  share : windowFactor (st .settings) * 2 ≡ sevenths (st .settings)
+  -- ---- the planner's windows and accuracies
+
+  -- the planner's plan after k rounds
+  abbrev planned : ℕ → Plan
+  planned k = after k (planFrom (st .settings) (κ st))
+
+  share : windowFactor (st .settings) * 2 ≡ sevenths st
   unfolding windowFactor sevenths
   share = go (eqb (st .settings .rule) cca && eqb (st .settings .estimator) median)
     where
@@ -42,7 +46,7 @@ module _ (st : Station) (seven : SevenPlannedForTwo st) where
       go true = refl
       go false = refl
 
-  next-of : (w : ℕ) → nextWindow (withWindow (st .settings) w) ≡ ceilDiv (sevenths (st .settings) * w) 7
+  next-of : (w : ℕ) → nextWindow (withWindow (st .settings) w) ≡ ceilDiv (sevenths st * w) 7
   unfolding nextWindow windowFactor sevenths
   next-of w =
       rw (seven .seven, seven .two)
@@ -52,46 +56,55 @@ module _ (st : Station) (seven : SevenPlannedForTwo st) where
   unfolding growth
   growth-of w = rw (seven .seven, seven .two)
 
-  window-after : (k : ℕ) → after k (planFrom (st .settings) (st .accuracy)) .settings .window ≡ windowOf (st .settings) k
+  window-after : (k : ℕ) → planned k .settings .window ≡ windowOf st k
   unfolding after advance windowOf
   window-after zero = refl
   window-after (suc k) =
-      ap nextWindow (settings-after k (planFrom (st .settings) (st .accuracy)))
-      ∙ next-of (after k (planFrom (st .settings) (st .accuracy)) .settings .window)
-      ∙ ap (λ (w : ℕ). ceilDiv (sevenths (st .settings) * w) 7) (window-after k)
+      ap nextWindow (settings-after k (planFrom (st .settings) (κ st)))
+      ∙ next-of (planned k .settings .window)
+      ∙ ap (λ (w : ℕ). ceilDiv (sevenths st * w) 7) (window-after k)
 
-  accuracy-after : (k : ℕ) → after k (planFrom (st .settings) (st .accuracy)) .accuracy ≡ accuracyOf (st .settings) (st .accuracy) k
+  accuracy-after : (k : ℕ) → planned k .accuracy ≡ accuracyOf st k
   unfolding after advance accuracyOf
   accuracy-after zero = refl
   accuracy-after (suc k) =
       ap₂ _+_ (accuracy-after k)
-      (ap growth (settings-after k (planFrom (st .settings) (st .accuracy)))
-      ∙ growth-of (after k (planFrom (st .settings) (st .accuracy)) .settings .window)
+      (ap growth (settings-after k (planFrom (st .settings) (κ st)))
+      ∙ growth-of (planned k .settings .window)
       ∙ ap (λ (w : ℕ). ceilDiv (2 * w) 7) (window-after k))
 
   module _ (truth : ℤ) where
-    -- every round of a list, where the plan is the planner's
-    numbered : (rounds : List Sends) (k : ℕ) (now : State) → now .plan ≡ after k (planFrom (st .settings) (st .accuracy)) → Every st (Close st truth) now rounds → EveryNumbered st (AtMostTwoBad st truth) k now rounds
+    -- ---- every round of a list, where the plan is the planner's
+
+    numbered :
+        (rounds : List Sends) (k : ℕ) (now : State) → now .plan ≡ planned k
+        → Every st (Close st truth) now rounds → EveryNumbered st (AtMostTwoBad st truth) k now rounds
     unfolding after
     numbered [] k now plan every = tt
     numbered (x ∷ xs) k now plan (close, rest) =
-        let planned : next st now x .plan ≡ after (suc k) (planFrom (st .settings) (st .accuracy)) = step-advances (now .plan) (next st now x .plan) (close .steps) ∙ ap advance plan in (
+        let later : next st now x .plan ≡ planned (suc k) =
+        step-advances (now .plan) (next st now x .plan) (close .steps) ∙ ap advance plan in
+        let window : next st now x .plan .settings .window ≡ windowOf st (suc k) =
+        ap (λ (p : Plan). p .settings .window) later ∙ window-after (suc k) in
+        let accuracy : next st now x .plan .accuracy ≡ accuracyOf st (suc k) =
+        ap (λ (p : Plan). p .accuracy) later ∙ accuracy-after (suc k) in (
           record {
             plan = plan;
             window = ap (λ (p : Plan). p .settings .window) plan ∙ window-after k;
             accuracy = ap (λ (p : Plan). p .accuracy) plan ∙ accuracy-after k;
             unrefused = λ p s. close .unrefused p s ∙ ap (λ (n : ℕ). granted (answerLength n)) (seven .seven);
-            precise = λ p q sp sq. rw (ap (λ (p : Plan). p .settings .window) planned ∙ window-after (suc k)) at (close .precise p q sp sq);
-            accurate = λ p s. rw (ap (λ (p : Plan). p .accuracy) planned ∙ accuracy-after (suc k)) at (close .accurate p s);
+            precise = λ p q sp sq. rw window at (close .precise p q sp sq);
+            accurate = λ p s. rw accuracy at (close .accurate p s);
           },
-          numbered xs (suc k) (next st now x) planned rest,
+          numbered xs (suc k) (next st now x) later rest,
         )
 
-    -- the first round, where three are bad
-    wide-gap : wideGap st 3 ≡ ceilDiv (17 * st .settings .window) 7
+    -- ---- the first round, where three are bad
+
+    wide-gap : wideGap st 3 ≡ ceilDiv (17 * δ st) 7
     wide-gap = rw (seven .seven, seven .two)
 
-    wide-error : wideError st 3 ≡ st .accuracy + ceilDiv (5 * st .settings .window) 7
+    wide-error : wideError st 3 ≡ κ st + ceilDiv (5 * δ st) 7
     wide-error = rw (seven .seven, seven .two)
 
     first : (rounds : List Sends) → First (Wide st 3 truth) (start st) rounds → First (ThreeBad st truth) (start st) rounds
@@ -103,10 +116,15 @@ module _ (st : Station) (seven : SevenPlannedForTwo st) where
         }
 
 pub regulators-case : RegulatorsCase
+unfolding after
 regulators-case st seven begins rounds l each good truth g =
     record {
-      three = λ t. first st seven truth rounds (rw t at (promise .many (rw (t, seven .two) (omega arith)) (rw (t, seven .seven, seven .two) (omega arith))));
-      fewer = λ few. numbered st seven truth rounds 0 (start st) (unfold after in refl) (promise .few (rw (seven .two) few));
+      three =
+          λ t.
+          first st seven truth rounds
+          (rw t at
+          (promise .many (rw (t, seven .two) (omega arith)) (rw (t, seven .seven, seven .two) (omega arith))));
+      fewer = λ few. numbered st seven truth rounds 0 (start st) refl (promise .few (rw (seven .two) few));
     }
   where
     promise : Guarantee st rounds good truth

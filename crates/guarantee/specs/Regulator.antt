@@ -1,16 +1,18 @@
--- The regulator's question: "How far apart can the time stamps of two sound cabinets be when three of the seven clocks at a station
--- lie, each telling every cabinet something else?" The theorem is `regulators-case` of proofs/Regulator.antt, from `guarantee`.
+-- The regulator's question: "How far apart can the time stamps of two sound cabinets be when three of the seven clocks
+-- at a station lie, each telling every cabinet something else?" The theorem is `regulators-case` of
+-- proofs/Regulator.antt, and rests on `guarantee` alone.
 --
--- The answer, for seven cabinets planned for two faults, by either rule with any estimator: where three are bad, sound cabinets that
--- do not refuse are at most ⌈17δ/7⌉ apart after the first round, and each is within κ + ⌈5δ/7⌉ of true; specs/Witnesses.antt has a
--- round in which they are (`WideReached`). Where at most two are bad, none refuses, and after the rounds 1, 2, .. they are at most
--- ⌈4δ/7⌉ apart, then ⌈4/7⌉ of that, and so on; ⌈2δ/7⌉, then ⌈2/7⌉ of that, for CCA with median.
+-- The answer, for seven cabinets planned for two faults, by either rule with any estimator. Where three are bad, two
+-- sound cabinets that do not refuse are at most ⌈17δ/7⌉ apart after the first round, and each is within κ + ⌈5δ/7⌉ of
+-- true; Witnesses.antt has a round in which they are that far (`WideReached`). Where at most two are bad, no sound
+-- cabinet refuses, and after round 1, 2, 3, .. they are at most δ₁, δ₂, δ₃, .. apart, where δ₁ is ⌈4δ/7⌉, δ₂ is ⌈4δ₁/7⌉
+-- and so on (⌈2δ/7⌉, ⌈2δ₁/7⌉, .. for CCA with median), and within κ + ⌈2δ/7⌉, then ⌈2δ₁/7⌉ more, .. of true.
 --
---   SevenPlannedForTwo            the station
+--   SevenPlannedForTwo            the station: N 7 and m 2
 --   ThreeBad                      the first round, where three are bad
 --   windowOf, accuracyOf          the windows and the accuracies, in numbers
 --   AtMostTwoBad, EveryNumbered   every round, where at most two are bad
---   RegulatorsCase                both, for every station, start, list of rounds and good set
+--   Regulators, RegulatorsCase    both, of one run; of every run
 use mathlib.Core.Bool.{Bool, cond, _&&_}
 use mathlib.Core.List.{List, [], _∷_}
 use mathlib.Core.Path.{_≡_}
@@ -18,55 +20,54 @@ use Prim.Native.Nat.{ℕ, zero, suc, _+_, _*_, _≤_}
 use lib.Dec.{eqb}
 use lib.IntN.{ℤ}
 use lib.ListN.{length}
-use Rattle.model.specs.declared.Settings.{Settings}
 use Rattle.model.specs.RoundSheet.{cca, median}
 use Rattle.model.specs.AnswerSheet.{answerLength}
 use Rattle.model.specs.Planner.{ceilDiv, planFrom, after}
 use Rattle.model.specs.Calls.{granted}
-use Rattle.guarantee.specs.Guarantee.{Station, Start, Sends, Allowed, Each, State, start, settled, next, newValue, Unrefused, Sound, apart, Good, bad, First}
+use Rattle.guarantee.specs.Guarantee.{Station, N, m, δ, κ, Start, Sends, Allowed, Each, State, start, settled, next}
+use Rattle.guarantee.specs.Guarantee.{newValue, Unrefused, Sound, apart, Good, bad, First}
 
 pub record SevenPlannedForTwo (st : Station) : Type 0 where
-  pub seven : st .settings .n ≡ 7
-  pub two : st .settings .m ≡ 2
+  pub seven : N st ≡ 7
+  pub two : m st ≡ 2
 
 -- ---- Three bad
 
 pub record ThreeBad (st : Station) (true-value : ℤ) (now : State) (x : Sends) : Type 0 where
   pub precise :
       (p q : ℕ) → Sound st p → Sound st q → Unrefused st now x p → Unrefused st now x q
-      → apart (newValue st now x p) (newValue st now x q) ≤ ceilDiv (17 * st .settings .window) 7
+      → apart (newValue st now x p) (newValue st now x q) ≤ ceilDiv (17 * δ st) 7
   pub accurate :
       (p : ℕ) → Sound st p → Unrefused st now x p
-      → apart (newValue st now x p) true-value ≤ st .accuracy + ceilDiv (5 * st .settings .window) 7
+      → apart (newValue st now x p) true-value ≤ κ st + ceilDiv (5 * δ st) 7
 
 -- ---- At most two bad
 
--- the sevenths of a window that the next one is
-unfoldable pub sevenths : Settings → ℕ
-sevenths c = cond (eqb (c .rule) cca && eqb (c .estimator) median) 2 4
+-- how many sevenths of a window the next one is
+unfoldable pub sevenths : Station → ℕ
+sevenths st = cond (eqb (st .settings .rule) cca && eqb (st .settings .estimator) median) 2 4
 
--- the window after k rounds: δ, ⌈4δ/7⌉, ..
-unfoldable pub windowOf : Settings → ℕ → ℕ
-windowOf c zero = c .window
-windowOf c (suc k) = ceilDiv (sevenths c * windowOf c k) 7
+-- the window after k rounds
+unfoldable pub windowOf : Station → ℕ → ℕ
+windowOf st zero = δ st
+windowOf st (suc k) = ceilDiv (sevenths st * windowOf st k) 7
 
--- the accuracy after k rounds: κ, κ + ⌈2δ/7⌉, ..
-unfoldable pub accuracyOf : Settings → ℕ → ℕ → ℕ
-accuracyOf c κ zero = κ
-accuracyOf c κ (suc k) = accuracyOf c κ k + ceilDiv (2 * windowOf c k) 7
+-- the accuracy after k rounds
+unfoldable pub accuracyOf : Station → ℕ → ℕ
+accuracyOf st zero = κ st
+accuracyOf st (suc k) = accuracyOf st k + ceilDiv (2 * windowOf st k) 7
 
--- a round before which k were done
+-- a round, k rounds being done before it
 pub record AtMostTwoBad (st : Station) (true-value : ℤ) (k : ℕ) (now : State) (x : Sends) : Type 0 where
-  -- the planner's plan after k rounds
-  pub plan : now .plan ≡ after k (planFrom (st .settings) (st .accuracy))
-  pub window : now .plan .settings .window ≡ windowOf (st .settings) k
-  pub accuracy : now .plan .accuracy ≡ accuracyOf (st .settings) (st .accuracy) k
+  -- the plan is the planner's after k rounds, and the round is settled at its window
+  pub plan : now .plan ≡ after k (planFrom (st .settings) (κ st))
+  pub window : now .plan .settings .window ≡ windowOf st k
+  pub accuracy : now .plan .accuracy ≡ accuracyOf st k
   pub unrefused : (p : ℕ) → Sound st p → settled st now x p .verdict ≡ granted (answerLength 7)
   pub precise :
       (p q : ℕ) → Sound st p → Sound st q
-      → apart (newValue st now x p) (newValue st now x q) ≤ windowOf (st .settings) (suc k)
-  pub accurate :
-      (p : ℕ) → Sound st p → apart (newValue st now x p) true-value ≤ accuracyOf (st .settings) (st .accuracy) (suc k)
+      → apart (newValue st now x p) (newValue st now x q) ≤ windowOf st (suc k)
+  pub accurate : (p : ℕ) → Sound st p → apart (newValue st now x p) true-value ≤ accuracyOf st (suc k)
 
 -- a claim about every round of a list, with the number of rounds done before it
 abbrev pub EveryNumbered : Station → (ℕ → State → Sends → Type 0) → ℕ → State → List Sends → Type 0

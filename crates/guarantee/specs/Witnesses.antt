@@ -1,16 +1,17 @@
--- Rounds that reach the limits of demand 3: none of them can be a tick tighter. Each claim below is a station, what its faulty
--- cabinets send, and what the definitions of specs/Guarantee.antt then give, computed by the checker in proofs/Witnesses.antt
--- through every byte of every sheet.
+-- Rounds that reach the limits of demand 3, so that none of them can be a tick tighter. Each claim below is a station,
+-- what its faulty cabinets send, and what the definitions of Guarantee.antt then give, which the checker computes
+-- through every byte of every sheet. The theorems are in proofs/Witnesses.antt.
 --
---   station, below, twoFaced    a station, a set of cabinets and what faulty cabinets send, written out as lists
---   heldAfter, gap, error       what cabinets hold after a round, how far two are apart, how far one is from true time
---   Meets                       what demand 3 asks of a run before it promises anything
---   WideReached                 three of seven are bad: both limits for m < t < N-m
---   CloseReached                FCA: both limits for t ≤ m
---   MedianReached               CCA with median: the next window ⌈mδ/N⌉
---   AverageReached              CCA with average: the next window ⌈2mδ/N⌉, where ⌈mδ/N⌉ would be too small
---   MixedRefused                t counts sound cabinets with a bad first reading: by the faulty ones alone none would refuse
---   DirectRounds, CrusadersRounds    two rounds, the second settled at the second window
+--   below, listed, station, twoFaced    runs written out as lists
+--   heldAfter, gap, error     what cabinets hold after a round, how far two are apart, how far one is from true time
+--   Meets                     what demand 3 asks of a run before it promises anything
+--   WideReached               three of seven are bad: both limits for m < t < N-m
+--   CloseReached              FCA: both limits for t ≤ m
+--   MedianReached             CCA with median: the next window ⌈mδ/N⌉
+--   AverageReached            CCA with average: the next window ⌈2mδ/N⌉, where ⌈mδ/N⌉ would be too small
+--   MixedRefused              t counts sound cabinets with a bad first reading: at most m are faulty, yet a sound
+--                             cabinet refuses
+--   DirectRounds, CrusadersRounds       FCA and CCA: two rounds, the second settled at the second window
 use mathlib.Core.Bool.{Bool, true, not}
 use mathlib.Core.List.{List, [], _∷_}
 use mathlib.Core.Path.{_≡_}
@@ -28,7 +29,8 @@ use Rattle.model.specs.Planner.{ceilDiv}
 use Rattle.model.specs.Refusals.{refusal}
 use Rattle.model.specs.Calls.{refused}
 use Rattle.model.specs.Cases.{settings, at, minus}
-use Rattle.guarantee.specs.Guarantee.{Station, Start, Sends, Allowed, Each, State, start, next, settled, newValue, apart, Good, bad, closeGap, closeError, wideGap, wideError}
+use Rattle.guarantee.specs.Guarantee.{Station, Start, Sends, Allowed, Each, State, start, next, settled}
+use Rattle.guarantee.specs.Guarantee.{newValue, apart, Good, bad, closeGap, closeError, wideGap, wideError}
 
 -- ---- Runs written out
 
@@ -44,8 +46,9 @@ listed readings p = getD readings p missing
 abbrev pub station : Settings → ℕ → ℕ → List Reading → Station
 station c κ sound first = record { settings = c; accuracy = κ; sound = below sound; first = listed first }
 
--- each faulty cabinet sends the first reading of `told` to cabinet 0, the second to cabinet 1, and so on, and nothing to those past
--- the list; under CCA it relays to each, as the value of every cabinet, what `relays` has for it. The answer buffers hold 255s
+-- each faulty cabinet sends to cabinet 0 the first reading of `told`, to cabinet 1 the second, and so on. Under CCA it
+-- relays likewise what `relays` has, as the value of every cabinet. The answer buffers are just long enough, and hold
+-- 255s
 abbrev pub twoFaced : ℕ → List Reading → List Reading → Sends
 twoFaced n told relays =
     record {
@@ -105,10 +108,13 @@ pub record CloseReached : Type 0 where
   pub counts : bad closeStation (below 3) ≡ 1
   pub values : heldAfter closeStation (start closeStation) closeSends 3 ≡ minus 1 ∷ at 1 ∷ at 0 ∷ []
   -- 2
-  pub widest : gap closeStation (start closeStation) closeSends 0 1 ≡ closeGap closeStation (start closeStation) closeSends
+  pub widest :
+      gap closeStation (start closeStation) closeSends 0 1
+      ≡ closeGap closeStation (start closeStation) closeSends
   -- 1
   pub farthest :
-      error closeStation (start closeStation) closeSends 1 (pos 0) ≡ closeError closeStation (start closeStation) closeSends
+      error closeStation (start closeStation) closeSends 1 (pos 0)
+      ≡ closeError closeStation (start closeStation) closeSends
 
 -- ---- At most m bad, CCA
 
@@ -116,7 +122,8 @@ pub record CloseReached : Type 0 where
 unfoldable pub medianStation : Station
 medianStation = station (settings 4 1 cca median 4) 2 3 (minus 2 ∷ at 0 ∷ at 2 ∷ [])
 
--- it sends 4 to cabinets 0 and 1, and relays 4 to cabinet 0 alone: there its row is decided, and elsewhere it is known faulty
+-- it sends 4 to cabinets 0 and 1, and relays 4 to cabinet 0 alone: its row is decided there, and elsewhere it is known
+-- faulty
 unfoldable pub medianSends : Sends
 medianSends = twoFaced 4 (at 4 ∷ at 4 ∷ []) (at 4 ∷ [])
 
@@ -125,7 +132,9 @@ pub record MedianReached : Type 0 where
   pub counts : bad medianStation (below 3) ≡ 1
   pub values : heldAfter medianStation (start medianStation) medianSends 3 ≡ at 1 ∷ at 0 ∷ at 0 ∷ []
   -- 1
-  pub widest : gap medianStation (start medianStation) medianSends 0 1 ≡ closeGap medianStation (start medianStation) medianSends
+  pub widest :
+      gap medianStation (start medianStation) medianSends 0 1
+      ≡ closeGap medianStation (start medianStation) medianSends
 
 -- N 4, m 1, δ 4, κ 2; cabinets 0, 1, 2 are good and read 0, 2, 2 where true time is 1; 3 is faulty
 unfoldable pub averageStation : Station
@@ -140,7 +149,9 @@ pub record AverageReached : Type 0 where
   pub counts : bad averageStation (below 3) ≡ 1
   pub values : heldAfter averageStation (start averageStation) averageSends 3 ≡ at 3 ∷ at 1 ∷ at 1 ∷ []
   -- 2
-  pub widest : gap averageStation (start averageStation) averageSends 0 1 ≡ closeGap averageStation (start averageStation) averageSends
+  pub widest :
+      gap averageStation (start averageStation) averageSends 0 1
+      ≡ closeGap averageStation (start averageStation) averageSends
   -- ⌈mδ/N⌉ is 1
   pub above : ceilDiv (1 * 4) 4 < gap averageStation (start averageStation) averageSends 0 1
 
@@ -168,7 +179,8 @@ pub record MixedRefused : Type 0 where
 abbrev pub unstepped : Station → State → State
 unstepped st now = record { plan = start st .plan; held = now .held }
 
--- FCA with midpoint: N 4, m 1, windows 100, 50, 25, κ 0; cabinets 0, 1, 2 are good and read 0, which is true time; 3 is faulty
+-- FCA with midpoint: N 4, m 1, windows 100, 50, 25, κ 0; cabinets 0, 1, 2 are good and read 0, which is true time; 3 is
+-- faulty
 unfoldable pub directStation : Station
 directStation = station (settings 4 1 fca midpoint 100) 0 3 (at 0 ∷ at 0 ∷ at 0 ∷ [])
 
@@ -189,10 +201,12 @@ pub record DirectRounds : Type 0 where
   pub second : heldAfter directStation directNext directSecond 3 ≡ minus 12 ∷ at 13 ∷ at 0 ∷ []
   -- 25
   pub widest : gap directStation directNext directSecond 0 1 ≡ closeGap directStation directNext directSecond
-  -- cabinet 2 would accept the 90, and be 35 from cabinet 0
-  pub repeated : heldAfter directStation (unstepped directStation directNext) directSecond 3 ≡ minus 12 ∷ at 13 ∷ at 23 ∷ []
+  -- settled at the first window cabinet 2 would accept the 90, and be 35 from cabinet 0
+  pub repeated :
+      heldAfter directStation (unstepped directStation directNext) directSecond 3 ≡ minus 12 ∷ at 13 ∷ at 23 ∷ []
 
--- CCA with median: N 4, m 1, windows 100, 25, 7, κ 0; cabinets 0, 1, 2 are good and read 0, which is true time; 3 is faulty
+-- CCA with median: N 4, m 1, windows 100, 25, 7, κ 0; cabinets 0, 1, 2 are good and read 0, which is true time; 3 is
+-- faulty
 unfoldable pub crusadersStation : Station
 crusadersStation = station (settings 4 1 cca median 100) 0 3 (at 0 ∷ at 0 ∷ at 0 ∷ [])
 
@@ -213,7 +227,11 @@ pub record CrusadersRounds : Type 0 where
   pub counts : bad crusadersStation (below 3) ≡ 1
   pub first : table (crusadersNext .held) 3 ≡ at 25 ∷ at 0 ∷ at 0 ∷ []
   -- 25
-  pub widest : gap crusadersStation (start crusadersStation) crusadersFirst 0 1 ≡ closeGap crusadersStation (start crusadersStation) crusadersFirst
+  pub widest :
+      gap crusadersStation (start crusadersStation) crusadersFirst 0 1
+      ≡ closeGap crusadersStation (start crusadersStation) crusadersFirst
   pub second : heldAfter crusadersStation crusadersNext crusadersSecond 3 ≡ at 6 ∷ at 6 ∷ at 6 ∷ []
-  -- cabinet 1 would accept the 50, and be 13 from the others, where the limit is 7
-  pub repeated : heldAfter crusadersStation (unstepped crusadersStation crusadersNext) crusadersSecond 3 ≡ at 6 ∷ at 19 ∷ at 6 ∷ []
+  -- settled at the first window cabinet 1 would accept the 50, and be 13 from the others, where the limit is 7
+  pub repeated :
+      heldAfter crusadersStation (unstepped crusadersStation crusadersNext) crusadersSecond 3
+      ≡ at 6 ∷ at 19 ∷ at 6 ∷ []

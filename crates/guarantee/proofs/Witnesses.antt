@@ -1,31 +1,49 @@
--- The limits are reached: the claims of specs/Witnesses.antt, computed from the first reading to the last byte.
+-- The limits are reached: the claims of specs/Witnesses.antt, computed from the first readings to the last byte.
 -- Assumes nothing.
 use mathlib.Core.List.{[], _∷_}
 use mathlib.Core.Path.{_≡_, refl}
-use lib.IntN.{ℤ, pos, negsuc}
 use lib.Dec.{lit<}
+use lib.IntN.{pos}
 use Rattle.arithmetic.specs.Counting.{count, any, lowest, sum}
 use Rattle.arithmetic.specs.Writing.{table, overwrite}
 use Rattle.model.specs.RoundSheet.{word, entryCount, entryAt, bytes4, readingBytes, sizeBytes, sheetBytes}
 use Rattle.model.specs.AnswerSheet.{answerHeader, answerBytes}
-use Rattle.model.specs.Steps.{decide, readingsOf, accepted, acceptedAt, numbered, averageOf, medianOf, midpointOf, estimate, mean, roundOf, roundAt}
+use Rattle.model.specs.Steps.{decide, readingsOf, accepted, acceptedAt, numbered, averageOf, medianOf, midpointOf}
+use Rattle.model.specs.Steps.{estimate, mean, roundOf, roundAt}
 use Rattle.model.specs.Planner.{ceilDiv, windowFactor, nextWindow, growth, advance}
-use Rattle.model.specs.Refusals.{firstOf, tooShort, badCabinets, badFaults, badMethod, badWindow, badLength, noRoom, badMark, badMissing, tooManyFaults, badPlan, settingsChecks, sheetChecks, entryChecks, writeChecks, settleChecks, planChecks, stepChecks}
+use Rattle.model.specs.Refusals.{firstOf, tooShort, badCabinets, badFaults, badMethod, badWindow, badLength, noRoom}
+use Rattle.model.specs.Refusals.{badMark, badMissing, tooManyFaults, badPlan, settingsChecks, sheetChecks, entryChecks}
+use Rattle.model.specs.Refusals.{writeChecks, settleChecks, planChecks, stepChecks}
 use Rattle.model.specs.Calls.{write, settle, step}
-use Rattle.guarantee.specs.Guarantee.{Station, State, Sends, start, heard, entryOf, sheetOf, settled, next, newValue}
+use Rattle.guarantee.specs.Guarantee.{Station, State, Sends, heard, entryOf, sheetOf, settled, next}
+use Rattle.guarantee.specs.Witnesses.{below, listed, Meets, wideStation, wideSends, WideReached}
+use Rattle.guarantee.specs.Witnesses.{closeStation, closeSends, CloseReached}
+use Rattle.guarantee.specs.Witnesses.{medianStation, medianSends, MedianReached}
+use Rattle.guarantee.specs.Witnesses.{averageStation, averageSends, AverageReached}
+use Rattle.guarantee.specs.Witnesses.{mixedStation, mixedSends, MixedRefused}
+use Rattle.guarantee.specs.Witnesses.{directStation, directFirst, directSecond, directNext, DirectRounds}
+use Rattle.guarantee.specs.Witnesses.{crusadersStation, crusadersFirst, crusadersSecond, crusadersNext}
+use Rattle.guarantee.specs.Witnesses.{CrusadersRounds}
 use Rattle.guarantee.proofs.Tested.{sends-tested, meets-tested}
-use Rattle.guarantee.specs.Witnesses.{below, listed, Meets, wideStation, wideSends, WideReached, closeStation, closeSends, CloseReached, medianStation, medianSends, MedianReached, averageStation, averageSends, AverageReached, mixedStation, mixedSends, MixedRefused, directStation, directFirst, directSecond, directNext, DirectRounds, crusadersStation, crusadersFirst, crusadersSecond, crusadersNext, CrusadersRounds}
 
--- a round with all that it computes by
+-- a round, with all that it computes by: whoever unfolds it unfolds its line
 computed : Station → State → Sends → State
-unfolding count any lowest sum table overwrite word entryCount entryAt bytes4 readingBytes sizeBytes sheetBytes answerHeader answerBytes decide readingsOf accepted acceptedAt numbered averageOf medianOf midpointOf estimate mean roundOf roundAt ceilDiv windowFactor nextWindow growth advance firstOf tooShort badCabinets badFaults badMethod badWindow badLength noRoom badMark badMissing tooManyFaults badPlan settingsChecks sheetChecks entryChecks writeChecks settleChecks planChecks stepChecks write settle step heard entryOf sheetOf settled next listed
+unfolding count any lowest sum table overwrite
+    word entryCount entryAt bytes4 readingBytes sizeBytes sheetBytes answerHeader answerBytes
+    decide readingsOf accepted acceptedAt numbered averageOf medianOf midpointOf estimate mean roundOf roundAt
+    ceilDiv windowFactor nextWindow growth advance
+    firstOf tooShort badCabinets badFaults badMethod badWindow badLength noRoom badMark badMissing tooManyFaults badPlan
+    settingsChecks sheetChecks entryChecks writeChecks settleChecks planChecks stepChecks
+    write settle step heard entryOf sheetOf settled next listed
 computed = next
 
 -- ---- m < t < N-m
 
 wide-meets : Meets wideStation (wideSends ∷ []) (below 4) (pos 0)
 unfolding wideStation wideSends
-wide-meets = meets-tested _ _ _ _ _ _ _ (unfold computed in (refl, refl, refl, refl)) (sends-tested wideStation _ _ refl, tt)
+wide-meets =
+    meets-tested _ _ _ _ _ _ _ (unfold computed in (refl, refl, refl, refl))
+    (sends-tested wideStation _ _ refl, tt)
 
 pub wide-reached : WideReached
 unfolding computed wideStation wideSends
@@ -35,7 +53,9 @@ wide-reached = record { meets = wide-meets; counts = refl; values = refl; widest
 
 close-meets : Meets closeStation (closeSends ∷ []) (below 3) (pos 0)
 unfolding closeStation closeSends
-close-meets = meets-tested _ _ _ _ _ _ _ (unfold computed in (refl, refl, refl, refl)) (sends-tested closeStation _ _ refl, tt)
+close-meets =
+    meets-tested _ _ _ _ _ _ _ (unfold computed in (refl, refl, refl, refl))
+    (sends-tested closeStation _ _ refl, tt)
 
 pub close-reached : CloseReached
 unfolding computed closeStation closeSends
@@ -43,7 +63,9 @@ close-reached = record { meets = close-meets; counts = refl; values = refl; wide
 
 median-meets : Meets medianStation (medianSends ∷ []) (below 3) (pos 0)
 unfolding medianStation medianSends
-median-meets = meets-tested _ _ _ _ _ _ _ (unfold computed in (refl, refl, refl, refl)) (sends-tested medianStation _ _ refl, tt)
+median-meets =
+    meets-tested _ _ _ _ _ _ _ (unfold computed in (refl, refl, refl, refl))
+    (sends-tested medianStation _ _ refl, tt)
 
 pub median-reached : MedianReached
 unfolding computed medianStation medianSends
@@ -51,7 +73,9 @@ median-reached = record { meets = median-meets; counts = refl; values = refl; wi
 
 average-meets : Meets averageStation (averageSends ∷ []) (below 3) (pos 1)
 unfolding averageStation averageSends
-average-meets = meets-tested _ _ _ _ _ _ _ (unfold computed in (refl, refl, refl, refl)) (sends-tested averageStation _ _ refl, tt)
+average-meets =
+    meets-tested _ _ _ _ _ _ _ (unfold computed in (refl, refl, refl, refl))
+    (sends-tested averageStation _ _ refl, tt)
 
 pub average-reached : AverageReached
 unfolding computed averageStation averageSends
@@ -61,7 +85,9 @@ average-reached = record { meets = average-meets; counts = refl; values = refl; 
 
 mixed-meets : Meets mixedStation (mixedSends ∷ []) (below 2) (pos 0)
 unfolding mixedStation mixedSends
-mixed-meets = meets-tested _ _ _ _ _ _ _ (unfold computed in (refl, refl, refl, refl)) (sends-tested mixedStation _ _ refl, tt)
+mixed-meets =
+    meets-tested _ _ _ _ _ _ _ (unfold computed in (refl, refl, refl, refl))
+    (sends-tested mixedStation _ _ refl, tt)
 
 pub mixed-refused : MixedRefused
 unfolding computed mixedStation mixedSends
@@ -71,7 +97,9 @@ mixed-refused = record { meets = mixed-meets; counts = refl; faulty = refl; refu
 
 direct-meets : Meets directStation (directFirst ∷ directSecond ∷ []) (below 3) (pos 0)
 unfolding directStation directFirst directSecond
-direct-meets = meets-tested _ _ _ _ _ _ _ (unfold computed in (refl, refl, refl, refl)) (sends-tested directStation _ _ refl, (sends-tested directStation _ _ refl, tt))
+direct-meets =
+    meets-tested _ _ _ _ _ _ _ (unfold computed in (refl, refl, refl, refl))
+    (sends-tested directStation _ _ refl, (sends-tested directStation _ _ refl, tt))
 
 pub direct-rounds : DirectRounds
 unfolding computed directStation directFirst directSecond directNext
@@ -79,7 +107,9 @@ direct-rounds = record { meets = direct-meets; counts = refl; first = refl; seco
 
 crusaders-meets : Meets crusadersStation (crusadersFirst ∷ crusadersSecond ∷ []) (below 3) (pos 0)
 unfolding crusadersStation crusadersFirst crusadersSecond
-crusaders-meets = meets-tested _ _ _ _ _ _ _ (unfold computed in (refl, refl, refl, refl)) (sends-tested crusadersStation _ _ refl, (sends-tested crusadersStation _ _ refl, tt))
+crusaders-meets =
+    meets-tested _ _ _ _ _ _ _ (unfold computed in (refl, refl, refl, refl))
+    (sends-tested crusadersStation _ _ refl, (sends-tested crusadersStation _ _ refl, tt))
 
 pub crusaders-rounds : CrusadersRounds
 unfolding computed crusadersStation crusadersFirst crusadersSecond crusadersNext

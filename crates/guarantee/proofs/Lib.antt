@@ -1,5 +1,4 @@
-pub mod Tested
-pub mod Witnesses
+pub mod Computed
 pub mod Distances
 pub mod Entries
 pub mod Link
@@ -7,4 +6,3 @@ pub mod Received
 pub mod Round
 pub mod Guarantee
 pub mod Regulator
-pub mod Sanity

@@ -1,5 +1,5 @@
--- The regulator's case follows from `guarantee`: its limits at N 7, m 2 and t 3, and the plans that its steps hand on, in
--- numbers.
+-- The regulator's case follows from `guarantee`: its limits at N 7, m 2 and t 3, and the plans that its steps hand on,
+-- in numbers.
 -- Assumes nothing.
 use mathlib.Core.Bool.{Bool, true, false, cond, _&&_}
 use mathlib.Core.List.{List, [], _∷_}
@@ -16,8 +16,8 @@ use Rattle.model.specs.Planner.{Plan, ceilDiv, windowFactor, nextWindow, growth
 use Rattle.model.specs.Refusals.{Row, firstOf, stepChecks}
 use Rattle.model.specs.Calls.{granted, verdict, step}
 use Rattle.planning.proofs.Rounds.{settings-after}
-use Rattle.guarantee.specs.Guarantee.{Station, δ, κ, Sends, State, start, next, Every, First, Close, Wide, wideGap, wideError}
-use Rattle.guarantee.specs.Guarantee.{Guarantee}
+use Rattle.guarantee.specs.Guarantee.{Station, δ, κ, Sends, State, start, next, Every, First, Close}
+use Rattle.guarantee.specs.Guarantee.{Wide, wideGap, wideError, Guarantee}
 use Rattle.guarantee.specs.Regulator.{SevenPlannedForTwo, ThreeBad, sevenths, windowOf, accuracyOf, AtMostTwoBad}
 use Rattle.guarantee.specs.Regulator.{EveryNumbered, RegulatorsCase}
 use Rattle.guarantee.proofs.Guarantee.{guarantee}
@@ -107,7 +107,9 @@ module _ (st : Station) (seven : SevenPlannedForTwo st) where
     wide-error : wideError st 3 ≡ κ st + ceilDiv (5 * δ st) 7
     wide-error = rw (seven .seven, seven .two)
 
-    first : (rounds : List Sends) → First (Wide st 3 truth) (start st) rounds → First (ThreeBad st truth) (start st) rounds
+    first :
+        (rounds : List Sends)
+        → First (Wide st 3 truth) (start st) rounds → First (ThreeBad st truth) (start st) rounds
     first [] w = tt
     first (x ∷ xs) w =
         record {

@@ -24,8 +24,8 @@ use Rattle.model.specs.RoundSheet.{cca, median}
 use Rattle.model.specs.AnswerSheet.{answerLength}
 use Rattle.model.specs.Planner.{ceilDiv, planFrom, after}
 use Rattle.model.specs.Calls.{granted}
-use Rattle.guarantee.specs.Guarantee.{Station, N, m, δ, κ, Start, Sends, Allowed, Each, State, start, settled, next}
-use Rattle.guarantee.specs.Guarantee.{newValue, Unrefused, Sound, apart, Good, bad, First}
+use Rattle.guarantee.specs.Guarantee.{Station, N, m, δ, κ, Start, Sends, Allowed, Each, State, start, next}
+use Rattle.guarantee.specs.Guarantee.{settled, newValue, Unrefused, Sound, apart, Good, bad, First}
 
 pub record SevenPlannedForTwo (st : Station) : Type 0 where
   pub seven : N st ≡ 7

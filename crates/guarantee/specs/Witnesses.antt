@@ -1,6 +1,6 @@
 -- Rounds that reach the limits of demand 3, so that none of them can be a tick tighter. Each claim below is a station,
 -- what its faulty cabinets send, and what the definitions of Guarantee.antt then give, which the checker computes
--- through every byte of every sheet. The theorems are in proofs/Witnesses.antt.
+-- through every byte of every sheet. The theorems are in proofs/Computed/Witnesses.antt.
 --
 --   below, listed, station, twoFaced    runs written out as lists
 --   heldAfter, gap, error     what cabinets hold after a round, how far two are apart, how far one is from true time

@@ -24,7 +24,7 @@ use Rattle.guarantee.specs.Witnesses.{mixedStation, mixedSends, MixedRef
 use Rattle.guarantee.specs.Witnesses.{directStation, directFirst, directSecond, directNext, DirectRounds}
 use Rattle.guarantee.specs.Witnesses.{crusadersStation, crusadersFirst, crusadersSecond, crusadersNext}
 use Rattle.guarantee.specs.Witnesses.{CrusadersRounds}
-use Rattle.guarantee.proofs.Tested.{sends-tested, meets-tested}
+use Rattle.guarantee.proofs.Computed.Tested.{sends-tested, meets-tested}
 
 -- a round, with all that it computes by: whoever unfolds it unfolds its line
 computed : Station → State → Sends → State
@@ -103,7 +103,8 @@ direct-meets =
 
 pub direct-rounds : DirectRounds
 unfolding computed directStation directFirst directSecond directNext
-direct-rounds = record { meets = direct-meets; counts = refl; first = refl; second = refl; widest = refl; repeated = refl }
+direct-rounds =
+    record { meets = direct-meets; counts = refl; first = refl; second = refl; widest = refl; repeated = refl }
 
 crusaders-meets : Meets crusadersStation (crusadersFirst ∷ crusadersSecond ∷ []) (below 3) (pos 0)
 unfolding crusadersStation crusadersFirst crusadersSecond
@@ -113,4 +114,5 @@ crusaders-meets =
 
 pub crusaders-rounds : CrusadersRounds
 unfolding computed crusadersStation crusadersFirst crusadersSecond crusadersNext
-crusaders-rounds = record { meets = crusaders-meets; counts = refl; first = refl; widest = refl; second = refl; repeated = refl }
+crusaders-rounds =
+    record { meets = crusaders-meets; counts = refl; first = refl; widest = refl; second = refl; repeated = refl }

@@ -2,4 +2,3 @@
 -- refused by its numbers.
 pub mod Tested
 pub mod Witnesses
-pub mod Sanity

@@ -6,3 +6,4 @@ pub mod Received
 pub mod Round
 pub mod Guarantee
 pub mod Regulator
+pub mod Sanity

@@ -1,6 +1,6 @@
 -- The regulator's question: "How far apart can the time stamps of two sound cabinets be when three of the seven clocks
 -- at a station lie, each telling every cabinet something else?" The theorem is `regulators-case` of
--- proofs/Regulator.antt, and rests on `guarantee` alone.
+-- proofs/Regulator.antt; it follows from `guarantee`.
 --
 -- The answer, for seven cabinets planned for two faults, by either rule with any estimator. Where three are bad, two
 -- sound cabinets that do not refuse are at most ⌈17δ/7⌉ apart after the first round, and each is within κ + ⌈5δ/7⌉ of

@@ -29,7 +29,7 @@ use Rattle.model.specs.Planner.{ceilDiv}
 use Rattle.model.specs.Refusals.{refusal}
 use Rattle.model.specs.Calls.{refused}
 use Rattle.model.specs.Cases.{settings, at, minus}
-use Rattle.guarantee.specs.Guarantee.{Station, Start, Sends, Allowed, Each, State, start, next, settled}
+use Rattle.guarantee.specs.Guarantee.{Station, N, m, δ, Start, Sends, Allowed, Each, State, start, next, settled}
 use Rattle.guarantee.specs.Guarantee.{newValue, apart, Good, bad, closeGap, closeError, wideGap, wideError}
 
 -- ---- Runs written out
@@ -153,7 +153,9 @@ pub record AverageReached : Type 0 where
       gap averageStation (start averageStation) averageSends 0 1
       ≡ closeGap averageStation (start averageStation) averageSends
   -- ⌈mδ/N⌉ is 1
-  pub above : ceilDiv (1 * 4) 4 < gap averageStation (start averageStation) averageSends 0 1
+  pub above :
+      ceilDiv (m averageStation * δ averageStation) (N averageStation)
+      < gap averageStation (start averageStation) averageSends 0 1
 
 -- ---- What t counts
 
@@ -169,8 +171,8 @@ pub record MixedRefused : Type 0 where
   pub meets : Meets mixedStation (mixedSends ∷ []) (below 2) (pos 0)
   pub counts : bad mixedStation (below 2) ≡ 2
   -- no more than m are faulty
-  pub faulty : count (λ p. not (mixedStation .sound p)) 4 ≡ 1
-  -- too many faults
+  pub faulty : count (λ p. not (mixedStation .sound p)) (N mixedStation) ≡ m mixedStation
+  -- "too many faults"
   pub refuses : settled mixedStation (start mixedStation) mixedSends 0 .verdict ≡ refused (refusal 10 0)
 
 -- ---- Two rounds
@@ -230,8 +232,13 @@ pub record CrusadersRounds : Type 0 where
   pub widest :
       gap crusadersStation (start crusadersStation) crusadersFirst 0 1
       ≡ closeGap crusadersStation (start crusadersStation) crusadersFirst
+  -- 25
+  pub farthest :
+      error crusadersStation (start crusadersStation) crusadersFirst 0 (pos 0)
+      ≡ closeError crusadersStation (start crusadersStation) crusadersFirst
   pub second : heldAfter crusadersStation crusadersNext crusadersSecond 3 ≡ at 6 ∷ at 6 ∷ at 6 ∷ []
-  -- settled at the first window cabinet 1 would accept the 50, and be 13 from the others, where the limit is 7
+  pub limit : closeGap crusadersStation crusadersNext crusadersSecond ≡ 7
+  -- settled at the first window cabinet 1 would accept the 50, and be 13 from the others
   pub repeated :
       heldAfter crusadersStation (unstepped crusadersStation crusadersNext) crusadersSecond 3
       ≡ at 6 ∷ at 19 ∷ at 6 ∷ []

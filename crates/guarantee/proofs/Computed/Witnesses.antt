@@ -115,4 +115,13 @@ crusaders-meets =
 pub crusaders-rounds : CrusadersRounds
 unfolding computed crusadersStation crusadersFirst crusadersSecond crusadersNext
 crusaders-rounds =
-    record { meets = crusaders-meets; counts = refl; first = refl; widest = refl; second = refl; repeated = refl }
+    record {
+      meets = crusaders-meets;
+      counts = refl;
+      first = refl;
+      widest = refl;
+      farthest = refl;
+      second = refl;
+      limit = refl;
+      repeated = refl;
+    }

@@ -6,22 +6,25 @@ use mathlib.Core.Logic.{_⊎_, inl, inr, ⊎-elim}
 use mathlib.Core.Path.{_≡_, refl, sym, ap, _∙_}
 use Prim.Native.Nat.{ℕ, _+_, _*_, _-_, _≤_, _<_}
 use native.Mathlib.Omega.{arith}
-use borrow.Author.Tests.{leb-true, leb-false}
-use lib.Dec.{leb, eqb}
+use lib.Dec.{eqb}
 use lib.IntN.{ℤ}
 use Rattle.arithmetic.specs.Counting.{count}
-use Rattle.arithmetic.proofs.Bools.{both-ways, and-left, and-right}
+use Rattle.arithmetic.proofs.Bools.{and-left, and-right}
 use Rattle.arithmetic.proofs.Counting.{count-le, count-mono, count-not, count-both, share}
 use Rattle.model.specs.declared.Settings.{Settings}
-use Rattle.model.specs.Ensemble.{Reading, missing, present, Readings, quorum}
+use Rattle.model.specs.Ensemble.{missing, present, Readings, quorum}
 use Rattle.model.specs.RoundSheet.{cca}
 use Rattle.model.specs.Steps.{same, Decision, decided, knownFaulty, decidedReading, decide, readingsOf}
 use Rattle.crusaders.proofs.Equality.{present-inj, missing-present, equal-or-not, same-true, eq-same, same-unique}
-use Rattle.crusaders.proofs.Decision.{copies, decided-need, decided-all, decide-value, decide-none}
+use Rattle.crusaders.proofs.Decision.{copies, decided-need, decided-all, decide-cases, decide-value, decide-none}
 
 -- how many of the first n relays are not sound
 abbrev pub faults : (ℕ → Bool) → ℕ → ℕ
 faults sound n = count (λ s. not (sound s)) n
+
+-- a sound relay hands on what it heard
+abbrev pub Relayed : (ℕ → Bool) → ℕ → Readings → Readings → Type 0
+Relayed sound n heard copy = (s : ℕ) → s < n → sound s ≡ true → copy s ≡ heard s
 
 -- ---- the reading that a decision leaves
 
@@ -37,7 +40,7 @@ reading-faulty knownFaulty e = refl
 
 module _ (sound : ℕ → Bool) (n : ℕ) where
   -- a value that every sound relay hands on has a copy from each
-  handed-on : (copy : Readings) (x : ℤ) → ((s : ℕ) → s < n → sound s ≡ true → copy s ≡ present x) → n ≤ copies copy x n + faults sound n
+  handed-on : (copy : Readings) (x : ℤ) → Relayed sound n (λ _. present x) copy → n ≤ copies copy x n + faults sound n
   handed-on copy x h =
       let all = count-not sound n in
       let some = count-mono sound (λ t. same (present x) (copy t)) n (λ s l e. eq-same x (copy s) (h s l e)) in
@@ -59,72 +62,76 @@ module _ (sound : ℕ → Bool) (n : ℕ) where
       let either = count-le (λ t. sound t || same (present z) (copy t)) n in
       omega arith
 
+  -- two values are one where their copies from sound relays, at two receivers, are together more than the sound relays
+  sound-unique : (p q : Readings) (a b : ℤ) → Relayed sound n q p → count sound n < count (λ t. sound t && same (present a) (p t)) n + count (λ t. sound t && same (present b) (q t)) n → a ≡ b
+  sound-unique p q a b h more = go (share at-p at-q sound n (λ t l e. and-left (sound t) _ e) (λ t l e. and-left (sound t) _ e) more)
+    where
+      at-p : ℕ → Bool
+      at-p t = sound t && same (present a) (p t)
+
+      at-q : ℕ → Bool
+      at-q t = sound t && same (present b) (q t)
+
+      go : (t : ℕ) × (t < n) × (at-p t ≡ true) × (at-q t ≡ true) → a ≡ b
+      go w =
+          let alike = h (w .0) (w .1) (and-left (sound (w .0)) (same (present a) (p (w .0))) (w .2)) in
+          let held-p = and-right (sound (w .0)) (same (present a) (p (w .0))) (w .2) in
+          let held-q = and-right (sound (w .0)) (same (present b) (q (w .0))) (w .3) in
+          same-unique a b (q (w .0)) (rw alike at held-p) held-q
+
 -- ---- decisions
 
 module _ (sound : ℕ → Bool) (n m : ℕ) (planned : 3 * m < n) where
   -- a sound transmitter that holds x, at most m faults: x is decided
-  pub held-decided : (copy : Readings) (x : ℤ) → ((s : ℕ) → s < n → sound s ≡ true → copy s ≡ present x) → faults sound n ≤ m → decide (n - m) n copy ≡ decided x
+  pub held-decided : (copy : Readings) (x : ℤ) → Relayed sound n (λ _. present x) copy → faults sound n ≤ m → decide (n - m) n copy ≡ decided x
   held-decided copy x h few =
       let most = handed-on sound n copy x h in
       decide-value (n - m) n copy x (omega arith) (omega arith)
 
   -- a sound transmitter that holds x, fewer than n-m faults: x is decided, or nothing
-  pub held-decided-or-not : (copy : Readings) (x : ℤ) → ((s : ℕ) → s < n → sound s ≡ true → copy s ≡ present x) → faults sound n < n - m → (decide (n - m) n copy ≡ decided x) ⊎ (decide (n - m) n copy ≡ knownFaulty)
-  held-decided-or-not copy x h few = go (leb (n - m) (copies copy x n)) refl
+  pub held-decided-or-not : (copy : Readings) (x : ℤ) → Relayed sound n (λ _. present x) copy → faults sound n < n - m → (decide (n - m) n copy ≡ decided x) ⊎ (decide (n - m) n copy ≡ knownFaulty)
+  held-decided-or-not copy x h few =
+      ⊎-elim
+      (λ w.
+      ⊎-elim
+      (λ q. inl (rw q at (w .1)))
+      (λ d. absurd (omega (arith, w .2, others (w .0) d)))
+      (equal-or-not (w .0) x))
+      (λ w. inr (w .0))
+      (decide-cases (n - m) n copy (omega arith))
     where
       others : (z : ℤ) → (z ≡ x → ⊥) → copies copy z n ≤ faults sound n
       others z d = not-handed-on sound n copy z (λ s l e q. d (present-inj (sym q ∙ h s l e)))
 
-      go : (b : Bool) → leb (n - m) (copies copy x n) ≡ b → (decide (n - m) n copy ≡ decided x) ⊎ (decide (n - m) n copy ≡ knownFaulty)
-      go true e = inl (decide-value (n - m) n copy x (omega arith) (leb-true (n - m) (copies copy x n) e))
-      go false e =
-          let short = leb-false (n - m) (copies copy x n) e in
-          inr
-          (decide-none (n - m) n copy (omega arith)
-          (λ z. ⊎-elim (λ q. rw q short) (λ d. omega (arith, others z d)) (equal-or-not z x)))
-
   -- a sound transmitter that holds nothing, fewer than n-m faults: nothing is decided
-  pub missing-undecided : (copy : Readings) → ((s : ℕ) → s < n → sound s ≡ true → copy s ≡ missing) → faults sound n < n - m → decide (n - m) n copy ≡ knownFaulty
+  pub missing-undecided : (copy : Readings) → Relayed sound n (λ _. missing) copy → faults sound n < n - m → decide (n - m) n copy ≡ knownFaulty
   missing-undecided copy h few =
       decide-none (n - m) n copy (omega arith)
       (λ z. omega (arith, not-handed-on sound n copy z (λ s l e q. missing-present (sym (h s l e) ∙ q))))
 
   -- any transmitter, at most m faults: what two receivers decide is one value
-  pub decided-alike : (p q : Readings) (a b : ℤ) → ((s : ℕ) → s < n → sound s ≡ true → p s ≡ q s) → faults sound n ≤ m → decide (n - m) n p ≡ decided a → decide (n - m) n q ≡ decided b → a ≡ b
+  pub decided-alike : (p q : Readings) (a b : ℤ) → Relayed sound n q p → faults sound n ≤ m → decide (n - m) n p ≡ decided a → decide (n - m) n q ≡ decided b → a ≡ b
   decided-alike p q a b h few da db =
       let all = count-not sound n in
       let needs-a = decided-need (n - m) n p a da (omega arith) in
       let needs-b = decided-need (n - m) n q b db (omega arith) in
       let sound-a = from-sound sound n p a in
       let sound-b = from-sound sound n q b in
-      let s =
-      share
-      (λ t. sound t && same (present a) (p t))
-      (λ t. sound t && same (present b) (q t))
-      sound
-      n
-      (λ t l e. and-left (sound t) (same (present a) (p t)) e)
-      (λ t l e. and-left (sound t) (same (present b) (q t)) e)
-      (omega arith)
-      in
-      let alike = h (s .0) (s .1) (and-left (sound (s .0)) (same (present a) (p (s .0))) (s .2)) in
-      same-unique a b (q (s .0))
-      (rw alike at (and-right (sound (s .0)) (same (present a) (p (s .0))) (s .2)))
-      (and-right (sound (s .0)) (same (present b) (q (s .0))) (s .3))
+      sound-unique sound n p q a b h (omega arith)
 
   -- ---- the same of readings
 
-  pub held-read : (copy : Readings) (x : ℤ) → ((s : ℕ) → s < n → sound s ≡ true → copy s ≡ present x) → faults sound n ≤ m → decidedReading (decide (n - m) n copy) ≡ present x
+  pub held-read : (copy : Readings) (x : ℤ) → Relayed sound n (λ _. present x) copy → faults sound n ≤ m → decidedReading (decide (n - m) n copy) ≡ present x
   held-read copy x h few = ap decidedReading (held-decided copy x h few)
 
-  pub held-read-or-not : (copy : Readings) (x : ℤ) → ((s : ℕ) → s < n → sound s ≡ true → copy s ≡ present x) → faults sound n < n - m → (decidedReading (decide (n - m) n copy) ≡ present x) ⊎ (decidedReading (decide (n - m) n copy) ≡ missing)
+  pub held-read-or-not : (copy : Readings) (x : ℤ) → Relayed sound n (λ _. present x) copy → faults sound n < n - m → (decidedReading (decide (n - m) n copy) ≡ present x) ⊎ (decidedReading (decide (n - m) n copy) ≡ missing)
   held-read-or-not copy x h few =
       ⊎-elim (λ e. inl (ap decidedReading e)) (λ e. inr (ap decidedReading e)) (held-decided-or-not copy x h few)
 
-  pub missing-read : (copy : Readings) → ((s : ℕ) → s < n → sound s ≡ true → copy s ≡ missing) → faults sound n < n - m → decidedReading (decide (n - m) n copy) ≡ missing
+  pub missing-read : (copy : Readings) → Relayed sound n (λ _. missing) copy → faults sound n < n - m → decidedReading (decide (n - m) n copy) ≡ missing
   missing-read copy h few = ap decidedReading (missing-undecided copy h few)
 
-  pub read-alike : (p q : Readings) (a b : ℤ) → ((s : ℕ) → s < n → sound s ≡ true → p s ≡ q s) → faults sound n ≤ m → decidedReading (decide (n - m) n p) ≡ present a → decidedReading (decide (n - m) n q) ≡ present b → a ≡ b
+  pub read-alike : (p q : Readings) (a b : ℤ) → Relayed sound n q p → faults sound n ≤ m → decidedReading (decide (n - m) n p) ≡ present a → decidedReading (decide (n - m) n q) ≡ present b → a ≡ b
   read-alike p q a b h few ra rb =
       decided-alike p q a b h few (reading-decided (decide (n - m) n p) a ra) (reading-decided (decide (n - m) n q) b rb)
 

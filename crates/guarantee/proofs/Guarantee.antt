@@ -16,7 +16,7 @@ use Rattle.model.specs.Planner.{Plan, planFrom, advance, after, nextWindow, gro
 use Rattle.model.specs.Refusals.{firstOf, settingsChecks, planChecks, stepChecks}
 use Rattle.model.specs.Calls.{granted, step}
 use Rattle.planning.proofs.Checks.{Passes, none-passes, passes-none, MayStart, none-may-start}
-use Rattle.planning.proofs.Steps.{granted-start-steps, step-granted}
+use Rattle.planning.proofs.Steps.{start-step-passes, step-by-row}
 use Rattle.planning.proofs.Windows.{passes-advance}
 use Rattle.guarantee.specs.Guarantee.{Station, Start, Sends, Allowed, State, start, stepped, next, Good, bad, Every, First, Close, Wide, Each, Guarantee, Demand3}
 use Rattle.guarantee.proofs.Round.{Standing, faults-bad, round-unrefused, round-precise, round-accurate, round-reading, round-present, wide-precise, wide-accurate}
@@ -25,7 +25,7 @@ module _ (st : Station) (begins : Start st) (truth : ℤ) where
   -- the plan after a round, where j rounds were done before it
   plan-steps : (now : State) (x : Sends) (j : ℕ) → j < 32 → now .plan ≡ after j (planFrom (st .settings) (st .accuracy)) → step (now .plan) ≡ granted (advance (now .plan))
   plan-steps now x j l e =
-      step-granted (now .plan) (subst⁻¹ (λ (p : Plan). firstOf (stepChecks p) ≡ none) e (granted-start-steps (st .settings) (st .accuracy) j (begins .grants) l))
+      step-by-row (now .plan) (subst⁻¹ (λ (p : Plan). firstOf (stepChecks p) ≡ none) e (start-step-passes (st .settings) (st .accuracy) j (begins .grants) l))
 
   next-plan : (now : State) (x : Sends) → step (now .plan) ≡ granted (advance (now .plan)) → next st now x .plan ≡ advance (now .plan)
   unfolding next

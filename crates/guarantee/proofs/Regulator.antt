@@ -3,7 +3,6 @@
 -- Assumes nothing.
 use mathlib.Core.Bool.{Bool, true, false, cond, _&&_}
 use mathlib.Core.List.{List, [], _∷_}
-use mathlib.Core.Option.{none, some}
 use mathlib.Core.Path.{_≡_, refl, sym, ap, ap₂, _∙_}
 use Prim.Native.Nat.{ℕ, zero, suc, _+_, _*_}
 use native.Mathlib.Nat.{mul-assoc}
@@ -13,9 +12,10 @@ use lib.IntN.{ℤ}
 use Rattle.model.specs.RoundSheet.{cca, median}
 use Rattle.model.specs.AnswerSheet.{answerLength}
 use Rattle.model.specs.Planner.{Plan, ceilDiv, windowFactor, nextWindow, growth, withWindow, planFrom, advance, after}
-use Rattle.model.specs.Refusals.{Row, firstOf, stepChecks}
-use Rattle.model.specs.Calls.{granted, verdict, step}
+use Rattle.model.specs.Refusals.{firstOf, stepChecks}
+use Rattle.model.specs.Calls.{granted, step}
 use Rattle.planning.proofs.Rounds.{settings-after}
+use Rattle.planning.proofs.Verdicts.{granted-row}
 use Rattle.guarantee.specs.Guarantee.{Station, δ, κ, Sends, State, start, next, Every, First, Close}
 use Rattle.guarantee.specs.Guarantee.{Wide, wideGap, wideError, Guarantee}
 use Rattle.guarantee.specs.Regulator.{SevenPlannedForTwo, ThreeBad, sevenths, windowOf, accuracyOf, AtMostTwoBad}
@@ -25,11 +25,7 @@ use Rattle.guarantee.proofs.Guarantee.{guarantee}
 -- a step that is granted hands on the plan one round on
 step-advances : (p q : Plan) → step p ≡ granted q → q ≡ advance p
 unfolding step
-step-advances p q e = go (firstOf (stepChecks p)) e
-  where
-    go : (r : Row) → verdict r (advance p) ≡ granted q → q ≡ advance p
-    go none h = cc
-    go (some r) h = cc
+step-advances p q e = granted-row (advance p) (firstOf (stepChecks p)) (sym e) .1
 
 module _ (st : Station) (seven : SevenPlannedForTwo st) where
   -- ---- the planner's windows and accuracies

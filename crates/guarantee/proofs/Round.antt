@@ -246,12 +246,12 @@ module _ (st : Station) (good : ℕ → Bool) (truth : ℤ) (now : State) (x : S
         (dist-of far (ceilDiv ((st .settings .n + 2 * bad st good + 2 * st .settings .m) * w) (st .settings .n))
         (valueOf (st .settings .n) (st .settings .m) w (has p))
         (valueOf (st .settings .n) (st .settings .m) w (has q))
-        (precision-many (st .settings .n) (st .settings .m) w good g (has p) (has q) spread (settles p ep) (settles q eq))
-        (precision-many (st .settings .n) (st .settings .m) w good g (has q) (has p) spread (settles q eq) (settles p ep)))
+        (precision-many (st .settings .n) (st .settings .m) w good g spread (has p) (has q) (settles p ep) (settles q eq))
+        (precision-many (st .settings .n) (st .settings .m) w good g spread (has q) (has p) (settles q eq) (settles p ep)))
 
     pub wide-accurate : (p : ℕ) → isPresent (next st now x .held p) ≡ true → natAbs (ticks (next st now x .held p) -ℤ truth) ≤ now .plan .accuracy + ceilDiv ((st .settings .m + bad st good) * w) (st .settings .n)
     wide-accurate p e =
-        let a = accuracy-many (st .settings .n) (st .settings .m) w good g (has p) (up far truth) (now .plan .accuracy) spread (settles p e) true-time in
+        let a = accuracy-many (st .settings .n) (st .settings .m) w good g spread (has p) (settles p e) (up far truth) (now .plan .accuracy) true-time in
         rw (new-value p (accepted-some p e))
         (subst (λ (t : ℤ). natAbs (down far (valueOf (st .settings .n) (st .settings .m) w (has p)) -ℤ t) ≤ now .plan .accuracy + ceilDiv ((st .settings .m + bad st good) * w) (st .settings .n)) (down-up far truth truth-near)
         (dist-of far (now .plan .accuracy + ceilDiv ((st .settings .m + bad st good) * w) (st .settings .n)) (valueOf (st .settings .n) (st .settings .m) w (has p)) (up far truth) (a .above) (a .below)))

@@ -3,18 +3,19 @@
 --   inside w a y               y lies in the span of width w from a
 --   Span w p x need n r        a span that holds r's number and need numbers of indices that pass p
 -- Assumes nothing.
-use mathlib.Core.Bool.{Bool, true, false, _&&_}
+use mathlib.Core.Bool.{Bool, true, _&&_}
 use mathlib.Core.Logic.{_↔_}
-use mathlib.Core.Path.{_≡_, refl, sym, ap, _∙_}
+use mathlib.Core.Path.{_≡_}
 use Prim.Native.Nat.{ℕ, _+_, _≤_, _<_}
-use native.Mathlib.Nat.{le-trans, le-refl}
+use native.Mathlib.Nat.{le-trans}
 use native.Mathlib.Omega.{arith}
 use lib.Dec.{leb}
 use borrow.Author.Tests.{le-leb, leb-true}
-use Rattle.arithmetic.specs.Counting.{count, any}
+use Rattle.arithmetic.specs.Counting.{count}
 use Rattle.arithmetic.proofs.Bools.{and-left, and-right, and-intro}
 use Rattle.arithmetic.proofs.Counting.{count-mono, count-pos, any-some, any-true}
 use Rattle.rounds.proofs.Shifted.{spans, accepted-nat}
+use Rattle.rounds.proofs.Natural.{accepted-present}
 use Rattle.limits.proofs.Extremes.{Least, Greatest, least}
 
 abbrev pub inside : ℕ → ℕ → ℕ → Bool
@@ -52,9 +53,6 @@ module _ (w : ℕ) (pres : ℕ → Bool) (x : ℕ → ℕ) (need n : ℕ) where
   spans-rest : (s r : ℕ) → spans w pres x s r ≡ true → (pres r && inside w (x s) (x r)) ≡ true
   spans-rest s r e = and-right (pres s) (pres r && inside w (x s) (x r)) e
 
-  spans-to : (s r : ℕ) → spans w pres x s r ≡ true → pres r ≡ true
-  spans-to s r e = and-left (pres r) (inside w (x s) (x r)) (spans-rest s r e)
-
   spans-inside : (s r : ℕ) → spans w pres x s r ≡ true → inside w (x s) (x r) ≡ true
   spans-inside s r e = and-right (pres r) (inside w (x s) (x r)) (spans-rest s r e)
 
@@ -65,9 +63,6 @@ module _ (w : ℕ) (pres : ℕ → Bool) (x : ℕ → ℕ) (need n : ℕ) where
 
     from-spans : spans w pres x (from .0) r ≡ true
     from-spans = and-left (spans w pres x (from .0) r) (leb need (count (spans w pres x (from .0)) n)) (from .2)
-
-    pub accepted-present : pres r ≡ true
-    accepted-present = spans-to (from .0) r from-spans
 
     pub accepted-start : Start r
     accepted-start =
@@ -134,7 +129,7 @@ module _ (w : ℕ) (pres : ℕ → Bool) (x : ℕ → ℕ) (need n : ℕ) where
 
   -- L0, L1: spans may start anywhere
   pub accepted-iff-span : (r : ℕ) → r < n → (accepted-nat w pres x need n r ≡ true) ↔ ((pres r ≡ true) × Span w pres x need n r)
-  accepted-iff-span r l = (λ e. (accepted-present r e, accepted-in-span r e), λ h. span-accepted r l (h .0) (h .1))
+  accepted-iff-span r l = (λ e. (accepted-present w pres x need n r e, accepted-in-span r e), λ h. span-accepted r l (h .0) (h .1))
 
   -- an accepted reading lies in a span that holds enough accepted ones
   pub accepted-span : (r : ℕ) → accepted-nat w pres x need n r ≡ true → Span w (accepted-nat w pres x need n) x need n r

@@ -13,20 +13,19 @@ use Prim.Native.Nat.{ℕ, _+_, _*_, _-_, _/_, _≤_, _<_}
 use native.Mathlib.Nat.{le-trans, mul-assoc, mul-comm, mul-le-mul-right, add-mul, one-mul}
 use native.Mathlib.Omega.{arith}
 use Rattle.arithmetic.specs.Counting.{bit, count}
-use Rattle.arithmetic.proofs.Bools.{both-ways, clash, and-left, and-right, and-intro}
+use Rattle.arithmetic.proofs.Bools.{both-ways, clash, and-right, and-intro}
 use Rattle.arithmetic.proofs.Counting.{count-mono, count-not, share}
-use Rattle.arithmetic.proofs.Sums.{total, total-mono, total-add, total-const, total-scale, count-total}
+use Rattle.arithmetic.proofs.Sums.{total, total-add, total-const, total-scale, count-total}
 use Rattle.model.specs.Planner.{ceilDiv}
 use Rattle.model.specs.RoundSheet.{median}
-use Rattle.rounds.proofs.Shifted.{estimate-nat}
 use Rattle.limits.proofs.Extremes.{Least, Greatest, least, greatest}
 use Rattle.limits.proofs.Means.{mean-stray, mean-stray-above, mean-stray-below}
-use Rattle.limits.proofs.Acceptance.{inside, inside-intro, Span, accepted-present, accepted-span, span-accepted}
+use Rattle.limits.proofs.Acceptance.{inside, inside-intro, Span, span-accepted}
 use Rattle.limits.proofs.Ranks.{Numbered}
 use Rattle.limits.proofs.Estimates.{Between, used-within, median-numbered}
 use Rattle.limits.proofs.Settled.{Received, accepts, estimateOf, usedOf, valueOf, used-accepted, used-replaced, bad, Agree, Spread, Settles, Few, Reads, Truth}
-use Rattle.limits.proofs.Hull.{astray, astray-few, good-in, good-in-many, good-near, used-strays}
-use Rattle.limits.proofs.Medians.{median-above, median-below}
+use Rattle.limits.proofs.Hull.{SpanOf, span-of, accepts-present, good-in, good-in-good, good-in-many, astray, astray-count, astray-few, Near, Strays, good-near, used-strays}
+use Rattle.limits.proofs.Medians.{alone, median-above, median-below}
 
 -- a value within d of the true one
 pub record Accurate (T d value : ℕ) : Type 0 where
@@ -36,65 +35,71 @@ pub record Accurate (T d value : ℕ) : Type 0 where
 module _ (n m w : ℕ) (good : ℕ → Bool) (g : ℕ → ℕ) where
   -- ---- fewer than n - m bad
 
-  -- a new value is accurate to κ and the window for each of those that are not both good and accepted
-  accurate : (v : Received) (T κ most : ℕ) → Spread n m w good g → Settles n m w good g v → Truth n good g T κ → total (astray n m w good g v) n ≤ most → Accurate T (κ + ceilDiv (most * w) n) (valueOf n m w v)
-  accurate v T κ most h s truth sums =
-      let some-n : 0 < n = omega (arith, h .many) in
-      let row =
-      used-strays n m w good g v h s (T - κ) (T + κ) (λ r l e. omega (arith, truth .below r l e)) (truth .above)
-      in
-      let a = mean-stray-above n some-n w (astray n m w good g v) most sums (usedOf n m w v) (T + κ) (λ r l. row r l .above) in
-      let b =
-      mean-stray-below n some-n w (astray n m w good g v) most sums (usedOf n m w v) T κ (λ r l. omega (arith, row r l .below))
-      in
-      record { above = omega arith; below = omega arith }
+  module _ (h : Spread n m w good g) where
+    some-n : 0 < n
+    some-n = omega (arith, h .many)
 
-  pub accuracy-many : (v : Received) (T κ : ℕ) → Spread n m w good g → Settles n m w good g v → Truth n good g T κ → Accurate T (κ + ceilDiv ((m + bad n good) * w) n) (valueOf n m w v)
-  accuracy-many v T κ h s truth =
-      accurate v T κ (m + bad n good) h s truth (astray-few n m w good g v (s .unrefused) (omega (arith, h .many)))
+    module _ (v : Received) (s : Settles n m w good g v) (T κ : ℕ) (truth : Truth n good g T κ) where
+      row : (r : ℕ) → r < n → Strays n m w good v (T - κ) (T + κ) r
+      row = used-strays n m w good g v h s (T - κ) (T + κ) (λ r l e. omega (arith, truth .below r l e)) (truth .above)
 
-  -- row by row the used values differ by the window, and once more for each receiver that does not accept a good reading there
-  pub precision-many : (p q : Received) → Spread n m w good g → Settles n m w good g p → Settles n m w good g q → valueOf n m w p ≤ valueOf n m w q + ceilDiv ((n + 2 * bad n good + 2 * m) * w) n
-  precision-many p q h sp sq =
-      mean-stray n some-n w apart (n + 2 * bad n good + 2 * m) sums (usedOf n m w p) (usedOf n m w q) row
-    where
-      some-n : 0 < n
-      some-n = omega (arith, h .many)
+      -- a new value is within κ of the true one, and the window for each of those that are not both good and accepted
+      accurate : (most : ℕ) → total (astray n m w good v) n ≤ most → Accurate T (κ + ceilDiv (most * w) n) (valueOf n m w v)
+      accurate most sums = record { above = omega (arith, above); below = omega (arith, below) }
+        where
+          above : valueOf n m w v ≤ T + κ + ceilDiv (most * w) n
+          above =
+              mean-stray-above n some-n w (astray n m w good v) most sums (usedOf n m w v) (T + κ) (λ r l. row r l .above)
 
-      some-good : 0 < count good n
-      some-good = omega (arith, h .many, count-not good n)
+          below : T ≤ valueOf n m w v + κ + ceilDiv (most * w) n
+          below =
+              mean-stray-below n some-n w (astray n m w good v) most sums (usedOf n m w v) T κ
+              (λ r l. omega (arith, row r l .below))
 
-      apart : ℕ → ℕ
-      apart r = 1 + astray n m w good g p r + astray n m w good g q r
+      pub accuracy-many : Accurate T (κ + ceilDiv ((m + bad n good) * w) n) (valueOf n m w v)
+      accuracy-many =
+          accurate (m + bad n good) (astray-few n m w good v (s .unrefused) (omega (arith, h .many)))
 
-      sums : total apart n ≤ n + 2 * bad n good + 2 * m
-      sums =
-          let a = astray-few n m w good g p (sp .unrefused) (omega (arith, h .many)) in
-          let b = astray-few n m w good g q (sq .unrefused) (omega (arith, h .many)) in
-          let c = total-add (λ r. 1 + astray n m w good g p r) (astray n m w good g q) n in
-          let d = total-add (λ _. 1) (astray n m w good g p) n in
-          let e = total-const 1 n in
-          omega arith
+    module _ (p q : Received) (sp : Settles n m w good g p) (sq : Settles n m w good g q) where
+      -- row by row the used values differ by the window, and once more for each of the two at which the row is astray
+      pub precision-many : valueOf n m w p ≤ valueOf n m w q + ceilDiv ((n + 2 * bad n good + 2 * m) * w) n
+      precision-many =
+          mean-stray n some-n w apart (n + 2 * bad n good + 2 * m) sums (usedOf n m w p) (usedOf n m w q) far
+        where
+          apart : ℕ → ℕ
+          apart r = 1 + astray n m w good p r + astray n m w good q r
 
-      row : (r : ℕ) → r < n → usedOf n m w p r ≤ usedOf n m w q r + apart r * w
-      row r l =
-          let lo = least good g n some-good in
-          let hi = greatest good g n some-good in
-          let a = used-strays n m w good g p h sp (g (lo .index)) (g (hi .index)) (lo .first) (hi .first) r l .above in
-          let b = used-strays n m w good g q h sq (g (lo .index)) (g (hi .index)) (lo .first) (hi .first) r l .below in
-          let c = h .close (hi .index) (lo .index) (hi .inRange) (lo .inRange) (hi .passes) (lo .passes) in
-          let d = add-mul (1 + astray n m w good g p r) (astray n m w good g q r) w in
-          let e = add-mul 1 (astray n m w good g p r) w in
-          omega arith
+          sums : total apart n ≤ n + 2 * bad n good + 2 * m
+          sums =
+              let a = astray-few n m w good p (sp .unrefused) (omega (arith, h .many)) in
+              let b = astray-few n m w good q (sq .unrefused) (omega (arith, h .many)) in
+              let c = total-add (λ r. 1 + astray n m w good p r) (astray n m w good q) n in
+              let d = total-add (λ _. 1) (astray n m w good p) n in
+              omega (arith, total-const 1 n)
+
+          some-good : 0 < count good n
+          some-good = omega (arith, h .many, count-not good n)
+
+          lo : Least good g n
+          lo = least good g n some-good
+
+          hi : Greatest good g n
+          hi = greatest good g n some-good
+
+          far : (r : ℕ) → r < n → usedOf n m w p r ≤ usedOf n m w q r + apart r * w
+          far r l =
+              let a = used-strays n m w good g p h sp (g (lo .index)) (g (hi .index)) (lo .first) (hi .first) r l .above in
+              let b = used-strays n m w good g q h sq (g (lo .index)) (g (hi .index)) (lo .first) (hi .first) r l .below in
+              let c = h .close (hi .index) (lo .index) (hi .inRange) (lo .inRange) (hi .passes) (lo .passes) in
+              let d = add-mul (1 + astray n m w good p r) (astray n m w good q r) w in
+              let e = add-mul 1 (astray n m w good p r) w in
+              omega arith
 
   -- ---- at most m bad
 
   module _ (h : Few n m w good g) where
     few-spread : Spread n m w good g
     few-spread = record { many = omega (arith, h .fits, h .few); close = h .close }
-
-    some-n : 0 < n
-    some-n = omega (arith, h .fits)
 
     many-good : n - m ≤ count good n
     many-good = omega (arith, h .few, count-not good n)
@@ -153,22 +158,19 @@ module _ (n m w : ℕ) (good : ℕ → Bool) (g : ℕ → ℕ) where
       used-between =
           used-within (accepts n m w v) n (v .x) unrefused _ _ (lowest .first) (highest .first) (v .k) (v .kind)
 
-      few-astray : total (astray n m w good g v) n ≤ m
+      few-astray : total (astray n m w good v) n ≤ m
       few-astray =
-          let f = count-total (λ r. not (accepts n m w v r && good r)) n in
-          let a = count-not (λ r. accepts n m w v r && good r) n in
-          let b = count-mono good (λ r. accepts n m w v r && good r) n (λ r l e. and-intro (good-accepted r l e) e) in
-          let c = count-not good n in
-          omega (arith, h .few)
+          let c = count-mono good (λ r. accepts n m w v r && good r) n (λ r l e. and-intro (good-accepted r l e) e) in
+          omega (arith, h .few, astray-count n m w good v, count-not good n)
 
       pub accuracy-few : (T κ : ℕ) → Truth n good g T κ → Accurate T (κ + ceilDiv (m * w) n) (valueOf n m w v)
-      accuracy-few T κ truth = accurate v T κ m few-spread few-settles truth few-astray
+      accuracy-few T κ truth = accurate few-spread v few-settles T κ truth m few-astray
 
     module _ (p q : Received) (sp : Reads n good g p) (sq : Reads n good g q) where
       -- used values that differ by at most j windows, and at the bad ones only
       apart-few : (j : ℕ) → ((r : ℕ) → r < n → usedOf n m w p r ≤ usedOf n m w q r + j * w) → valueOf n m w p ≤ valueOf n m w q + ceilDiv (j * (m * w)) n
       apart-few j far =
-          rw (← mul-assoc j m w) (mean-stray n some-n w apart (j * m) sums (usedOf n m w p) (usedOf n m w q) row)
+          rw (← mul-assoc j m w) (mean-stray n (some-n few-spread) w apart (j * m) sums (usedOf n m w p) (usedOf n m w q) row)
         where
           apart : ℕ → ℕ
           apart r = bit (not (good r)) * j
@@ -190,18 +192,26 @@ module _ (n m w : ℕ) (good : ℕ → Bool) (g : ℕ → ℕ) where
 
       -- H2: an accepted reading at p and one at q lie within w of one good value
       accepted-close : (r s : ℕ) → accepts n m w p r ≡ true → accepts n m w q s ≡ true → p .x r ≤ q .x s + 2 * w
-      accepted-close r s a b =
-          let i = accepted-span w (p .pres) (p .x) (n - m) n r a in
-          let j = accepted-span w (q .pres) (q .x) (n - m) n s b in
-          let f =
-          share (good-in n m w good g p (i .start)) (good-in n m w good g q (j .start)) good n
-          (λ t _ e. and-right (accepts n m w p t && inside w (i .start) (p .x t)) (good t) e)
-          (λ t _ e. and-right (accepts n m w q t && inside w (j .start) (q .x t)) (good t) e)
-          (omega (arith, h .fits, h .few, count-not good n, good-in-many n m w good g p r i, good-in-many n m w good g q s j))
-          in
-          let c = good-near n m w good g p (sp .alike) r (f .0) i (f .1) (f .2) in
-          let d = good-near n m w good g q (sq .alike) s (f .0) j (f .1) (f .3) in
-          omega (arith, c .above, d .below)
+      accepted-close r s a b = omega (arith, near .above, near′ .below)
+        where
+          span : SpanOf n m w p r
+          span = span-of n m w p r a
+
+          span′ : SpanOf n m w q s
+          span′ = span-of n m w q s b
+
+          shared : (t : ℕ) × (t < n) × (good-in n m w good p (span .start) t ≡ true) × (good-in n m w good q (span′ .start) t ≡ true)
+          shared =
+              share (good-in n m w good p (span .start)) (good-in n m w good q (span′ .start)) good n
+              (λ t _ e. good-in-good n m w good p (span .start) t e)
+              (λ t _ e. good-in-good n m w good q (span′ .start) t e)
+              (omega (arith, h .fits, h .few, count-not good n, good-in-many n m w good p r span, good-in-many n m w good q s span′))
+
+          near : Near w g p r (shared .0)
+          near = good-near n m w good g p (sp .alike) r (shared .0) span (shared .1) (shared .2)
+
+          near′ : Near w g q s (shared .0)
+          near′ = good-near n m w good g q (sq .alike) s (shared .0) span′ (shared .1) (shared .3)
 
       pub precision-few : valueOf n m w p ≤ valueOf n m w q + ceilDiv (2 * (m * w)) n
       precision-few = apart-few 2 far
@@ -216,11 +226,11 @@ module _ (n m w : ℕ) (good : ℕ → Bool) (g : ℕ → ℕ) where
     -- where q settles by the median: an accepted reading at p lies within w of it
     module _ (p q : Received) (sp : Reads n good g p) (sq : Reads n good g q) (agree : Agree n p q) (kind : q .kind ≡ median) where
       -- p alone accepts bad ones only
-      alone : count (λ t. accepts n m w p t && not (accepts n m w q t)) n ≤ m
-      alone =
+      few-alone : count (alone (accepts n m w p) (accepts n m w q)) n ≤ m
+      few-alone =
           le-trans
           (count-mono
-          (λ t. accepts n m w p t && not (accepts n m w q t))
+          (alone (accepts n m w p) (accepts n m w q))
           (λ t. not (good t))
           n
           (λ t l e.
@@ -231,23 +241,18 @@ module _ (n m w : ℕ) (good : ℕ → Bool) (g : ℕ → ℕ) where
           (h .few)
 
       same : (t : ℕ) → t < n → accepts n m w p t ≡ true → accepts n m w q t ≡ true → p .x t ≡ q .x t
-      same t l a b =
-          agree t l
-          (accepted-present w (p .pres) (p .x) (n - m) n t a)
-          (accepted-present w (q .pres) (q .x) (n - m) n t b)
+      same t l a b = agree t l (accepts-present n m w p t a) (accepts-present n m w q t b)
 
       the-median : Numbered (accepts n m w q) n (q .x) ((count (accepts n m w q) n + 1) / 2) (estimateOf n m w q)
       the-median = rw kind (median-numbered (accepts n m w q) n (q .x) (unrefused q sq) (q .k))
 
-      module _ (r : ℕ) (e : accepts n m w p r ≡ true) where
-        span : Span w (accepts n m w p) (p .x) (n - m) n r
-        span = accepted-span w (p .pres) (p .x) (n - m) n r e
+      median-high : (r : ℕ) → accepts n m w p r ≡ true → p .x r ≤ estimateOf n m w q + w
+      median-high r e =
+          median-above n m w (accepts n m w p) (accepts n m w q) (p .x) (q .x) same r (span-of n m w p r e) (h .fits) few-alone _ the-median
 
-        median-high : p .x r ≤ estimateOf n m w q + w
-        median-high = median-above n m w (accepts n m w p) (accepts n m w q) (p .x) (q .x) (h .fits) alone same r span _ the-median
-
-        median-low : estimateOf n m w q ≤ p .x r + w
-        median-low = median-below n m w (accepts n m w p) (accepts n m w q) (p .x) (q .x) (h .fits) alone same r span _ the-median
+      median-low : (r : ℕ) → accepts n m w p r ≡ true → estimateOf n m w q ≤ p .x r + w
+      median-low r e =
+          median-below n m w (accepts n m w p) (accepts n m w q) (p .x) (q .x) same r (span-of n m w p r e) (h .fits) few-alone _ the-median
 
     -- rows that neither accepts count too: the median at p is itself an accepted reading there
     pub precision-median : (p q : Received) → Reads n good g p → Reads n good g q → Agree n p q → p .kind ≡ median → q .kind ≡ median → valueOf n m w p ≤ valueOf n m w q + ceilDiv (m * w) n

@@ -1,8 +1,8 @@
 -- Quotients rounded up, and the mean of n numbers to the nearest, a half going up: how it moves with the sum.
 -- Assumes nothing.
-use mathlib.Core.Path.{_≡_, refl, sym, ap, _∙_, subst}
-use Prim.Native.Nat.{ℕ, zero, suc, _+_, _*_, _-_, _/_, _≤_, _<_}
-use native.Mathlib.Nat.{div-mul-le-self, lt-div-mul-add, add-mul-div-right, div-eq-of-lt, mul-comm, mul-assoc, mul-le-mul-right, add-mul}
+use mathlib.Core.Path.{_≡_, ap, _∙_}
+use Prim.Native.Nat.{ℕ, _+_, _*_, _-_, _/_, _≤_, _<_}
+use native.Mathlib.Nat.{div-mul-le-self, lt-div-mul-add, add-mul-div-right, div-eq-of-lt, mul-comm, mul-assoc, mul-le-mul-right}
 use native.Mathlib.Omega.{arith}
 use Rattle.arithmetic.proofs.Division.{div-mono}
 use Rattle.arithmetic.proofs.Sums.{total, total-mono, total-add, total-const, total-scale}
@@ -13,20 +13,16 @@ pub ceil-div-covers : (b n : ℕ) → 0 < n → b ≤ ceilDiv b n * n
 unfolding ceilDiv
 ceil-div-covers b n h = omega (arith, lt-div-mul-add {a = b + (n - 1)} h)
 
-pub ceil-div-mono : {a b : ℕ} (n : ℕ) → 0 < n → a ≤ b → ceilDiv a n ≤ ceilDiv b n
-unfolding ceilDiv
-ceil-div-mono n h l = div-mono n h (omega arith)
+-- y is a nearest whole number to s / n
+pub record Nearest (n s y : ℕ) : Type 0 where
+  pub below : 2 * n * y ≤ 2 * s + n
+  pub above : 2 * s + n < 2 * n * y + 2 * n
 
 module _ (n : ℕ) (some-n : 0 < n) where
   twice-pos : 0 < 2 * n
   twice-pos = omega arith
 
-  pub record MeanOf (s : ℕ) : Type 0 where
-    pub below : 2 * n * mean-nat n s ≤ 2 * s + n
-    pub above : 2 * s + n < 2 * n * mean-nat n s + 2 * n
-
-  -- the mean is nearest to s / n
-  pub mean-nearest : (s : ℕ) → MeanOf s
+  pub mean-nearest : (s : ℕ) → Nearest n s (mean-nat n s)
   unfolding mean-nat
   mean-nearest s =
       let c = mul-comm (2 * n) ((s + s + n) / (2 * n)) in

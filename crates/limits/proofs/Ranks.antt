@@ -2,11 +2,10 @@
 -- at or below which h of them stand.
 --   Numbered acc n x h e       e is the number of an index that acc admits, h of them are at or below it, and fewer below it
 -- Assumes nothing.
-use mathlib.Core.Bool.{Bool, true, false, _&&_}
+use mathlib.Core.Bool.{Bool, true, _&&_}
 use mathlib.Core.Logic.{⊎-elim}
-use mathlib.Core.Option.{Option, none, some}
-use mathlib.Core.Path.{_≡_, refl, sym, ap, _∙_}
-use Prim.Native.Nat.{ℕ, _+_, _≤_, _<_}
+use mathlib.Core.Path.{_≡_, refl, ap}
+use Prim.Native.Nat.{ℕ, _≤_, _<_}
 use native.Mathlib.Nat.{le-trans}
 use native.Mathlib.Omega.{arith}
 use lib.Dec.{leb, ltb}
@@ -49,20 +48,23 @@ module _ (acc : ℕ → Bool) (n : ℕ) (x : ℕ → ℕ) (h : ℕ) where
       under : ℕ → Bool
       under s = acc s && ltb (x s) (x (r .index))
 
+      under-acc : (s : ℕ) → under s ≡ true → acc s ≡ true
+      under-acc s e = and-left (acc s) (ltb (x s) (x (r .index))) e
+
+      under-less : (s : ℕ) → under s ≡ true → x s < x (r .index)
+      under-less s e = ltb-true (x s) (x (r .index)) (and-right (acc s) (ltb (x s) (x (r .index))) e)
+
+      as-many : (top : Greatest under x n) → count under n ≤ count (λ s. acc s && leb (x s) (x (top .index))) n
+      as-many top =
+          count-mono under (λ s. acc s && leb (x s) (x (top .index))) n
+          (λ s l e. and-intro (under-acc s e) (le-leb (x s) (x (top .index)) (top .first s l e)))
+
       impossible : h ≤ count under n → ⊥
       impossible l =
           let top = greatest under x n (omega arith) in
-          let b = ltb-true (x (top .index)) (x (r .index)) (and-right (acc (top .index)) (ltb (x (top .index)) (x (r .index))) (top .passes)) in
-          let a = and-left (acc (top .index)) (ltb (x (top .index)) (x (r .index))) (top .passes) in
-          let c =
-          count-mono under
-          (λ s. acc s && leb (x s) (x (top .index)))
-          n
-          (λ s k e.
-          and-intro (and-left (acc s) (ltb (x s) (x (r .index))) e) (le-leb (x s) (x (top .index)) (top .first s k e)))
-          in
-          let z = r .first (top .index) (top .inRange) (enough-intro (top .index) a (le-trans l c)) in
-          omega arith
+          let a = under-acc (top .index) (top .passes) in
+          let z = r .first (top .index) (top .inRange) (enough-intro (top .index) a (le-trans l (as-many top))) in
+          omega (arith, under-less (top .index) (top .passes))
 
   module _ (some-h : 0 < h) (most : h ≤ count acc n) where
     -- the highest admitted number has all of them at or below it

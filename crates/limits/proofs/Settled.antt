@@ -7,7 +7,7 @@
 --   Truth                       the good values lie within κ of the true one
 -- Assumes nothing.
 use mathlib.Core.Bool.{Bool, true, false, not}
-use mathlib.Core.Path.{_≡_, refl}
+use mathlib.Core.Path.{_≡_}
 use Prim.Native.Nat.{ℕ, _+_, _*_, _-_, _≤_, _<_}
 use Rattle.arithmetic.specs.Counting.{count}
 use Rattle.arithmetic.proofs.Sums.{total}

@@ -1,7 +1,6 @@
 -- Laws of the quotient rounded up.
 -- Assumes nothing.
-use mathlib.Core.Path.{_≡_}
-use Prim.Native.Nat.{ℕ, zero, suc, _+_, _*_, _-_, _/_, _≤_, _<_, zero-le}
+use Prim.Native.Nat.{ℕ, suc, _+_, _*_, _-_, _/_, _≤_, _<_}
 use native.Mathlib.Nat.{div-lt-iff-lt-mul, lt-div-mul-add, div-mul-le-self, le-trans, suc-mul, mul-le-mul-left, mul-one}
 use native.Mathlib.Omega.{arith}
 use Rattle.model.specs.Planner.{ceilDiv}

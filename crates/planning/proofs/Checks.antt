@@ -6,13 +6,13 @@ use mathlib.Core.Option.{none, some}
 use mathlib.Core.Path.{_≡_, refl, sym, ap, _∙_}
 use Prim.Native.Nat.{ℕ, _+_, _*_, _≤_, _<_}
 use lib.Dec.{eqb, ltb, leb}
-use borrow.Author.Tests.{ltb-true, ltb-false, leb-false, eqb-false, le-ltb, lt-leb, ne-eqb}
+use borrow.Author.Tests.{ltb-false, leb-false, eqb-false, le-ltb, lt-leb, ne-eqb}
 use native.Mathlib.Omega.{arith}
-use Rattle.arithmetic.proofs.Bools.{or-false}
+use Rattle.arithmetic.proofs.Bools.{clash, or-false}
 use Rattle.model.specs.declared.Settings.{Settings}
 use Rattle.model.specs.declared.Refusal.{Refusal}
-use Rattle.model.specs.Planner.{Plan, windowAfter}
-use Rattle.model.specs.Refusals.{Row, when, orNext, firstOf, settingsChecks, planChecks, stepChecks, targetChecks, badCabinets, badFaults, badMethod, badWindow, badPlan, targetMissed}
+use Rattle.model.specs.Planner.{Plan}
+use Rattle.model.specs.Refusals.{Row, when, orNext, firstOf, settingsChecks, planChecks, stepChecks, badCabinets, badFaults, badMethod, badWindow, badPlan}
 
 -- ---- any rows
 
@@ -23,26 +23,24 @@ first-of-append [] ss = refl
 first-of-append (none ∷ rs) ss = first-of-append rs ss
 first-of-append (some r ∷ rs) ss = refl
 
--- a refusal of the first list stands
-pub first-refuses : (rs ss : List Row) {r : Refusal} → firstOf rs ≡ some r → firstOf (rs ++ ss) ≡ some r
-first-refuses rs ss e = first-of-append rs ss ∙ ap (λ (row : Row). orNext row (firstOf ss)) e
+first-of-one : (r : Row) → firstOf (r ∷ []) ≡ r
+unfolding firstOf
+first-of-one none = refl
+first-of-one (some r) = refl
 
--- where the first list passes, the second decides
-pub first-passes : (rs ss : List Row) → firstOf rs ≡ none → firstOf (rs ++ ss) ≡ firstOf ss
-first-passes rs ss e = first-of-append rs ss ∙ ap (λ (row : Row). orNext row (firstOf ss)) e
+-- one row more
+pub first-of-snoc : (rs : List Row) (r : Row) → firstOf (rs ++ (r ∷ [])) ≡ orNext (firstOf rs) r
+first-of-snoc rs r = first-of-append rs (r ∷ []) ∙ ap (orNext (firstOf rs)) (first-of-one r)
 
-pub some-not-none : {X : Type 0} {r : Refusal} → _≡_ {A = Row} (some r) none → X
+some-not-none : {X : Type 0} {r : Refusal} → _≡_ {A = Row} (some r) none → X
 some-not-none e = let z : _≡_ {A = ℕ} 0 1 = cc in absurd (omega arith)
 
-or-next-none : (r s : Row) → orNext r s ≡ none → (r ≡ none) × (s ≡ none)
+-- where neither of two rows refuses, each of them passes
+pub or-next-none : (r s : Row) → orNext r s ≡ none → (r ≡ none) × (s ≡ none)
 or-next-none none s e = (refl, e)
 or-next-none (some r) s e = some-not-none e
 
--- two lists pass together where each of them does
-pub both-pass : (rs ss : List Row) → firstOf (rs ++ ss) ≡ none → (firstOf rs ≡ none) × (firstOf ss ≡ none)
-both-pass rs ss e = or-next-none (firstOf rs) (firstOf ss) (sym (first-of-append rs ss) ∙ e)
-
-when-none : (fails : Bool) (number : ℕ) → when fails number ≡ none → fails ≡ false
+pub when-none : (fails : Bool) (number : ℕ) → when fails number ≡ none → fails ≡ false
 when-none true number e = some-not-none e
 when-none false number e = refl
 
@@ -51,7 +49,7 @@ or-false-left true b e = e
 or-false-left false b e = refl
 
 or-false-right : (a b : Bool) → (a || b) ≡ false → b ≡ false
-or-false-right true b e = Rattle.arithmetic.proofs.Bools.clash refl e
+or-false-right true b e = clash refl e
 or-false-right false b e = e
 
 -- ---- rows 2 to 5
@@ -93,7 +91,18 @@ passes-none c p =
     let window = le-ltb 1000000 (c .window) (p .narrow) in
     rw (cabinets, faults, method, window)
 
--- ---- row 11
+-- ---- rows 2 to 5, and then 11
+
+module _ (c : Settings) (fails : Bool) where
+  none-eleven : firstOf (settingsChecks c ++ (badPlan fails ∷ [])) ≡ none → Passes c × (fails ≡ false)
+  unfolding badPlan
+  none-eleven e =
+      let parts = or-next-none _ _ (sym (first-of-snoc (settingsChecks c) (badPlan fails)) ∙ e) in
+      (none-passes c (parts .0), when-none fails 11 (parts .1))
+
+  eleven-none : Passes c → fails ≡ false → firstOf (settingsChecks c ++ (badPlan fails ∷ [])) ≡ none
+  unfolding badPlan
+  eleven-none p t = first-of-snoc (settingsChecks c) (badPlan fails) ∙ (rw (passes-none c p, t))
 
 -- a start that the planner grants for k rounds
 pub record MayStart (c : Settings) (κ k : ℕ) : Type 0 where
@@ -101,22 +110,20 @@ pub record MayStart (c : Settings) (κ k : ℕ) : Type 0 where
   pub accurate : κ ≤ 1000000000
   pub few : k ≤ 32
 
-pub none-may-start : (c : Settings) (κ k : ℕ) → firstOf (planChecks c κ k) ≡ none → MayStart c κ k
-unfolding firstOf planChecks badPlan
-none-may-start c κ k e =
-    let parts = both-pass (settingsChecks c) _ e in
-    let eleven = when-none _ 11 (or-next-none _ none (parts .1) .0) in
-    record {
-      passes = none-passes c (parts .0);
-      accurate = ltb-false 1000000000 κ (or-false-left (ltb 1000000000 κ) (ltb 32 k) eleven);
-      few = ltb-false 32 k (or-false-right (ltb 1000000000 κ) (ltb 32 k) eleven);
-    }
+module _ (c : Settings) (κ k : ℕ) where
+  pub none-may-start : firstOf (planChecks c κ k) ≡ none → MayStart c κ k
+  unfolding planChecks
+  none-may-start e =
+      let parts = none-eleven c (ltb 1000000000 κ || ltb 32 k) e in
+      record {
+        passes = parts .0;
+        accurate = ltb-false 1000000000 κ (or-false-left (ltb 1000000000 κ) (ltb 32 k) (parts .1));
+        few = ltb-false 32 k (or-false-right (ltb 1000000000 κ) (ltb 32 k) (parts .1));
+      }
 
-pub may-start-none : (c : Settings) (κ k : ℕ) → MayStart c κ k → firstOf (planChecks c κ k) ≡ none
-unfolding firstOf planChecks badPlan
-may-start-none c κ k s =
-    let eleven = or-false (le-ltb 1000000000 κ (s .accurate)) (le-ltb 32 k (s .few)) in
-    first-passes (settingsChecks c) _ (passes-none c (s .passes)) ∙ (rw eleven)
+  pub may-start-none : MayStart c κ k → firstOf (planChecks c κ k) ≡ none
+  unfolding planChecks
+  may-start-none s = eleven-none c _ (s .passes) (or-false (le-ltb 1000000000 κ (s .accurate)) (le-ltb 32 k (s .few)))
 
 -- a plan whose step is granted
 pub record MayStep (p : Plan) : Type 0 where
@@ -124,19 +131,18 @@ pub record MayStep (p : Plan) : Type 0 where
   pub early : p .rounds < 32
   pub accurate : p .accuracy ≤ 1100000000
 
-pub none-may-step : (p : Plan) → firstOf (stepChecks p) ≡ none → MayStep p
-unfolding firstOf stepChecks badPlan
-none-may-step p e =
-    let parts = both-pass (settingsChecks (p .settings)) _ e in
-    let eleven = when-none _ 11 (or-next-none _ none (parts .1) .0) in
-    record {
-      passes = none-passes (p .settings) (parts .0);
-      early = leb-false 32 (p .rounds) (or-false-left (leb 32 (p .rounds)) (ltb 1100000000 (p .accuracy)) eleven);
-      accurate = ltb-false 1100000000 (p .accuracy) (or-false-right (leb 32 (p .rounds)) (ltb 1100000000 (p .accuracy)) eleven);
-    }
+module _ (p : Plan) where
+  pub none-may-step : firstOf (stepChecks p) ≡ none → MayStep p
+  unfolding stepChecks
+  none-may-step e =
+      let parts = none-eleven (p .settings) (leb 32 (p .rounds) || ltb 1100000000 (p .accuracy)) e in
+      record {
+        passes = parts .0;
+        early = leb-false 32 (p .rounds) (or-false-left (leb 32 (p .rounds)) (ltb 1100000000 (p .accuracy)) (parts .1));
+        accurate = ltb-false 1100000000 (p .accuracy) (or-false-right (leb 32 (p .rounds)) (ltb 1100000000 (p .accuracy)) (parts .1));
+      }
 
-pub may-step-none : (p : Plan) → MayStep p → firstOf (stepChecks p) ≡ none
-unfolding firstOf stepChecks badPlan
-may-step-none p s =
-    let eleven = or-false (lt-leb 32 (p .rounds) (s .early)) (le-ltb 1100000000 (p .accuracy) (s .accurate)) in
-    first-passes (settingsChecks (p .settings)) _ (passes-none (p .settings) (s .passes)) ∙ (rw eleven)
+  pub may-step-none : MayStep p → firstOf (stepChecks p) ≡ none
+  unfolding stepChecks
+  may-step-none s =
+      eleven-none (p .settings) _ (s .passes) (or-false (lt-leb 32 (p .rounds) (s .early)) (le-ltb 1100000000 (p .accuracy) (s .accurate)))

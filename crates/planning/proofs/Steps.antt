@@ -2,17 +2,18 @@
 -- Assumes nothing.
 use mathlib.Core.Option.{none, some}
 use mathlib.Core.Path.{_≡_, refl, sym, ap, _∙_}
-use Prim.Native.Nat.{ℕ, zero, suc, _≤_, _<_}
+use Prim.Native.Nat.{ℕ, zero, suc, _+_, _≤_, _<_}
 use borrow.Author.Tests.{le-ltb}
 use native.Mathlib.Omega.{arith}
 use Rattle.model.specs.declared.Settings.{Settings}
 use Rattle.model.specs.declared.Refusal.{Refusal}
 use Rattle.model.specs.Planner.{Plan, planFrom, advance, after}
 use Rattle.model.specs.Refusals.{Row, firstOf, planChecks, stepChecks}
-use Rattle.model.specs.Calls.{Verdict, granted, refused, verdict, plan, step}
+use Rattle.model.specs.Calls.{granted, refused, verdict, plan, step}
 use Rattle.planning.specs.Stepping.{thenStep, steps}
-use Rattle.planning.proofs.Checks.{MayStart, MayStep, none-may-start, may-start-none, may-step-none}
+use Rattle.planning.proofs.Checks.{Passes, MayStep, none-may-start, may-step-none}
 use Rattle.planning.proofs.Rounds.{rounds-after}
+use Rattle.planning.proofs.Verdicts.{granted-row, refused-row}
 use Rattle.planning.proofs.Windows.{passes-after, accuracy-after-le}
 
 -- up to 32 the number of rounds decides nothing
@@ -20,33 +21,49 @@ pub plan-checks-rounds : (c : Settings) (κ k : ℕ) → k ≤ 32 → planChecks
 unfolding planChecks
 plan-checks-rounds c κ k l = rw (le-ltb 32 k l)
 
-pub start-may-step : (c : Settings) (κ j k : ℕ) → MayStart c κ j → k < 32 → MayStep (after k (planFrom c κ))
-start-may-step c κ j k s l =
-    record {
-      passes = passes-after k (planFrom c κ) (s .passes);
-      early = (let r = rounds-after k (planFrom c κ) in omega arith);
-      accurate = (let a = accuracy-after-le k (planFrom c κ) (s .passes) in omega arith);
-    }
+-- an accuracy that may start allows every step within 32 rounds
+pub may-step-after : (p : Plan) (k : ℕ) → Passes (p .settings) → p .accuracy ≤ 1000000000 → p .rounds + k < 32
+    → MayStep (after k p)
+may-step-after p k s h l =
+    let r = rounds-after k p in
+    let a = accuracy-after-le k p s in
+    record { passes = passes-after k p s; early = omega arith; accurate = omega arith }
 
 -- a start that is granted never meets the step's refusal within 32 rounds
-pub granted-start-steps : (c : Settings) (κ k : ℕ) → firstOf (planChecks c κ 0) ≡ none → k < 32 → firstOf (stepChecks (after k (planFrom c κ))) ≡ none
-granted-start-steps c κ k e l = may-step-none (after k (planFrom c κ)) (start-may-step c κ 0 k (none-may-start c κ 0 e) l)
+pub start-step-passes : (c : Settings) (κ k : ℕ) → firstOf (planChecks c κ 0) ≡ none → k < 32
+    → firstOf (stepChecks (after k (planFrom c κ))) ≡ none
+start-step-passes c κ k e l =
+    let s = none-may-start c κ 0 e in
+    may-step-none (after k (planFrom c κ)) (may-step-after (planFrom c κ) k (s .passes) (s .accurate) (omega arith))
 
 -- ---- what the calls give
 
-pub plan-granted : (c : Settings) (κ k : ℕ) → firstOf (planChecks c κ 0) ≡ none → k ≤ 32 → plan c κ k ≡ granted (after k (planFrom c κ))
+-- each is its first row's refusal, or grants
+pub plan-by-row : (c : Settings) (κ k : ℕ) {row : Row} → firstOf (planChecks c κ k) ≡ row
+    → plan c κ k ≡ verdict row (after k (planFrom c κ))
 unfolding plan
-plan-granted c κ k e l =
-    ap (λ (row : Row). verdict row (after k (planFrom c κ))) (ap firstOf (plan-checks-rounds c κ k l) ∙ e)
+plan-by-row c κ k e = ap (λ (row : Row). verdict row (after k (planFrom c κ))) e
 
-pub plan-refused : (c : Settings) (κ k : ℕ) {r : Refusal} → firstOf (planChecks c κ 0) ≡ some r → k ≤ 32 → plan c κ k ≡ refused r
-unfolding plan
-plan-refused c κ k e l =
-    ap (λ (row : Row). verdict row (after k (planFrom c κ))) (ap firstOf (plan-checks-rounds c κ k l) ∙ e)
-
-pub step-granted : (p : Plan) → firstOf (stepChecks p) ≡ none → step p ≡ granted (advance p)
+pub step-by-row : (p : Plan) {row : Row} → firstOf (stepChecks p) ≡ row → step p ≡ verdict row (advance p)
 unfolding step
-step-granted p e = ap (λ (row : Row). verdict row (advance p)) e
+step-by-row p e = ap (λ (row : Row). verdict row (advance p)) e
+
+-- no step of a start that is granted refuses within 32 rounds
+pub start-step-granted : (c : Settings) (κ k : ℕ) → firstOf (planChecks c κ 0) ≡ none → k < 32
+    → step (after k (planFrom c κ)) ≡ granted (after (suc k) (planFrom c κ))
+unfolding after
+start-step-granted c κ k e l = step-by-row (after k (planFrom c κ)) (start-step-passes c κ k e l)
+
+-- what a call gives tells which
+pub plan-granted-row : (c : Settings) (κ k : ℕ) {p : Plan} → granted p ≡ plan c κ k
+    → (firstOf (planChecks c κ k) ≡ none) × (p ≡ after k (planFrom c κ))
+unfolding plan
+plan-granted-row c κ k e = granted-row (after k (planFrom c κ)) (firstOf (planChecks c κ k)) e
+
+pub plan-refused-row : (c : Settings) (κ k : ℕ) {r : Refusal} → refused r ≡ plan c κ k
+    → firstOf (planChecks c κ k) ≡ some r
+unfolding plan
+plan-refused-row c κ k e = refused-row (after k (planFrom c κ)) (firstOf (planChecks c κ k)) e
 
 -- ---- going k rounds at once is k steps
 
@@ -55,12 +72,16 @@ pub plan-suc : (c : Settings) (κ k : ℕ) → k < 32 → plan c κ (suc k) ≡ 
 unfolding after
 plan-suc c κ k l = go (firstOf (planChecks c κ 0)) refl
   where
+    at : (j : ℕ) {row : Row} → j ≤ 32 → firstOf (planChecks c κ 0) ≡ row
+        → plan c κ j ≡ verdict row (after j (planFrom c κ))
+    at j h e = plan-by-row c κ j (ap firstOf (plan-checks-rounds c κ j h) ∙ e)
+
     go : (row : Row) → firstOf (planChecks c κ 0) ≡ row → plan c κ (suc k) ≡ thenStep (plan c κ k)
     go none e =
-        plan-granted c κ (suc k) e l
-        ∙ sym (step-granted (after k (planFrom c κ)) (granted-start-steps c κ k e l))
-        ∙ sym (ap thenStep (plan-granted c κ k e (omega arith)))
-    go (some r) e = plan-refused c κ (suc k) e l ∙ sym (ap thenStep (plan-refused c κ k e (omega arith)))
+        at (suc k) l e
+        ∙ sym (start-step-granted c κ k e l)
+        ∙ sym (ap thenStep (at k (omega arith) e))
+    go (some r) e = at (suc k) l e ∙ sym (ap thenStep (at k (omega arith) e))
 
 pub plan-steps : (c : Settings) (κ k : ℕ) → k ≤ 32 → plan c κ k ≡ steps k (plan c κ 0)
 unfolding steps

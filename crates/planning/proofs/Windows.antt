@@ -1,7 +1,7 @@
 -- Windows never grow, and the accuracy grows each round by at most the widest window: so settings that pass go on passing.
 -- Assumes nothing.
 use mathlib.Core.Bool.{Bool, true, false, cond, _&&_}
-use mathlib.Core.Path.{_≡_, refl, sym, ap, _∙_}
+use mathlib.Core.Path.{_≡_, sym, ap, _∙_}
 use Prim.Native.Nat.{ℕ, zero, suc, _+_, _*_, _-_, _≤_, _<_}
 use native.Mathlib.Nat.{le-refl, le-trans, mul-assoc, mul-comm, mul-le-mul-right, one-mul}
 use native.Mathlib.Omega.{arith}
@@ -42,17 +42,21 @@ growth-le c s =
     let l = share-le 1 c (s .some-cabinet) (omega arith) in
     omega arith
 
-pub passes-advance : (p : Plan) → Passes (p .settings) → Passes (advance p .settings)
-unfolding advance
-passes-advance p s =
+-- settings pass with any window that does
+pub passes-window : (c : Settings) (w : ℕ) → Passes c → w ≤ 1000000 → Passes (withWindow c w)
+passes-window c w s l =
     record {
       some-cabinet = s .some-cabinet;
       cabinets = s .cabinets;
       faults = s .faults;
       known-rule = s .known-rule;
       known-estimator = s .known-estimator;
-      narrow = le-trans (next-window-le (p .settings) s) (s .narrow);
+      narrow = l;
     }
+
+pub passes-advance : (p : Plan) → Passes (p .settings) → Passes (advance p .settings)
+unfolding advance
+passes-advance p s = passes-window (p .settings) _ s (le-trans (next-window-le (p .settings) s) (s .narrow))
 
 pub passes-after : (k : ℕ) (p : Plan) → Passes (p .settings) → Passes (after k p .settings)
 unfolding after
@@ -70,7 +74,8 @@ unfolding after
 window-after-le zero p s = le-refl _
 window-after-le (suc k) p s = le-trans (window-advance-le (after k p) (passes-after k p s)) (window-after-le k p s)
 
-pub window-after-mono : (j k : ℕ) (p : Plan) → Passes (p .settings) → j ≤ k → after k p .settings .window ≤ after j p .settings .window
+pub window-after-mono : (j k : ℕ) (p : Plan) → Passes (p .settings) → j ≤ k
+    → after k p .settings .window ≤ after j p .settings .window
 window-after-mono j k p s l =
     let e : k - j + j ≡ k = omega arith in
     let split = ap (λ (i : ℕ). after i p .settings .window) (sym e) ∙ ap (λ (q : Plan). q .settings .window) (after-add (k - j) j p) in

@@ -1,38 +1,52 @@
--- `reception::receive_row` meets its contract: a decided value is carried as a copy of it, an undecided row as a missing one.
+-- `reception::receive_row` meets its contract: a decided value stands as an entry that is present, an undecided row as one that is missing.
 -- Assumes nothing.
-use mathlib.Core.Path.{_≡_, refl, sym, ap, _∙_}
-use Rattle.model.specs.Steps.{Decision, knownFaulty, decidedReading}
-use Rattle.decision.specs.Rows.{decisionOf}
-use Rattle.reception.specs.Carried.{carried}
+use mathlib.Core.Path.{sym, ap, _∙_}
+use Rattle.model.specs.Steps.{decidedReading}
+use Rattle.decisions.specs.Rows.{decisionOf}
 use borrow.Author.Needs.{needs}
 use Rattle.reception.proofs.receive_row.Statement.{statement}
 use Rattle.reception.proofs.receive_row.Tie as tie
+use Rattle.reception.proofs.receive_row.Reads as reads
+use Rattle.reception.proofs.receive_row.Lts as lts
+use Rattle.agreement.proofs.entry_value.Reads as entry-value-reads
+use Rattle.decisions.proofs.decide.Reads as decide-reads
 
+-- src/lib.rt:30:11
 decide-requires : tie.Need-decide-requires
 decide-requires c κs = search needs
 
+-- src/lib.rt:31:23
 enum-known-bits : tie.Need-enum-known-bits
 enum-known-bits c = search needs
 
-carry-requires : tie.Need-carry-requires
-carry-requires c κs = search needs
+-- src/lib.rt:31:32
+entry-value-requires : tie.Need-entry-value-requires
+entry-value-requires c κs = search needs
 
+-- src/lib.rt:32:33
 enum-told : tie.Need-enum-told
 enum-told c = search needs
 
-returns : tie.Need-returns
-returns c =
-    c .carry .ensures
-    ∙ ap (λ (d : Decision). carried (decidedReading d)) (sym (ap decisionOf (c .before .before .bits .given .1)) ∙ c .before .before .before .before .decide .ensures)
+-- src/lib.rt:32:33
+entry-value-requires-2 : tie.Need-entry-value-requires-2
+entry-value-requires-2 c κs = search needs
 
+-- src/lib.rt:27:1
+returns : tie.Need-returns
+returns c = ap decidedReading (sym (c .before .before .before .before .decide .ensures) ∙ ap decisionOf (c .before .before .bits .given .1)) ∙ c .entry-value .ensures
+
+-- src/lib.rt:27:1
 returns-2 : tie.Need-returns-2
-unfolding carried
-returns-2 c =
-    none-carried ∙ ap (λ (d : Decision). carried (decidedReading d)) (sym (ap decisionOf (c .enum-told .given .1)) ∙ c .before .before .decide .ensures)
-  where
-    none-carried : 4611686018427387904 ≡ carried (decidedReading knownFaulty)
-    none-carried = refl
+returns-2 c = ap decidedReading (sym (c .before .before .before .decide .ensures) ∙ ap decisionOf (c .before .enum-told .given .1)) ∙ c .entry-value2 .ensures
 
 pub receive-row-spec : {M : Type 1} → statement M
 receive-row-spec =
-    tie.close (tie.spec decide-requires enum-known-bits carry-requires enum-told returns returns-2)
+    tie.close
+    (tie.spec
+    decide-requires
+    enum-known-bits
+    entry-value-requires
+    enum-told
+    entry-value-requires-2
+    returns
+    returns-2)

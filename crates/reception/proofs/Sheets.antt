@@ -1,12 +1,12 @@
 -- The entries of a sheet in the parts that the code reads: the marks and the readings as sent, and each cabinet's row of copies.
 -- Assumes nothing.
-use mathlib.Core.Bool.{Bool, true, false, cond, not, _||_}
+use mathlib.Core.Bool.{Bool, true, false, cond, _&&_}
 use mathlib.Core.List.{List}
 use mathlib.Core.Path.{_≡_, refl, sym, ap, ap₂, _∙_}
 use Prim.Native.Nat.{ℕ, _+_, _*_, _-_, _/_, _≤_, _<_}
 use native.Mathlib.Nat.{div-lt-iff-lt-mul}
 use native.Mathlib.Omega.{arith}
-use borrow.Author.Tests.{eq-eqb, ne-eqb, lt-ltb, le-ltb, le-leb, lt-leb, eqb-true}
+use borrow.Author.Tests.{eq-eqb, ne-eqb, lt-ltb, le-ltb, le-leb, lt-leb, eqb-true, leb-true, ltb-true}
 use lib.Dec.{eqb, leb, ltb}
 use lib.ListN.{length, getD, take, drop, length-drop}
 use lib.Seq.{getD-take, getD-drop, length-take-le}
@@ -21,7 +21,8 @@ use Rattle.model.specs.Steps.{decidedReading, decide, readingsOf}
 use Rattle.sheets.proofs.Words.{word-ext}
 use Rattle.decisions.specs.Rows.{copyAt, rowDecision}
 use Rattle.rows.specs.Parts.{partAt}
-use Rattle.reception.specs.Standing.{Stands, rowReading, Received}
+use Rattle.arithmetic.proofs.Bools.{and-left, and-right}
+use Rattle.reception.specs.Standing.{Stands, rowReading, Received, fitting}
 use Rattle.reception.proofs.Standing.{stands-ext, row-room}
 
 -- ---- bytes and words of a part
@@ -39,6 +40,13 @@ word-part s j k i h =
 
 length-part : (s : List ℕ) (j k : ℕ) → j + k ≤ length s → length (take k (drop j s)) ≡ k
 length-part s j k h = length-take-le k (drop j s) (rw (length-drop j s) (omega arith))
+
+-- a part by its two ends
+cut : (a k : ℕ) → a + k - a ≡ k
+cut a k = omega arith
+
+pub marks-long : (s : List ℕ) (n : ℕ) → 8 + n ≤ length s → length (take (8 + n - 8) (drop 8 s)) ≡ n
+marks-long s n h = rw (cut 8 n) (length-part s 8 n h)
 
 -- entry e of a sheet, from a part of the marks and a part of the readings
 entry-part : (s : List ℕ) (E j k i l e t : ℕ) → t < k → 4 * t + 4 ≤ l → 8 + e ≡ j + t → 8 + E + 4 * e ≡ i + 4 * t → entryAt s E e ≡ copyAt (take k (drop j s)) (take l (drop i s)) t
@@ -65,6 +73,11 @@ module _ (s : List ℕ) (c : Settings) (values : List ℕ) where
       ∙ rw b (entry-part s (c .n) 8 (c .n) (8 + c .n) (4 * c .n) r r l (omega arith) refl refl))
       st
 
+  -- the same, of the parts as the code cuts them
+  pub direct-cut : eqb (c .rule) cca ≡ false → 8 + c .n ≤ length s → Stands (copyAt (take (8 + c .n - 8) (drop 8 s)) (take (8 + c .n + 4 * c .n - (8 + c .n)) (drop (8 + c .n) s))) values (length (take (8 + c .n - 8) (drop 8 s))) → Received s c values
+  direct-cut b h st =
+      direct-received b (rw (cut 8 (c .n), cut (8 + c .n) (4 * c .n), length-part s 8 (c .n) h) at st)
+
   -- CCA: the row of each cabinet
   module _ (b : eqb (c .rule) cca ≡ true) (few : 2 * c .m < c .n) (small : c .n ≤ 64) (long : length s ≡ 8 + 5 * (c .n * c .n)) where
     row-of : (r : ℕ) → r < c .n → partAt s c r ≡ take (4 * c .n) (drop (8 + c .n * c .n + 4 * (r * c .n)) s)
@@ -86,16 +99,22 @@ module _ (s : List ℕ) (c : Settings) (values : List ℕ) where
       where
         square : entryCount c ≡ c .n * c .n
         square = rw b
+
         marks : ℕ → List ℕ
         marks r = take (c .n) (drop (8 + r * c .n) s)
+
         readings : ℕ → List ℕ
         readings r = take (4 * c .n) (drop (8 + c .n * c .n + 4 * (r * c .n)) s)
+
         half : (n m : ℕ) → 2 * m < n → n / 2 < n - m
         half n m h = omega arith
+
         there : (a b t : ℕ) → 8 + (a + t) ≡ 8 + a + t
         there a b t = omega arith
+
         behind : (a b t : ℕ) → 8 + b + 4 * (a + t) ≡ 8 + b + 4 * a + 4 * t
         behind a b t = omega arith
+
         copy : (r t : ℕ) → r < c .n → t < c .n → entryAt s (c .n * c .n) (r * c .n + t) ≡ copyAt (marks r) (readings r) t
         copy r t l h =
             entry-part s (c .n * c .n) (8 + r * c .n) (c .n) (8 + c .n * c .n + 4 * (r * c .n)) (4 * c .n) (r * c .n + t) t h (omega arith)
@@ -104,3 +123,31 @@ module _ (s : List ℕ) (c : Settings) (values : List ℕ) where
 
     pub relayed-received : Stands (rowReading s c (c .n - c .m)) values (c .n) → Received s c values
     relayed-received st = stands-ext (readingsOf c (entryAt s (entryCount c))) (rowReading s c (c .n - c .m)) values (c .n) row-decided st
+
+-- ---- sizes that fit
+
+pub record Fit (c : Settings) (sheet values : ℕ) : Type 0 where
+  pub small : c .n ≤ 64
+  pub few : 2 * c .m < c .n
+  pub long : sheet ≡ 8 + 5 * entryCount c
+  pub room : values ≡ c .n
+
+pub fit : (c : Settings) (sheet values : ℕ) → fitting c sheet values ≡ true → Fit c sheet values
+unfolding fitting
+fit c sheet values e =
+    let a = and-left (leb (c .n) 64 && ltb (2 * c .m) (c .n)) _ e in
+    let b = and-right (leb (c .n) 64 && ltb (2 * c .m) (c .n)) (eqb sheet (8 + 5 * entryCount c) && eqb values (c .n)) e in
+    record {
+      small = leb-true (c .n) 64 (and-left (leb (c .n) 64) _ a);
+      few = ltb-true (2 * c .m) (c .n) (and-right (leb (c .n) 64) (ltb (2 * c .m) (c .n)) a);
+      long = eqb-true sheet (8 + 5 * entryCount c) (and-left (eqb sheet (8 + 5 * entryCount c)) _ b);
+      room = eqb-true values (c .n) (and-right (eqb sheet (8 + 5 * entryCount c)) (eqb values (c .n)) b);
+    }
+
+pub entries-relayed : (c : Settings) → eqb (c .rule) cca ≡ true → entryCount c ≡ c .n * c .n
+unfolding entryCount
+entries-relayed c b = rw b
+
+pub entries-direct : (c : Settings) → eqb (c .rule) cca ≡ false → entryCount c ≡ c .n
+unfolding entryCount
+entries-direct c b = rw b

@@ -27,10 +27,10 @@ stands-next v values n x s h e =
     record {
       long = rw (length-set values n x) (omega arith);
       each = λ r l.
-      ⊎-elim
-      (λ k. s .each r k ∙ ap standing (sym (getD-set-other values n r x 0 (ne-of-lt k))))
-      (λ q. ap v q ∙ e ∙ ap standing (sym (ap (λ (i : ℕ). getD (set values n x) i 0) q ∙ getD-set-same values n x 0 h)))
-      (split-last r n (rw (add-one n) at l))
+          ⊎-elim
+          (λ k. s .each r k ∙ ap standing (sym (getD-set-other values n r x 0 (ne-of-lt k))))
+          (λ q. ap v q ∙ e ∙ ap standing (sym (ap (λ (i : ℕ). getD (set values n x) i 0) q ∙ getD-set-same values n x 0 h)))
+          (split-last r n (rw (add-one n) at l));
     }
 
 pub stands-ended : (v : Readings) (values : List ℕ) (n e : ℕ) → e ≤ n → n ≤ e → Stands v values e → Stands v values n

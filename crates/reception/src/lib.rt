@@ -6,8 +6,7 @@ ghost use lib.ListN.{length};
 ghost use Rattle.model.specs.Steps.{decidedReading};
 ghost use Rattle.rounds.proofs.Shifted.{shift};
 ghost use Rattle.decisions.specs.Rows.{copyAt, rowDecision};
-ghost use Rattle.reception.specs.Standing.{Stands, rowReading};
-
+ghost use Rattle.reception.specs.Standing.{Stands, rowReading, fitting, Filled};
 use decisions::Decided;
 use model::Settings;
 
@@ -49,4 +48,33 @@ fn receive_relayed(sheet: &[u8], settings: Settings, need: u32, values: &mut [u6
         );
         r += 1;
     }
+}
+
+// Whether a sheet and a lent list fit settings with at most 64 cabinets, of which more than half must agree.
+fn fits(settings: Settings, sheet: usize, values: usize) -> bool
+    ensures { λ r. ⌜ r ≡ fitting settings sheet values ⌝ }
+{
+    let n = settings.n as usize;
+    let m = settings.m as usize;
+    ((n <= 64) & (2 * m < n))
+        & ((sheet == 8 + 5 * inspection::entry_count(settings)) & (values == n))
+}
+
+// Fills the list with the sheet's readings. Where the sizes do not fit it changes nothing, and answers false.
+pub fn receive(sheet: &[u8], settings: Settings, values: &mut [u64]) -> bool
+    ensures { λ r. ⌜ r ≡ fitting settings (length (now (sheet .entry))) (length (now (values .entry))) ⌝ }
+    ensures { λ r. ⌜ Filled (now (sheet .entry)) settings (now (values .entry)) r (now (values .exit)) ⌝ }
+{
+    let n = settings.n as usize;
+    if !fits(settings, sheet.len(), values.len()) {
+        return false;
+    }
+    if settings.rule == 1 {
+        let need = settings.n - settings.m;
+        receive_relayed(sheet, settings, need as u32, values);
+    } else {
+        let end = 8 + n;
+        receive_direct(&sheet[8..end], &sheet[end..end + 4 * n], values);
+    }
+    true
 }

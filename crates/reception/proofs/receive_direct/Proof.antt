@@ -16,10 +16,6 @@ use Rattle.reception.specs.Standing.{Stands}
 use Rattle.reception.proofs.Standing.{stands-none, stands-next, stands-ended}
 use Rattle.reception.proofs.receive_direct.Statement.{statement}
 use Rattle.reception.proofs.receive_direct.Tie as tie
-use Rattle.reception.proofs.receive_direct.Reads as reads
-use Rattle.reception.proofs.receive_direct.Lts as lts
-use Rattle.agreement.proofs.entry_value.Reads as entry-value-reads
-use Rattle.words.proofs.word_at.Reads as word-at-reads
 
 abbrev Inv-readings : tie.InvT-readings
 Inv-readings marks row values₀ t₀ values t = (t ≤ length marks) × Stands (copyAt marks row) values t × (length values ≡ length values₀)
@@ -27,57 +23,46 @@ Inv-readings marks row values₀ t₀ values t = (t ≤ length marks) × Stands 
 abbrev μ-readings : tie.MeasureT-readings
 μ-readings marks row values₀ t₀ values t = length marks - t
 
--- src/lib.rt:20:5
 readings-holds : tie.Need-readings-holds Inv-readings μ-readings
 readings-holds c = (search needs, stands-none (copyAt (c .before .before .before .args .marks .now) (c .before .before .before .args .row .now)) (c .before .before .before .args .values .now), refl)
 
--- src/lib.rt:21:44
 shared-slice-read-entry-value : tie.Need-shared-slice-read-entry-value Inv-readings μ-readings
 shared-slice-read-entry-value c = search needs
 
--- src/lib.rt:21:74
 mul-word-at : tie.Need-mul-word-at Inv-readings μ-readings
 mul-word-at c = search needs
 
--- src/lib.rt:21:54
 word-at-requires : tie.Need-word-at-requires Inv-readings μ-readings
 word-at-requires c κs = search needs
 
--- src/lib.rt:21:21
 entry-value-requires : tie.Need-entry-value-requires Inv-readings μ-readings
 entry-value-requires c κs = search needs
 
--- src/lib.rt:21:9
 mul-values : tie.Need-mul-values Inv-readings μ-readings
 mul-values c = search needs
 
--- src/lib.rt:21:9
 slice-write-values : tie.Need-slice-write-values Inv-readings μ-readings
 slice-write-values c = search needs
 
--- src/lib.rt:22:9
 add-t : tie.Need-add-t Inv-readings μ-readings
 add-t c = search needs
 
--- src/lib.rt:20:5
 readings-less : tie.Need-readings-less Inv-readings μ-readings
 readings-less c = search needs
 
--- src/lib.rt:20:5
 readings-again : tie.Need-readings-again Inv-readings μ-readings
-readings-again c =
-    ( search needs,
-    stands-next (copyAt (c .before .before .before .before .before .before .before .before .args .marks .now) (c .before .before .before .before .before .before .before .before .args .row .now)) (c .before .before .before .before .readings .values) (c .before .before .before .before .readings .t) (c .entry-value .result)
-    (c .before .before .before .before .readings .inv .1)
-    (omega (arith, c .before .before .before .readings-test .taken, c .before .before .before .before .before .before .before .before .pre .0, c .before .before .before .before .readings .inv .2))
-    (ap (λ (bits : ℕ). cond (eqb (getD (c .before .before .before .before .before .before .before .before .args .marks .now) (c .before .before .before .before .readings .t) 0) 1) (present (toZ w32 bits)) missing) (sym (c .before .word-at .ensures)) ∙ c .entry-value .ensures),
-    length-set (c .before .before .before .before .readings .values) (c .before .before .before .before .readings .t) (c .entry-value .result) ∙ c .before .before .before .before .readings .inv .2)
+readings-again c = (
+  search needs,
+  stands-next (copyAt (c .before .before .before .before .before .before .before .before .args .marks .now) (c .before .before .before .before .before .before .before .before .args .row .now)) (c .before .before .before .before .readings .values) (c .before .before .before .before .readings .t) (c .entry-value .result)
+      (c .before .before .before .before .readings .inv .1)
+      (omega (arith, c .before .before .before .readings-test .taken, c .before .before .before .before .before .before .before .before .pre .0, c .before .before .before .before .readings .inv .2))
+      (ap (λ (bits : ℕ). cond (eqb (getD (c .before .before .before .before .before .before .before .before .args .marks .now) (c .before .before .before .before .readings .t) 0) 1) (present (toZ w32 bits)) missing) (sym (c .before .word-at .ensures)) ∙ c .entry-value .ensures),
+  length-set (c .before .before .before .before .readings .values) (c .before .before .before .before .readings .t) (c .entry-value .result) ∙ c .before .before .before .before .readings .inv .2,
+)
 
--- src/lib.rt:15:1
 same-length : tie.Need-same-length Inv-readings μ-readings
 same-length c = search needs
 
--- src/lib.rt:15:1
 returns : tie.Need-returns Inv-readings μ-readings
 returns c =
     stands-ended (copyAt (c .before .before .before .before .before .args .marks .now) (c .before .before .before .before .before .args .row .now)) (c .before .readings .values) (length (c .before .before .before .before .before .args .marks .now)) (c .before .readings .t)

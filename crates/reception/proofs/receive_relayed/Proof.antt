@@ -13,10 +13,6 @@ use Rattle.reception.specs.Standing.{Stands, rowReading}
 use Rattle.reception.proofs.Standing.{stands-none, stands-next, stands-ended, row-room, square-most}
 use Rattle.reception.proofs.receive_relayed.Statement.{statement}
 use Rattle.reception.proofs.receive_relayed.Tie as tie
-use Rattle.reception.proofs.receive_relayed.Reads as reads
-use Rattle.reception.proofs.receive_relayed.Lts as lts
-use Rattle.reception.proofs.receive_row.Reads as receive-row-reads
-use Rattle.rows.proofs.row_part.Reads as row-part-reads
 
 abbrev Inv-rows : tie.InvT-rows
 Inv-rows sheet settings need values₀ n r₀ values r = (n ≡ settings .n) × (r ≤ n) × Stands (rowReading sheet settings need) values r × (length values ≡ length values₀)
@@ -24,15 +20,12 @@ Inv-rows sheet settings need values₀ n r₀ values r = (n ≡ settings .n) × 
 abbrev μ-rows : tie.MeasureT-rows
 μ-rows sheet settings need values₀ n r₀ values r = n - r
 
--- src/lib.rt:41:13
 cast-n : tie.Need-cast-n Inv-rows μ-rows
 cast-n c = search needs
 
--- src/lib.rt:43:5
 rows-holds : tie.Need-rows-holds Inv-rows μ-rows
 rows-holds c = (refl, search needs, stands-none (rowReading (c .before .before .before .args .sheet .now) (c .before .before .before .args .settings) (c .before .before .before .args .need)) (c .before .before .before .args .values .now), refl)
 
--- src/lib.rt:44:25
 -- the row lies within the marks
 within : (c : tie.In-rows Inv-rows μ-rows) → (c .before .rows .r * c .before .before .before .before .before .args .settings .n + c .before .before .before .before .before .args .settings .n ≤ 4096) × (8 + (c .before .rows .r * c .before .before .before .before .before .args .settings .n + c .before .before .before .before .before .args .settings .n) ≤ length (c .before .before .before .before .before .args .sheet .now))
 within c =
@@ -43,72 +36,59 @@ within c =
 mul-start : tie.Need-mul-start Inv-rows μ-rows
 mul-start c = let w = within c in omega arith
 
--- src/lib.rt:44:21
 add-start : tie.Need-add-start Inv-rows μ-rows
 add-start c = let w = within c in omega arith
 
--- src/lib.rt:46:27
 add-receive-row : tie.Need-add-receive-row Inv-rows μ-rows
 add-receive-row c = let w = within c in omega arith
 
--- src/lib.rt:46:13
 sub-receive-row : tie.Need-sub-receive-row Inv-rows μ-rows
 sub-receive-row c = let w = within c in omega arith
 
--- src/lib.rt:46:13
 part-receive-row-start : tie.Need-part-receive-row-start Inv-rows μ-rows
 part-receive-row-start c = let w = within c in omega arith
 
--- src/lib.rt:46:13
 part-receive-row-end : tie.Need-part-receive-row-end Inv-rows μ-rows
 part-receive-row-end c = let w = within c in omega arith
 
--- src/lib.rt:47:13
 row-part-requires : tie.Need-row-part-requires Inv-rows μ-rows
 row-part-requires c κs = search needs
 
--- src/lib.rt:45:21
 receive-row-requires : tie.Need-receive-row-requires Inv-rows μ-rows
 receive-row-requires c κs = search needs
 
--- src/lib.rt:45:9
 mul-values : tie.Need-mul-values Inv-rows μ-rows
 mul-values c = search needs
 
--- src/lib.rt:45:9
 slice-write-values : tie.Need-slice-write-values Inv-rows μ-rows
 slice-write-values c = search needs
 
--- src/lib.rt:50:9
 add-r : tie.Need-add-r Inv-rows μ-rows
 add-r c = search needs
 
--- src/lib.rt:43:5
 rows-less : tie.Need-rows-less Inv-rows μ-rows
 rows-less c = search needs
 
--- src/lib.rt:43:5
 rows-again : tie.Need-rows-again Inv-rows μ-rows
-rows-again c =
-    ( refl,
-    search needs,
-    stands-next (rowReading (c .before .before .before .before .before .before .before .before .args .sheet .now) (c .before .before .before .before .before .before .before .before .args .settings) (c .before .before .before .before .before .before .before .before .args .need)) (c .before .before .before .before .rows .values) (c .before .before .before .before .rows .r) (c .receive-row .result)
-    (c .before .before .before .before .rows .inv .2)
-    (omega (arith, c .before .before .before .rows-test .taken, c .before .before .before .before .before .before .before .before .pre .2, c .before .before .before .before .rows .inv .3))
-    (ap₂ (λ (k : ℕ) (part : List ℕ). decidedReading (rowDecision (c .before .before .before .before .before .before .before .before .args .need) (take k (drop (8 + c .before .before .before .before .rows .r * c .before .before .before .before .before .before .before .before .args .settings .n) (c .before .before .before .before .before .before .before .before .args .sheet .now))) part))
-    (sym (width-back (8 + c .before .before .before .before .rows .r * c .before .before .before .before .before .before .before .before .args .settings .n) (c .before .before .before .before .before .before .before .before .args .settings .n)))
-    (sym (c .before .row-part .ensures))
-    ∙ c .receive-row .ensures),
-    length-set (c .before .before .before .before .rows .values) (c .before .before .before .before .rows .r) (c .receive-row .result) ∙ c .before .before .before .before .rows .inv .3)
+rows-again c = (
+  refl,
+  search needs,
+  stands-next (rowReading (c .before .before .before .before .before .before .before .before .args .sheet .now) (c .before .before .before .before .before .before .before .before .args .settings) (c .before .before .before .before .before .before .before .before .args .need)) (c .before .before .before .before .rows .values) (c .before .before .before .before .rows .r) (c .receive-row .result)
+      (c .before .before .before .before .rows .inv .2)
+      (omega (arith, c .before .before .before .rows-test .taken, c .before .before .before .before .before .before .before .before .pre .2, c .before .before .before .before .rows .inv .3))
+      (ap₂ (λ (k : ℕ) (part : List ℕ). decidedReading (rowDecision (c .before .before .before .before .before .before .before .before .args .need) (take k (drop (8 + c .before .before .before .before .rows .r * c .before .before .before .before .before .before .before .before .args .settings .n) (c .before .before .before .before .before .before .before .before .args .sheet .now))) part))
+      (sym (width-back (8 + c .before .before .before .before .rows .r * c .before .before .before .before .before .before .before .before .args .settings .n) (c .before .before .before .before .before .before .before .before .args .settings .n)))
+      (sym (c .before .row-part .ensures))
+      ∙ c .receive-row .ensures),
+  length-set (c .before .before .before .before .rows .values) (c .before .before .before .before .rows .r) (c .receive-row .result) ∙ c .before .before .before .before .rows .inv .3,
+)
   where
     width-back : (a w : ℕ) → a + w - a ≡ w
     width-back a w = omega arith
 
--- src/lib.rt:37:1
 same-length : tie.Need-same-length Inv-rows μ-rows
 same-length c = search needs
 
--- src/lib.rt:37:1
 returns : tie.Need-returns Inv-rows μ-rows
 returns c =
     stands-ended (rowReading (c .before .before .before .before .before .args .sheet .now) (c .before .before .before .before .before .args .settings) (c .before .before .before .before .before .args .need)) (c .before .rows .values) (c .before .before .before .before .before .args .settings .n) (c .before .rows .r)

@@ -6,36 +6,25 @@ use Rattle.decisions.specs.Rows.{decisionOf}
 use borrow.Author.Needs.{needs}
 use Rattle.reception.proofs.receive_row.Statement.{statement}
 use Rattle.reception.proofs.receive_row.Tie as tie
-use Rattle.reception.proofs.receive_row.Reads as reads
-use Rattle.reception.proofs.receive_row.Lts as lts
-use Rattle.agreement.proofs.entry_value.Reads as entry-value-reads
-use Rattle.decisions.proofs.decide.Reads as decide-reads
 
--- src/lib.rt:30:11
 decide-requires : tie.Need-decide-requires
 decide-requires c κs = search needs
 
--- src/lib.rt:31:23
 enum-known-bits : tie.Need-enum-known-bits
 enum-known-bits c = search needs
 
--- src/lib.rt:31:32
 entry-value-requires : tie.Need-entry-value-requires
 entry-value-requires c κs = search needs
 
--- src/lib.rt:32:33
 enum-told : tie.Need-enum-told
 enum-told c = search needs
 
--- src/lib.rt:32:33
 entry-value-requires-2 : tie.Need-entry-value-requires-2
 entry-value-requires-2 c κs = search needs
 
--- src/lib.rt:27:1
 returns : tie.Need-returns
 returns c = ap decidedReading (sym (c .before .before .before .before .decide .ensures) ∙ ap decisionOf (c .before .before .bits .given .1)) ∙ c .entry-value .ensures
 
--- src/lib.rt:27:1
 returns-2 : tie.Need-returns-2
 returns-2 c = ap decidedReading (sym (c .before .before .before .decide .ensures) ∙ ap decisionOf (c .before .enum-told .given .1)) ∙ c .entry-value2 .ensures
 

@@ -19,7 +19,7 @@ use Rattle.model.specs.Calls.{granted, verdict, Read, marksOf, ticksOf, read, W
 use Rattle.sheets.specs.Entries.{readRows, writeRows}
 use Rattle.sheets.proofs.Rows.{first-append, next-none-left, next-none-right, none-at}
 use Rattle.sheets.proofs.Outcomes.{granted-none, granted-same, read-rows, read-grants, write-rows, write-grants}
-use Rattle.sheets.proofs.Checks.{length-pass, length-passed, room-pass, room-passed, marks-pass, marks-passed, missing-pass, missing-passed, sheet-length-passed}
+use Rattle.sheets.proofs.Checks.{length-pass, length-passed, room-pass, marks-pass, marks-passed, missing-pass, missing-passed, sheet-length-passed}
 use Rattle.sheets.proofs.Written.{WellFormed, settings-back, length-back, marks-back, readings-back, sheet-passes, entries-pass}
 use Rattle.sheets.proofs.Reread.{sheet-again, sheet-well-formed}
 
@@ -79,10 +79,6 @@ module _ (c : Settings) (marks : List ℕ) (readings : List ℤ) (buffer : List 
             (missing-passed (λ i. getD marks i 0) (entryCount c) (λ i. ofZ w32 (getD readings i (pos 0)))
             (none-at (writeChecks c marks readings buffer) h 8) e l m);
       }
-
-  pub write-room : firstOf (writeChecks c marks readings buffer) ≡ none → sheetLength c ≤ length buffer
-  unfolding writeChecks settingsChecks
-  write-room h = room-passed (length buffer) (sheetLength c) (none-at (writeChecks c marks readings buffer) h 6)
 
 -- the writer fills a buffer of just the sheet's length with the sheet
 pub write-fills : (c : Settings) (marks : List ℕ) (readings : List ℤ) (buffer : List ℕ) → WellFormed c marks readings → length buffer ≡ sheetLength c → write c marks readings buffer ≡ record { verdict = granted (sheetLength c); buffer = sheetBytes c marks readings }

@@ -1,0 +1,3 @@
+pub mod Represented
+pub mod Spans
+pub mod Values

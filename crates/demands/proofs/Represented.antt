@@ -1,0 +1,35 @@
+-- The round of any readings, by naturals: the readings moved up far enough for all of them.
+-- Assumes nothing.
+use mathlib.Core.Bool.{Bool, true}
+use mathlib.Core.Path.{_≡_, refl, sym, ap, _∙_, subst}
+use Prim.Native.Nat.{ℕ, _+_, _≤_, _<_}
+use native.Mathlib.Nat.{lt-of-lt-of-le}
+use lib.Dec.{leb}
+use lib.IntN.{ℤ}
+use lib.Signed.{leZ, mag, _≤ℤ_}
+use borrow.Author.Tests.{leb-true, le-leb}
+use Rattle.arithmetic.proofs.Bools.{to-T, of-T}
+use Rattle.arithmetic.proofs.Shift.{down, up, down-up, le-down}
+use Rattle.model.specs.Ensemble.{Reading, missing, present, Readings, isPresent, ticks}
+use Rattle.model.specs.Steps.{accepted}
+use Rattle.rounds.proofs.Local.{Agree, accepted-local}
+use Rattle.rounds.proofs.Represent.{reach, represented, raise}
+use Rattle.rounds.proofs.Shifted.{shifted, accepted-nat, accepted-shifted}
+
+-- the order of whole numbers is that of the naturals that they are moved up to
+pub le-up : (k : ℕ) (a b : ℤ) → mag a < k → mag b < k → leZ a b ≡ leb (up k a) (up k b)
+le-up k a b ha hb =
+    ap (λ z. leZ z b) (sym (down-up k a ha)) ∙ ap (leZ (down k (up k a))) (sym (down-up k b hb)) ∙ le-down k (up k a) (up k b)
+
+pub le-of-down : (k a b : ℕ) → a ≤ b → down k a ≤ℤ down k b
+le-of-down k a b h = record { le = to-T (le-down k a b ∙ le-leb a b h) }
+
+module _ (v : Readings) (n k : ℕ) (far : reach v n ≤ k) where
+  abbrev pub pres : ℕ → Bool
+  pres r = isPresent (v r)
+
+  -- acceptance, by naturals
+  pub accepted-up : (w need r : ℕ) → r < n → accepted w need n v r ≡ accepted-nat w pres (raise k v) need n r
+  accepted-up w need r l =
+      accepted-local n v (shifted k pres (raise k v)) (represented k v n far) w need r l
+      ∙ accepted-shifted w pres (raise k v) k need n r

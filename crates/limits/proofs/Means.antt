@@ -1,0 +1,118 @@
+-- Quotients rounded up, and the mean of n numbers to the nearest, a half going up: how it moves with the sum.
+-- Assumes nothing.
+use mathlib.Core.Path.{_≡_, ap, _∙_}
+use Prim.Native.Nat.{ℕ, _+_, _*_, _-_, _/_, _≤_, _<_}
+use native.Mathlib.Nat.{div-mul-le-self, lt-div-mul-add, add-mul-div-right, div-eq-of-lt, mul-comm, mul-assoc, mul-le-mul-right}
+use native.Mathlib.Omega.{arith}
+use Rattle.arithmetic.proofs.Division.{div-mono}
+use Rattle.arithmetic.proofs.Sums.{total, total-mono, total-add, total-const, total-scale}
+use Rattle.model.specs.Planner.{ceilDiv}
+use Rattle.rounds.proofs.Shifted.{mean-nat}
+
+pub ceil-div-covers : (b n : ℕ) → 0 < n → b ≤ ceilDiv b n * n
+unfolding ceilDiv
+ceil-div-covers b n h = omega (arith, lt-div-mul-add {a = b + (n - 1)} h)
+
+-- y is a nearest whole number to s / n
+pub record Nearest (n s y : ℕ) : Type 0 where
+  pub below : 2 * n * y ≤ 2 * s + n
+  pub above : 2 * s + n < 2 * n * y + 2 * n
+
+module _ (n : ℕ) (some-n : 0 < n) where
+  twice-pos : 0 < 2 * n
+  twice-pos = omega arith
+
+  pub mean-nearest : (s : ℕ) → Nearest n s (mean-nat n s)
+  unfolding mean-nat
+  mean-nearest s =
+      let c = mul-comm (2 * n) ((s + s + n) / (2 * n)) in
+      let l = div-mul-le-self (s + s + n) (2 * n) in
+      let u = lt-div-mul-add {a = s + s + n} twice-pos in
+      record { below = omega arith; above = omega arith }
+
+  pub mean-mono : {a b : ℕ} → a ≤ b → mean-nat n a ≤ mean-nat n b
+  unfolding mean-nat
+  mean-mono l = div-mono (2 * n) twice-pos (omega arith)
+
+  pub mean-shift : (s j : ℕ) → mean-nat n (s + j * n) ≡ mean-nat n s + j
+  unfolding mean-nat
+  mean-shift s j = ap (λ (y : ℕ). y / (2 * n)) moved ∙ add-mul-div-right (s + s + n) j twice-pos
+    where
+      moved : s + j * n + (s + j * n) + n ≡ s + s + n + j * (2 * n)
+      moved =
+          let c = mul-comm j (2 * n) in
+          let a = mul-assoc 2 n j in
+          let d = mul-comm n j in
+          omega arith
+
+  mean-zero : mean-nat n 0 ≡ 0
+  unfolding mean-nat
+  mean-zero = div-eq-of-lt (omega arith)
+
+  -- the mean of n equal numbers
+  pub mean-const : (j : ℕ) → mean-nat n (n * j) ≡ j
+  mean-const j =
+      let c : n * j ≡ 0 + j * n = omega (arith, mul-comm n j) in
+      let d = ap (mean-nat n) c in
+      omega (arith, mean-shift 0 j, mean-zero)
+
+  pub mean-upper : (s j : ℕ) → s ≤ n * j → mean-nat n s ≤ j
+  mean-upper s j l =
+      let c = mean-const j in
+      let d = mean-mono l in
+      omega arith
+
+  pub mean-lower : (s j : ℕ) → n * j ≤ s → j ≤ mean-nat n s
+  mean-lower s j l =
+      let c = mean-const j in
+      let d = mean-mono l in
+      omega arith
+
+  -- sums that differ by at most b have means that differ by at most b / n, rounded up
+  pub mean-close : (s u b : ℕ) → s ≤ u + b → mean-nat n s ≤ mean-nat n u + ceilDiv b n
+  mean-close s u b l =
+      let c = ceil-div-covers b n some-n in
+      let k : s ≤ u + ceilDiv b n * n = omega arith in
+      let d = mean-mono k in
+      let e = mean-shift u (ceilDiv b n) in
+      omega arith
+
+  -- numbers that stray by d times w from others: their means stray by at most the sum of d times w, over n, rounded up
+  module _ (w : ℕ) (d : ℕ → ℕ) (most : ℕ) (sums : total d n ≤ most) where
+    total-close : (f g : ℕ → ℕ) → ((i : ℕ) → i < n → f i ≤ g i + d i * w) → total f n ≤ total g n + most * w
+    total-close f g h =
+        let a = total-mono f (λ i. g i + d i * w) n h in
+        let b = total-add g (λ i. d i * w) n in
+        let c = total-scale d w n in
+        let e = mul-le-mul-right w sums in
+        omega arith
+
+    pub mean-stray : (f g : ℕ → ℕ) → ((i : ℕ) → i < n → f i ≤ g i + d i * w) → mean-nat n (total f n) ≤ mean-nat n (total g n) + ceilDiv (most * w) n
+    mean-stray f g h = mean-close (total f n) (total g n) (most * w) (total-close f g h)
+
+    pub mean-stray-above : (f : ℕ → ℕ) (a : ℕ) → ((i : ℕ) → i < n → f i ≤ a + d i * w) → mean-nat n (total f n) ≤ a + ceilDiv (most * w) n
+    mean-stray-above f a h =
+        let s = mean-stray f (λ _. a) h in
+        let e = ap (mean-nat n) (total-const a n) in
+        omega (arith, mean-const a)
+
+    pub mean-stray-below : (f : ℕ → ℕ) (a c : ℕ) → ((i : ℕ) → i < n → a ≤ f i + c + d i * w) → a ≤ mean-nat n (total f n) + c + ceilDiv (most * w) n
+    mean-stray-below f a c h =
+        let s = mean-stray (λ _. a) (λ i. f i + c) h in
+        let e = ap (mean-nat n) (total-const a n) in
+        let t : total (λ i. f i + c) n ≡ total f n + c * n = omega (arith, total-add f (λ _. c) n, total-const c n, mul-comm c n) in
+        let u = ap (mean-nat n) t in
+        omega (arith, mean-const a, mean-shift (total f n) c)
+
+  -- the mean of numbers between two bounds lies between them
+  pub mean-above : (f : ℕ → ℕ) (a : ℕ) → ((i : ℕ) → i < n → a ≤ f i) → a ≤ mean-nat n (total f n)
+  mean-above f a h =
+      let t = total-mono (λ _. a) f n h in
+      let c = total-const a n in
+      mean-lower (total f n) a (omega arith)
+
+  pub mean-below : (f : ℕ → ℕ) (b : ℕ) → ((i : ℕ) → i < n → f i ≤ b) → mean-nat n (total f n) ≤ b
+  mean-below f b h =
+      let t = total-mono f (λ _. b) n h in
+      let c = total-const b n in
+      mean-upper (total f n) b (omega arith)

@@ -1,0 +1,91 @@
+-- One receiver's round over naturals, and what the limits of a round assume of the good ones and of each receiver.
+--   Received                    the readings that a receiver has, and its estimator
+--   accepts, estimateOf,        which of them it accepts; its estimate; the value that it uses for each of the n;
+--   usedOf, valueOf             its new value
+--   Spread, Settles             fewer than n - m are bad; a receiver reads the good ones alike, or not at all, and is not refused
+--   Few, Reads                  at most m are bad; a receiver reads every good one alike
+--   Truth                       the good values lie within κ of the true one
+-- Assumes nothing.
+use mathlib.Core.Bool.{Bool, true, false, not}
+use mathlib.Core.Path.{_≡_}
+use Prim.Native.Nat.{ℕ, _+_, _*_, _-_, _≤_, _<_}
+use Rattle.arithmetic.specs.Counting.{count}
+use Rattle.arithmetic.proofs.Sums.{total}
+use Rattle.rounds.proofs.Shifted.{accepted-nat, estimate-nat, used-nat, mean-nat}
+use Rattle.limits.proofs.Estimates.{Between, used-within}
+use Rattle.limits.proofs.Means.{mean-above, mean-below}
+
+-- pres says which readings x are present; k is what a search that finds nothing answers; kind is the estimator's number
+pub record Received : Type 0 where
+  pub pres : ℕ → Bool
+  pub x : ℕ → ℕ
+  pub k : ℕ
+  pub kind : ℕ
+
+module _ (n m w : ℕ) where
+  abbrev pub accepts : Received → ℕ → Bool
+  accepts v = accepted-nat w (v .pres) (v .x) (n - m) n
+
+  abbrev pub estimateOf : Received → ℕ
+  estimateOf v = estimate-nat (v .k) (v .kind) (accepts v) n (v .x)
+
+  abbrev pub usedOf : Received → ℕ → ℕ
+  usedOf v = used-nat (accepts v) (v .x) (estimateOf v)
+
+  abbrev pub valueOf : Received → ℕ
+  valueOf v = mean-nat n (total (usedOf v) n)
+
+  pub used-accepted : (v : Received) (r : ℕ) → accepts v r ≡ true → usedOf v r ≡ v .x r
+  used-accepted v r e = rw e
+
+  pub used-replaced : (v : Received) (r : ℕ) → accepts v r ≡ false → usedOf v r ≡ estimateOf v
+  used-replaced v r e = rw e
+
+-- how many of the n are not good
+abbrev pub bad : ℕ → (ℕ → Bool) → ℕ
+bad n good = count (λ r. not (good r)) n
+
+-- any two good ones of the n have values within w of each other
+abbrev pub Close : ℕ → ℕ → (ℕ → Bool) → (ℕ → ℕ) → Type 0
+Close n w good g = (r s : ℕ) → r < n → s < n → good r ≡ true → good s ≡ true → g r ≤ g s + w
+
+-- a good one's reading, where it is present, is its value
+abbrev pub Alike : ℕ → (ℕ → Bool) → (ℕ → ℕ) → Received → Type 0
+Alike n good g v = (r : ℕ) → r < n → good r ≡ true → v .pres r ≡ true → v .x r ≡ g r
+
+-- what two receivers both have they read alike
+abbrev pub Agree : ℕ → Received → Received → Type 0
+Agree n p q = (r : ℕ) → r < n → p .pres r ≡ true → q .pres r ≡ true → p .x r ≡ q .x r
+
+module _ (n m w : ℕ) (good : ℕ → Bool) (g : ℕ → ℕ) where
+  pub record Spread : Type 0 where
+    pub many : bad n good < n - m
+    pub close : Close n w good g
+
+  pub record Settles (v : Received) : Type 0 where
+    pub alike : Alike n good g v
+    pub unrefused : 0 < count (accepts n m w v) n
+
+  pub record Few : Type 0 where
+    pub fits : 3 * m < n
+    pub few : bad n good ≤ m
+    pub close : Close n w good g
+
+pub record Reads (n : ℕ) (good : ℕ → Bool) (g : ℕ → ℕ) (v : Received) : Type 0 where
+  pub alike : Alike n good g v
+  pub here : (r : ℕ) → r < n → good r ≡ true → v .pres r ≡ true
+
+pub record Truth (n : ℕ) (good : ℕ → Bool) (g : ℕ → ℕ) (T κ : ℕ) : Type 0 where
+  pub above : (r : ℕ) → r < n → good r ≡ true → g r ≤ T + κ
+  pub below : (r : ℕ) → r < n → good r ≡ true → T ≤ g r + κ
+
+-- the new value lies between any bounds that the accepted readings have
+pub value-within : (n m w : ℕ) (v : Received) (a b : ℕ) → 0 < n → 0 < count (accepts n m w v) n → ((r : ℕ) → r < n → accepts n m w v r ≡ true → a ≤ v .x r) → ((r : ℕ) → r < n → accepts n m w v r ≡ true → v .x r ≤ b) → Between a b (valueOf n m w v)
+value-within n m w v a b some-n ok low high =
+    record {
+      low = mean-above n some-n (usedOf n m w v) a (λ r l. used r l .low);
+      high = mean-below n some-n (usedOf n m w v) b (λ r l. used r l .high);
+    }
+  where
+    used : (r : ℕ) → r < n → Between a b (usedOf n m w v r)
+    used r l = used-within (accepts n m w v) n (v .x) ok a b low high (v .k) (v .kind) r l

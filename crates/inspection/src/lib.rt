@@ -98,13 +98,13 @@ fn not_zero(marks: &[u8], readings: &[u8], e: usize) -> bool
         return false;
     }
     let i = 4 * e;
-    words::join(
+    let bits = words::join(
         readings[i],
         readings[i + 1],
         readings[i + 2],
         readings[i + 3],
-    )
-        != 0
+    );
+    bits != 0
 }
 
 // The lowest entry that is missing with bytes that are not zero.

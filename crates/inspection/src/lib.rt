@@ -21,7 +21,7 @@ pub enum Opened {
 }
 
 // The sizes, bytes 0 to 7.
-pub fn sizes(sheet: &[u8]) -> Settings
+fn sizes(sheet: &[u8]) -> Settings
     ensures { λ r. ⌜ r ≡ settingsAt (now (sheet .entry)) ⌝ }
 {
     Settings {
@@ -53,7 +53,7 @@ pub fn inspect(sheet: &[u8]) -> Opened
     }
     let settings = sizes(sheet);
     match ensemble::screen(settings) {
-        Screened::Refused(r) => Opened::Refused(r),
+        Screened::Refused(first) => Opened::Refused(first),
         Screened::Passed => {
             if sheet.len() == 8 + 5 * entry_count(settings) {
                 Opened::Granted(settings)
@@ -98,13 +98,13 @@ fn not_zero(marks: &[u8], readings: &[u8], e: usize) -> bool
         return false;
     }
     let i = 4 * e;
-    words::join(
+    let bits = words::join(
         readings[i],
         readings[i + 1],
         readings[i + 2],
         readings[i + 3],
-    )
-        != 0
+    );
+    bits != 0
 }
 
 // The lowest entry that is missing with bytes that are not zero.
@@ -112,12 +112,12 @@ fn bad_missing(marks: &[u8], readings: &[u8]) -> Found
     requires { ⌜ length (now readings) ≡ 4 * length (now marks) ⌝ }
     ensures { λ r. ⌜ foundAs r ≡ lowest (λ e. notZero (byte (now (marks .entry)) e) (word (now (readings .entry)) (4 * e))) (length (now (marks .entry))) ⌝ }
 {
-    let mut e: usize = 0;
-    'entries: while e < marks.len() {
-        if not_zero(marks, readings, e) {
-            return Found::At(e);
+    let mut entry: usize = 0;
+    'entries: while entry < marks.len() {
+        if not_zero(marks, readings, entry) {
+            return Found::At(entry);
         }
-        e += 1;
+        entry += 1;
     }
     Found::Nothing
 }

@@ -16,7 +16,7 @@ use model::Refusal;
 use model::Settings;
 
 // The readings in a row: one for FCA, N for CCA.
-pub fn row_entries(settings: Settings) -> usize
+fn row_entries(settings: Settings) -> usize
     ensures { λ r. ⌜ r ≡ rowEntries settings ⌝ }
 {
     if settings.rule == 1 {

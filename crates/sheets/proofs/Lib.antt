@@ -6,6 +6,7 @@ pub mod Outcomes
 pub mod Inspection
 pub mod Shown
 pub mod Opening
+pub mod Filling
 pub mod Words
 pub mod Parts
 pub mod Readings

@@ -64,13 +64,6 @@ module _ (s : List ℕ) (E : ℕ) (long : length s ≡ 8 + 5 * E) where
   readingsPart-rest : readingsPart s E ≡ drop (8 + E) s
   readingsPart-rest = take-all (length s - (8 + E)) (drop (8 + E) s) (let d = length-drop (8 + E) s in omega arith)
 
-  pub length-readingsPart : length (readingsPart s E) ≡ 4 * E
-  length-readingsPart =
-      ap length readingsPart-rest ∙ length-drop (8 + E) s ∙ left
-    where
-      left : length s - (8 + E) ≡ 4 * E
-      left = omega arith
-
   pub readingsPart-at : (e : ℕ) → word (readingsPart s E) (4 * e) ≡ bitsAt s E e
   readingsPart-at e = ap (λ (l : List ℕ). word l (4 * e)) readingsPart-rest ∙ word-drop s (8 + E) (4 * e)
 

@@ -13,10 +13,10 @@ use Rattle.inspection.proofs.bad_missing.Statement.{statement}
 use Rattle.inspection.proofs.bad_missing.Tie as tie
 
 abbrev Inv-entries : tie.InvT-entries
-Inv-entries marks readings e₀ e = (e ≤ length marks) × (lowest (λ i. notZero (byte marks i) (word readings (4 * i))) e ≡ none)
+Inv-entries marks readings entry₀ entry = (entry ≤ length marks) × (lowest (λ i. notZero (byte marks i) (word readings (4 * i))) entry ≡ none)
 
 abbrev μ-entries : tie.MeasureT-entries
-μ-entries marks readings e₀ e = length marks - e
+μ-entries marks readings entry₀ entry = length marks - entry
 
 entries-holds : tie.Need-entries-holds Inv-entries μ-entries
 entries-holds c =
@@ -30,13 +30,13 @@ returns c =
     sym
     (search-found (λ i. notZero (byte (c .before .before .before .before .before .before .args .marks .now) i) (word (c .before .before .before .before .before .before .args .readings .now) (4 * i)))
     (length (c .before .before .before .before .before .before .args .marks .now))
-    (c .before .before .before .entries .e)
+    (c .before .before .before .entries .entry)
     (omega arith)
     (c .before .before .before .entries .inv .1)
     (sym (c .before .not-zero .ensures) ∙ c .if1 .taken))
 
-add-e : tie.Need-add-e Inv-entries μ-entries
-add-e c = omega arith
+add-entry : tie.Need-add-entry Inv-entries μ-entries
+add-entry c = omega arith
 
 entries-less : tie.Need-entries-less Inv-entries μ-entries
 entries-less c = omega arith
@@ -45,7 +45,7 @@ entries-again : tie.Need-entries-again Inv-entries μ-entries
 entries-again c = (
   omega arith,
   search-more (λ i. notZero (byte (c .before .before .before .before .before .before .args .marks .now) i) (word (c .before .before .before .before .before .before .args .readings .now) (4 * i)))
-      (c .before .before .before .entries .e)
+      (c .before .before .before .entries .entry)
       (c .before .before .before .entries .inv .1)
       (sym (c .before .not-zero .ensures) ∙ c .if1 .left),
 )
@@ -55,7 +55,7 @@ returns-2 c =
     sym
     (search-ended (λ i. notZero (byte (c .before .before .before .before .args .marks .now) i) (word (c .before .before .before .before .args .readings .now) (4 * i)))
     (length (c .before .before .before .before .args .marks .now))
-    (c .before .entries .e)
+    (c .before .entries .entry)
     (c .before .entries .inv .0)
     (c .entries-test .left)
     (c .before .entries .inv .1))
@@ -69,7 +69,7 @@ bad-missing-spec =
     entries-holds
     not-zero-requires
     returns
-    add-e
+    add-entry
     entries-less
     entries-again
     returns-2)

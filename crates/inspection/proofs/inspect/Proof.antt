@@ -25,8 +25,8 @@ sizes-requires c κs = search needs
 screen-requires : tie.Need-screen-requires
 screen-requires c κs = search needs
 
-enum-known-r : tie.Need-enum-known-r
-enum-known-r c = search needs
+enum-known-first : tie.Need-enum-known-first
+enum-known-first c = search needs
 
 enum-told : tie.Need-enum-told
 enum-told c = search needs
@@ -52,8 +52,8 @@ returns-2 c =
     (c .before .before .before .before .sizes .result)
     (c .before .before .before .before .sizes .ensures)
     (c .before .before .before .before .before .if1 .left)
-    (c .before .r .given .0 .0)
-    (sym (c .before .before .before .screen .ensures) ∙ ap rowOf (c .before .r .given .1))
+    (c .before .first .given .0 .0)
+    (sym (c .before .before .before .screen .ensures) ∙ ap rowOf (c .before .first .given .1))
 
 returns-3 : tie.Need-returns-3
 returns-3 c =
@@ -80,7 +80,7 @@ inspect-spec =
     returns
     sizes-requires
     screen-requires
-    enum-known-r
+    enum-known-first
     enum-told
     entry-count-requires
     mul-if2

@@ -1,0 +1,64 @@
+// Document 01, "The answer sheet": a settled round of naturals written as bytes.
+ghost use mathlib.Core.Path.{_≡_};
+ghost use mathlib.Core.Bool.{cond};
+ghost use Prim.Native.Nat.{_+_, _*_, _≤_, _<_};
+ghost use lib.Dec.{ltb};
+ghost use lib.ListN.{length};
+ghost use mir.Syntax.{w32};
+ghost use mir.Val.{ofZ};
+ghost use Rattle.arithmetic.specs.Writing.{table, overwrite};
+ghost use Rattle.arithmetic.proofs.Shift.{down};
+ghost use Rattle.model.specs.RoundSheet.{readingBytes};
+ghost use Rattle.model.specs.AnswerSheet.{answerHeader, answerBytes};
+ghost use Rattle.answers.specs.Rounds.{markIn, usedIn, roundIn};
+
+use estimates::LIMIT;
+
+// The mark of a cabinet: 0 missing, 1 accepted, 2 present and not accepted.
+fn mark(value: u64, kept: u64) -> u8
+    ensures { λ r. ⌜ r ≡ cond (ltb kept 4294967296) 1 (cond (ltb value 4294967296) 2 0) ⌝ }
+{
+    if kept < LIMIT {
+        1
+    } else if value < LIMIT {
+        2
+    } else {
+        0
+    }
+}
+
+// The bits of the value used for a cabinet: its own reading where that is accepted, else the estimate.
+fn used(kept: u64, estimate: u64) -> u32
+    requires { ⌜ estimate < 4294967296 ⌝ }
+    ensures { λ r. ⌜ r ≡ ofZ w32 (down 2147483648 (cond (ltb kept 4294967296) kept estimate)) ⌝ }
+{
+    if kept < LIMIT {
+        agreement::unbias(kept)
+    } else {
+        agreement::unbias(estimate)
+    }
+}
+
+// Fills the tail of the answer sheet with the used values.
+fn put_used(kept: &[u64], estimate: u64, tail: &mut [u8])
+    requires { ⌜ (length (now kept) ≤ 64) × (4 * length (now kept) ≤ length (now tail)) × (estimate < 4294967296) ⌝ }
+    ensures { λ _. ⌜ now (tail .exit) ≡ overwrite (readingBytes (table (usedIn (now (kept .entry)) estimate) (length (now (kept .entry))))) (now (tail .entry)) ⌝ }
+{
+    let mut r: usize = 0;
+    'values: while r < kept.len() {
+        words::put_word(tail, 4 * r, used(kept[r], estimate));
+        r += 1;
+    }
+}
+
+// Fills the marks.
+fn put_marks(values: &[u64], kept: &[u64], marks: &mut [u8])
+    requires { ⌜ (length (now kept) ≡ length (now values)) × (length (now values) ≤ length (now marks)) ⌝ }
+    ensures { λ _. ⌜ now (marks .exit) ≡ overwrite (table (markIn (now (values .entry)) (now (kept .entry))) (length (now (values .entry)))) (now (marks .entry)) ⌝ }
+{
+    let mut r: usize = 0;
+    'marks: while r < values.len() {
+        marks[r] = mark(values[r], kept[r]);
+        r += 1;
+    }
+}

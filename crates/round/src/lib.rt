@@ -1,4 +1,4 @@
-// Document 01, "The answer sheet": a settled round of naturals written as bytes.
+// Settling: from a round sheet to its answer sheet, or one numbered refusal.
 ghost use mathlib.Core.Path.{_≡_};
 ghost use mathlib.Core.Bool.{cond};
 ghost use Prim.Native.Nat.{_+_, _*_, _≤_, _<_};
@@ -10,8 +10,9 @@ ghost use Rattle.arithmetic.specs.Writing.{table, overwrite};
 ghost use Rattle.arithmetic.proofs.Shift.{down};
 ghost use Rattle.model.specs.RoundSheet.{readingBytes};
 ghost use Rattle.model.specs.AnswerSheet.{answerHeader, answerBytes};
-ghost use Rattle.answers.specs.Rounds.{markIn, usedIn, roundIn};
+ghost use Rattle.round.specs.Rounds.{markIn, usedIn, roundIn, headerBytes};
 
+use agreement::Agreed;
 use estimates::LIMIT;
 
 // The mark of a cabinet: 0 missing, 1 accepted, 2 present and not accepted.
@@ -61,4 +62,35 @@ fn put_marks(values: &[u64], kept: &[u64], marks: &mut [u8])
         marks[r] = mark(values[r], kept[r]);
         r += 1;
     }
+}
+
+// Bytes 0 to 9.
+fn put_header(n: u8, count: u8, estimate: u32, value: u32, answer: &mut [u8])
+    requires { ⌜ 10 ≤ length (now answer) ⌝ }
+    ensures { λ _. ⌜ now (answer .exit) ≡ overwrite (headerBytes n count estimate value) (now (answer .entry)) ⌝ }
+{
+    answer[0] = n;
+    answer[1] = count;
+    words::put_word(answer, 2, estimate);
+    words::put_word(answer, 6, value);
+}
+
+// The answer sheet of a settled round: the header, the marks, and the used values in the tail from byte 10 + N on.
+fn put_answer(settled: Agreed, values: &[u64], kept: &[u64], answer: &mut [u8])
+    requires { ⌜ (length (now values) ≤ 64) × (length (now kept) ≡ length (now values)) × (10 + 5 * length (now values) ≤ length (now answer)) ⌝ }
+    requires { ⌜ (settled .count ≤ 64) × (settled .estimate < 4294967296) × (settled .value < 4294967296) ⌝ }
+    ensures { λ _. ⌜ now (answer .exit) ≡ overwrite (answerBytes (length (now (values .entry))) (roundIn (settled .count) (settled .estimate) (settled .value) (now (values .entry)) (now (kept .entry)))) (now (answer .entry)) ⌝ }
+{
+    let n = values.len();
+    let estimate = settled.estimate;
+    put_header(
+        n as u8,
+        settled.count as u8,
+        agreement::unbias(estimate),
+        agreement::unbias(settled.value),
+        answer,
+    );
+    put_marks(values, kept, &mut answer[10..]);
+    let tail = 10 + n;
+    put_used(kept, estimate, &mut answer[tail..]);
 }

@@ -1,12 +1,12 @@
--- `answers::used` meets its contract: what is kept is a reading, and so is the estimate.
+-- `round::used` meets its contract: what is kept is a reading, and so is the estimate.
 -- Assumes nothing.
 use borrow.Author.Tests.{lt-ltb, le-ltb}
 use mathlib.Core.Path.{_∙_}
 use borrow.Author.Needs.{needs}
-use Rattle.answers.proofs.used.Statement.{statement}
-use Rattle.answers.proofs.used.Tie as tie
-use Rattle.answers.proofs.used.Reads as reads
-use Rattle.answers.proofs.used.Lts as lts
+use Rattle.round.proofs.used.Statement.{statement}
+use Rattle.round.proofs.used.Tie as tie
+use Rattle.round.proofs.used.Reads as reads
+use Rattle.round.proofs.used.Lts as lts
 use Rattle.agreement.proofs.unbias.Reads as unbias-reads
 
 -- src/lib.rt:36:9

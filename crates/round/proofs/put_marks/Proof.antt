@@ -1,4 +1,4 @@
--- `answers::put_marks` meets its contract. The loop's invariant: the first r marks are written, and the others are as they were. The measure is what
+-- `round::put_marks` meets its contract. The loop's invariant: the first r marks are written, and the others are as they were. The measure is what
 -- is left of the readings.
 -- Assumes nothing.
 use borrow.Author.Needs.{needs}
@@ -8,12 +8,12 @@ use Prim.Native.Nat.{ℕ, _-_, _≤_}
 use lib.ListN.{length, length-set}
 use Rattle.arithmetic.specs.Writing.{table, overwrite}
 use Rattle.sheets.proofs.Storing.{store-none, store-next, store-ended}
-use Rattle.answers.specs.Rounds.{markIn}
-use Rattle.answers.proofs.put_marks.Statement.{statement}
-use Rattle.answers.proofs.put_marks.Tie as tie
-use Rattle.answers.proofs.put_marks.Reads as reads
-use Rattle.answers.proofs.put_marks.Lts as lts
-use Rattle.answers.proofs.mark.Reads as mark-reads
+use Rattle.round.specs.Rounds.{markIn}
+use Rattle.round.proofs.put_marks.Statement.{statement}
+use Rattle.round.proofs.put_marks.Tie as tie
+use Rattle.round.proofs.put_marks.Reads as reads
+use Rattle.round.proofs.put_marks.Lts as lts
+use Rattle.round.proofs.mark.Reads as mark-reads
 
 abbrev Inv-marks : tie.InvT-marks
 Inv-marks values kept marks₀ r₀ marks r = (r ≤ length values) × (marks ≡ overwrite (table (markIn values kept) r) marks₀) × (length marks ≡ length marks₀)

@@ -1,4 +1,4 @@
--- `answers::put_used` meets its contract. The loop's invariant: the bytes of the first r used values are written, and the others are as they were. The
+-- `round::put_used` meets its contract. The loop's invariant: the bytes of the first r used values are written, and the others are as they were. The
 -- measure is what is left of the values.
 -- Assumes nothing.
 use borrow.Author.Needs.{needs}
@@ -13,12 +13,12 @@ use Rattle.arithmetic.specs.Writing.{table, overwrite}
 use Rattle.arithmetic.proofs.Writing.{length-table, getD-table}
 use Rattle.model.specs.RoundSheet.{readingBytes}
 use Rattle.sheets.proofs.Storing.{put-none, put-next, put-ended}
-use Rattle.answers.specs.Rounds.{usedIn}
-use Rattle.answers.proofs.put_used.Statement.{statement}
-use Rattle.answers.proofs.put_used.Tie as tie
-use Rattle.answers.proofs.put_used.Reads as reads
-use Rattle.answers.proofs.put_used.Lts as lts
-use Rattle.answers.proofs.used.Reads as used-reads
+use Rattle.round.specs.Rounds.{usedIn}
+use Rattle.round.proofs.put_used.Statement.{statement}
+use Rattle.round.proofs.put_used.Tie as tie
+use Rattle.round.proofs.put_used.Reads as reads
+use Rattle.round.proofs.put_used.Lts as lts
+use Rattle.round.proofs.used.Reads as used-reads
 use Rattle.words.proofs.put_word.Reads as put-word-reads
 
 abbrev Inv-values : tie.InvT-values

@@ -3,10 +3,11 @@
 --   markIn, usedIn    the mark of a cabinet, and the value used for it
 --   roundIn           the round
 use mathlib.Core.Bool.{cond}
-use mathlib.Core.List.{List}
+use mathlib.Core.List.{List, [], _∷_, _++_}
 use Prim.Native.Nat.{ℕ}
 use lib.IntN.{ℤ}
 use Rattle.arithmetic.proofs.Shift.{down}
+use Rattle.model.specs.RoundSheet.{bytes4}
 use Rattle.model.specs.Steps.{Round}
 use Rattle.estimates.specs.Values.{valueAt, presentAt}
 
@@ -26,3 +27,7 @@ roundIn count e v values kept =
       mark = markIn values kept;
       used = usedIn kept e
     }
+
+-- bytes 0 to 9, from bits
+abbrev pub headerBytes : ℕ → ℕ → ℕ → ℕ → List ℕ
+headerBytes n count estimate value = (n ∷ count ∷ []) ++ (bytes4 estimate ++ bytes4 value)

@@ -1,10 +1,10 @@
--- `answers::mark` meets its contract: the tests say which mark it is.
+-- `round::mark` meets its contract: the tests say which mark it is.
 -- Assumes nothing.
 use borrow.Author.Tests.{lt-ltb, le-ltb}
-use Rattle.answers.proofs.mark.Statement.{statement}
-use Rattle.answers.proofs.mark.Tie as tie
-use Rattle.answers.proofs.mark.Reads as reads
-use Rattle.answers.proofs.mark.Lts as lts
+use Rattle.round.proofs.mark.Statement.{statement}
+use Rattle.round.proofs.mark.Tie as tie
+use Rattle.round.proofs.mark.Reads as reads
+use Rattle.round.proofs.mark.Lts as lts
 
 -- src/lib.rt:18:1
 returns : tie.Need-returns

@@ -7,8 +7,11 @@ use mathlib.Core.List.{List, [], _∷_, _++_}
 use Prim.Native.Nat.{ℕ}
 use lib.IntN.{ℤ}
 use Rattle.arithmetic.proofs.Shift.{down}
-use Rattle.model.specs.RoundSheet.{bytes4}
-use Rattle.model.specs.Steps.{Round}
+use Rattle.model.specs.RoundSheet.{bytes4, settingsAt}
+use Rattle.model.specs.AnswerSheet.{answerLength, answerBytes}
+use Rattle.model.specs.Refusals.{tooManyFaults}
+use Rattle.model.specs.Calls.{Written, writtenAfter}
+use Rattle.model.specs.Steps.{Round, roundAt}
 use Rattle.estimates.specs.Values.{valueAt, presentAt}
 
 -- "0 missing or known faulty, 1 accepted, 2 present and not accepted"
@@ -25,9 +28,14 @@ roundIn count e v values kept =
       estimate = down 2147483648 e;
       value = down 2147483648 v;
       mark = markIn values kept;
-      used = usedIn kept e
+      used = usedIn kept e;
     }
 
 -- bytes 0 to 9, from bits
 abbrev pub headerBytes : ℕ → ℕ → ℕ → ℕ → List ℕ
 headerBytes n count estimate value = (n ∷ count ∷ []) ++ (bytes4 estimate ++ bytes4 value)
+
+-- what settling gives for a sheet that passes checks 1 to 9: refusal 10, or the answer sheet
+abbrev pub settledAfter : List ℕ → List ℕ → Written
+settledAfter s old =
+    writtenAfter (tooManyFaults (roundAt s .count)) (answerLength (settingsAt s .n)) (answerBytes (settingsAt s .n) (roundAt s)) old

@@ -1,5 +1,6 @@
 // Settling: from a round sheet to its answer sheet, or one numbered refusal.
 ghost use mathlib.Core.Path.{_≡_};
+ghost use mathlib.Core.Option.{none};
 ghost use mathlib.Core.Bool.{cond};
 ghost use Prim.Native.Nat.{_+_, _*_, _≤_, _<_};
 ghost use lib.Dec.{ltb};
@@ -9,11 +10,23 @@ ghost use mir.Val.{ofZ};
 ghost use Rattle.arithmetic.specs.Writing.{table, overwrite};
 ghost use Rattle.arithmetic.proofs.Shift.{down};
 ghost use Rattle.model.specs.RoundSheet.{readingBytes};
-ghost use Rattle.model.specs.AnswerSheet.{answerHeader, answerBytes};
-ghost use Rattle.round.specs.Rounds.{markIn, usedIn, roundIn, headerBytes};
-
+ghost use Rattle.model.specs.RoundSheet.{settingsAt};
+ghost use Rattle.model.specs.AnswerSheet.{answerBytes};
+ghost use Rattle.model.specs.Refusals.{firstOf, sheetChecks};
+ghost use Rattle.model.specs.Calls.{settle};
+ghost use Rattle.round.specs.Answers.{settledAs};
+ghost use Rattle.round.specs.Rounds.{markIn, usedIn, roundIn, headerBytes, settledAfter};
 use agreement::Agreed;
 use estimates::LIMIT;
+use inspection::Opened;
+use model::Refusal;
+use model::Settings;
+
+// The answer sheet's length, or the first refusal.
+pub enum Settled {
+    Granted(usize),
+    Refused(Refusal),
+}
 
 // The mark of a cabinet: 0 missing, 1 accepted, 2 present and not accepted.
 fn mark(value: u64, kept: u64) -> u8
@@ -93,4 +106,68 @@ fn put_answer(settled: Agreed, values: &[u64], kept: &[u64], answer: &mut [u8])
     put_marks(values, kept, &mut answer[10..]);
     let tail = 10 + n;
     put_used(kept, estimate, &mut answer[tail..]);
+}
+
+// Settles a sheet that passes checks 1 to 9, with a lent place for each cabinet's reading and for each reading kept.
+fn settle_in(
+    sheet: &[u8],
+    settings: Settings,
+    values: &mut [u64],
+    kept: &mut [u64],
+    answer: &mut [u8],
+) -> Settled
+    requires { ⌜ (firstOf (sheetChecks (now sheet)) ≡ none) × (settings ≡ settingsAt (now sheet)) × (10 + 5 * settings .n ≤ length (now answer)) ⌝ }
+    requires { ⌜ (length (now values) ≡ settings .n) × (length (now kept) ≡ settings .n) ⌝ }
+    ensures { λ r. ⌜ settledAs r (now (answer .exit)) ≡ settledAfter (now (sheet .entry)) (now (answer .entry)) ⌝ }
+{
+    reception::receive(sheet, settings, values);
+    let need = settings.n - settings.m;
+    let settled = agreement::agree(
+        values,
+        settings.window,
+        need as u32,
+        settings.estimator,
+        kept,
+    );
+    if settled.count == 0 {
+        return Settled::Refused(Refusal {
+            number: 10,
+            place: 0,
+        });
+    }
+    put_answer(settled, values, kept, answer);
+    Settled::Granted(10 + 5 * (settings.n as usize))
+}
+
+// Settles a sheet that passes checks 1 to 9.
+fn settle_valid(sheet: &[u8], settings: Settings, answer: &mut [u8]) -> Settled
+    requires { ⌜ (firstOf (sheetChecks (now sheet)) ≡ none) × (settings ≡ settingsAt (now sheet)) × (10 + 5 * settings .n ≤ length (now answer)) ⌝ }
+    ensures { λ r. ⌜ settledAs r (now (answer .exit)) ≡ settledAfter (now (sheet .entry)) (now (answer .entry)) ⌝ }
+{
+    let n = settings.n as usize;
+    let mut values = [LIMIT; 64];
+    let mut kept = [LIMIT; 64];
+    settle_in(sheet, settings, &mut values[..n], &mut kept[..n], answer)
+}
+
+// Settles a round sheet: the answer sheet in the lent buffer, or the first refusal of checks 1 to 10, which changes nothing.
+pub fn settle(sheet: &[u8], answer: &mut [u8]) -> Settled
+    ensures { λ r. ⌜ settledAs r (now (answer .exit)) ≡ settle (now (sheet .entry)) (now (answer .entry)) ⌝ }
+{
+    match inspection::inspect(sheet) {
+        Opened::Refused(r) => Settled::Refused(r),
+        Opened::Granted(settings) => {
+            let size = 10 + 5 * (settings.n as usize);
+            if answer.len() < size {
+                return Settled::Refused(Refusal {
+                    number: 7,
+                    place: 0,
+                });
+            }
+            match inspection::validate(sheet) {
+                Opened::Refused(r) => Settled::Refused(r),
+                Opened::Granted(_) => settle_valid(sheet, settings, answer),
+            }
+        }
+    }
 }

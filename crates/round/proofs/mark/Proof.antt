@@ -3,18 +3,13 @@
 use borrow.Author.Tests.{lt-ltb, le-ltb}
 use Rattle.round.proofs.mark.Statement.{statement}
 use Rattle.round.proofs.mark.Tie as tie
-use Rattle.round.proofs.mark.Reads as reads
-use Rattle.round.proofs.mark.Lts as lts
 
--- src/lib.rt:18:1
 returns : tie.Need-returns
 returns c = rw (lt-ltb _ _ (c .if1 .taken))
 
--- src/lib.rt:18:1
 returns-2 : tie.Need-returns-2
 returns-2 c = rw (le-ltb _ _ (c .before .if1 .left), lt-ltb _ _ (c .if2 .taken))
 
--- src/lib.rt:18:1
 returns-3 : tie.Need-returns-3
 returns-3 c = rw (le-ltb _ _ (c .before .if1 .left), le-ltb _ _ (c .if2 .left))
 

@@ -16,74 +16,52 @@ use Rattle.round.proofs.Bytes.{length-header, length-front, answer-part
 use borrow.Author.Needs.{needs}
 use Rattle.round.proofs.put_answer.Statement.{statement}
 use Rattle.round.proofs.put_answer.Tie as tie
-use Rattle.round.proofs.put_answer.Reads as reads
-use Rattle.round.proofs.put_answer.Lts as lts
-use Rattle.agreement.proofs.unbias.Reads as unbias-reads
-use Rattle.round.proofs.put_header.Reads as put-header-reads
-use Rattle.round.proofs.put_marks.Reads as put-marks-reads
-use Rattle.round.proofs.put_used.Reads as put-used-reads
 
--- src/lib.rt:87:9
 cast-put-header : tie.Need-cast-put-header
 cast-put-header c = search needs
 
--- src/lib.rt:88:9
 cast-put-header-2 : tie.Need-cast-put-header-2
 cast-put-header-2 c = search needs
 
--- src/lib.rt:89:9
 unbias-requires : tie.Need-unbias-requires
 unbias-requires c κs = search needs
 
--- src/lib.rt:90:9
 unbias-requires-2 : tie.Need-unbias-requires-2
 unbias-requires-2 c κs = search needs
 
--- src/lib.rt:86:5
 put-header-requires : tie.Need-put-header-requires
 put-header-requires c κs = search needs
 
--- src/lib.rt:93:29
 sub-put-marks : tie.Need-sub-put-marks
 sub-put-marks c = search needs
 
--- src/lib.rt:93:29
 part-put-marks-start : tie.Need-part-put-marks-start
 part-put-marks-start c = search needs
 
--- src/lib.rt:93:29
 part-put-marks-end : tie.Need-part-put-marks-end
 part-put-marks-end c = search needs
 
--- src/lib.rt:93:5
 put-marks-requires : tie.Need-put-marks-requires
 put-marks-requires c κs = search needs
 
--- src/lib.rt:94:16
 add-tail : tie.Need-add-tail
 add-tail c = search needs
 
--- src/lib.rt:95:30
 sub-put-used : tie.Need-sub-put-used
 sub-put-used c = search needs
 
--- src/lib.rt:95:30
 part-put-used-start : tie.Need-part-put-used-start
 part-put-used-start c = search needs
 
--- src/lib.rt:95:30
 part-put-used-end : tie.Need-part-put-used-end
 part-put-used-end c = search needs
 
--- src/lib.rt:95:5
 put-used-requires : tie.Need-put-used-requires
 put-used-requires c κs = search needs
 
--- src/lib.rt:79:1
 same-length : tie.Need-same-length
 same-length c = search needs
 
--- src/lib.rt:79:1
 returns : tie.Need-returns
 returns c =
     tail-written front used old after-marks (c .before .before .put-used .last .1 .1 .0) (10 + length values) (length-front (length values) (c .before .before .before .before .before .before .before .before .before .before .before .before .before .before .before .before .before .before .args .settled .count) (c .before .before .before .before .before .before .before .before .before .before .before .before .before .unbias .result) (c .before .before .before .before .before .before .before .before .before .before .before .before .unbias2 .result) values kept)
@@ -95,28 +73,38 @@ returns c =
   where
     values : List ℕ
     values = c .before .before .before .before .before .before .before .before .before .before .before .before .before .before .before .before .before .before .args .values .now
+
     kept : List ℕ
     kept = c .before .before .before .before .before .before .before .before .before .before .before .before .before .before .before .before .before .before .args .kept .now
+
     old : List ℕ
     old = c .before .before .before .before .before .before .before .before .before .before .before .before .before .before .before .before .before .before .args .answer .now
+
     used : List ℕ
     used = readingBytes (table (usedIn kept (c .before .before .before .before .before .before .before .before .before .before .before .before .before .before .before .before .before .before .args .settled .estimate)) (length values))
+
     header : List ℕ
     header = headerBytes (length values) (c .before .before .before .before .before .before .before .before .before .before .before .before .before .before .before .before .before .before .args .settled .count) (c .before .before .before .before .before .before .before .before .before .before .before .before .before .unbias .result) (c .before .before .before .before .before .before .before .before .before .before .before .before .unbias2 .result)
+
     front : List ℕ
     front = header ++ table (markIn values kept) (length values)
+
     after-header : List ℕ
     after-header = c .before .before .before .before .before .before .before .before .before .before .put-header .last .1 .1 .1 .1 .0
+
     after-marks : List ℕ
     after-marks = take 10 after-header ++ (c .before .before .before .before .before .before .put-marks .last .1 .1 .0 ++ drop (length after-header - 10) (drop 10 after-header))
+
     marked : after-marks ≡ overwrite front old
     marked =
         tail-written header (table (markIn values kept) (length values)) old after-header (c .before .before .before .before .before .before .put-marks .last .1 .1 .0) 10
         (length-header (length values) (c .before .before .before .before .before .before .before .before .before .before .before .before .before .before .before .before .before .before .args .settled .count) (c .before .before .before .before .before .before .before .before .before .before .before .before .before .unbias .result) (c .before .before .before .before .before .before .before .before .before .before .before .before .unbias2 .result))
         (c .before .before .before .before .before .before .before .before .before .before .put-header .ensures)
         (c .before .before .before .before .before .before .put-marks .ensures)
+
     estimate-bits : c .before .before .before .before .before .before .before .before .before .before .before .before .before .unbias .result ≡ ofZ w32 (down 2147483648 (c .before .before .before .before .before .before .before .before .before .before .before .before .before .before .before .before .before .before .args .settled .estimate))
     estimate-bits = c .before .before .before .before .before .before .before .before .before .before .before .before .before .unbias .ensures ∙ rw (lt-ltb (c .before .before .before .before .before .before .before .before .before .before .before .before .before .before .before .before .before .before .args .settled .estimate) 4294967296 (c .before .before .before .before .before .before .before .before .before .before .before .before .before .before .before .before .before .before .pre .1 .1))
+
     value-bits : c .before .before .before .before .before .before .before .before .before .before .before .before .unbias2 .result ≡ ofZ w32 (down 2147483648 (c .before .before .before .before .before .before .before .before .before .before .before .before .before .before .before .before .before .before .args .settled .value))
     value-bits = c .before .before .before .before .before .before .before .before .before .before .before .before .unbias2 .ensures ∙ rw (lt-ltb (c .before .before .before .before .before .before .before .before .before .before .before .before .before .before .before .before .before .before .args .settled .value) 4294967296 (c .before .before .before .before .before .before .before .before .before .before .before .before .before .before .before .before .before .before .pre .1 .2))
 

@@ -10,31 +10,22 @@ use Rattle.round.proofs.Bytes.{header-stored}
 use borrow.Author.Needs.{needs}
 use Rattle.round.proofs.put_header.Statement.{statement}
 use Rattle.round.proofs.put_header.Tie as tie
-use Rattle.round.proofs.put_header.Reads as reads
-use Rattle.round.proofs.put_header.Lts as lts
-use Rattle.words.proofs.put_word.Reads as put-word-reads
 
--- src/lib.rt:72:5
 slice-write-answer : tie.Need-slice-write-answer
 slice-write-answer c = search needs
 
--- src/lib.rt:73:5
 slice-write-answer-2 : tie.Need-slice-write-answer-2
 slice-write-answer-2 c = simp length-set (omega arith)
 
--- src/lib.rt:74:5
 put-word-requires : tie.Need-put-word-requires
 put-word-requires c κs = search needs
 
--- src/lib.rt:75:5
 put-word-requires-2 : tie.Need-put-word-requires-2
 put-word-requires-2 c κs = search needs
 
--- src/lib.rt:68:1
 same-length : tie.Need-same-length
 same-length c = c .before .before .put-word2 .kept .0 ∙ c .before .before .before .before .before .before .put-word .kept .0 ∙ simp length-set
 
--- src/lib.rt:68:1
 returns : tie.Need-returns
 returns c =
     c .before .before .put-word2 .ensures

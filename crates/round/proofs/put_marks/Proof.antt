@@ -11,9 +11,6 @@ use Rattle.sheets.proofs.Storing.{store-none, store-next, store-ended}
 use Rattle.round.specs.Rounds.{markIn}
 use Rattle.round.proofs.put_marks.Statement.{statement}
 use Rattle.round.proofs.put_marks.Tie as tie
-use Rattle.round.proofs.put_marks.Reads as reads
-use Rattle.round.proofs.put_marks.Lts as lts
-use Rattle.round.proofs.mark.Reads as mark-reads
 
 abbrev Inv-marks : tie.InvT-marks
 Inv-marks values kept marks₀ r₀ marks r = (r ≤ length values) × (marks ≡ overwrite (table (markIn values kept) r) marks₀) × (length marks ≡ length marks₀)
@@ -21,57 +18,46 @@ Inv-marks values kept marks₀ r₀ marks r = (r ≤ length values) × (marks �
 abbrev μ-marks : tie.MeasureT-marks
 μ-marks values kept marks₀ r₀ marks r = length values - r
 
--- src/lib.rt:60:5
 marks-holds : tie.Need-marks-holds Inv-marks μ-marks
 marks-holds c = (search needs, store-none (markIn (c .before .before .before .args .values .now) (c .before .before .before .args .kept .now)) (c .before .before .before .args .marks .now), refl)
 
--- src/lib.rt:61:25
 mul-mark : tie.Need-mul-mark Inv-marks μ-marks
 mul-mark c = search needs
 
--- src/lib.rt:61:25
 shared-slice-read-mark : tie.Need-shared-slice-read-mark Inv-marks μ-marks
 shared-slice-read-mark c = search needs
 
--- src/lib.rt:61:36
 mul-mark-2 : tie.Need-mul-mark-2 Inv-marks μ-marks
 mul-mark-2 c = search needs
 
--- src/lib.rt:61:36
 shared-slice-read-mark-2 : tie.Need-shared-slice-read-mark-2 Inv-marks μ-marks
 shared-slice-read-mark-2 c = search needs
 
--- src/lib.rt:61:20
 mark-requires : tie.Need-mark-requires Inv-marks μ-marks
 mark-requires c κs = search needs
 
--- src/lib.rt:61:9
 slice-write-marks : tie.Need-slice-write-marks Inv-marks μ-marks
 slice-write-marks c = search needs
 
--- src/lib.rt:62:9
 add-r : tie.Need-add-r Inv-marks μ-marks
 add-r c = search needs
 
--- src/lib.rt:60:5
 marks-less : tie.Need-marks-less Inv-marks μ-marks
 marks-less c = search needs
 
--- src/lib.rt:60:5
 marks-again : tie.Need-marks-again Inv-marks μ-marks
-marks-again c =
-    ( search needs,
-    store-next (markIn (c .before .before .before .before .before .before .before .before .args .values .now) (c .before .before .before .before .before .before .before .before .args .kept .now)) (c .before .before .before .before .marks .r) (c .before .before .before .before .before .before .before .before .args .marks .now) (c .before .before .before .before .marks .marks) (c .mark .result)
-    (c .before .before .before .before .marks .inv .1)
-    (c .mark .ensures)
-    (omega (arith, c .before .before .before .marks-test .taken, c .before .before .before .before .before .before .before .before .pre .1)),
-    length-set (c .before .before .before .before .marks .marks) (c .before .before .before .before .marks .r) (c .mark .result) ∙ c .before .before .before .before .marks .inv .2)
+marks-again c = (
+  search needs,
+  store-next (markIn (c .before .before .before .before .before .before .before .before .args .values .now) (c .before .before .before .before .before .before .before .before .args .kept .now)) (c .before .before .before .before .marks .r) (c .before .before .before .before .before .before .before .before .args .marks .now) (c .before .before .before .before .marks .marks) (c .mark .result)
+      (c .before .before .before .before .marks .inv .1)
+      (c .mark .ensures)
+      (omega (arith, c .before .before .before .marks-test .taken, c .before .before .before .before .before .before .before .before .pre .1)),
+  length-set (c .before .before .before .before .marks .marks) (c .before .before .before .before .marks .r) (c .mark .result) ∙ c .before .before .before .before .marks .inv .2,
+)
 
--- src/lib.rt:55:1
 same-length : tie.Need-same-length Inv-marks μ-marks
 same-length c = search needs
 
--- src/lib.rt:55:1
 returns : tie.Need-returns Inv-marks μ-marks
 returns c =
     store-ended (markIn (c .before .before .before .before .before .args .values .now) (c .before .before .before .before .before .args .kept .now)) (length (c .before .before .before .before .before .args .values .now)) (c .before .marks .r) (c .before .before .before .before .before .args .marks .now) (c .before .marks .marks)

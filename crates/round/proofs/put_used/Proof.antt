@@ -16,10 +16,6 @@ use Rattle.sheets.proofs.Storing.{put-none, put-next, put-ended}
 use Rattle.round.specs.Rounds.{usedIn}
 use Rattle.round.proofs.put_used.Statement.{statement}
 use Rattle.round.proofs.put_used.Tie as tie
-use Rattle.round.proofs.put_used.Reads as reads
-use Rattle.round.proofs.put_used.Lts as lts
-use Rattle.round.proofs.used.Reads as used-reads
-use Rattle.words.proofs.put_word.Reads as put-word-reads
 
 abbrev Inv-values : tie.InvT-values
 Inv-values kept estimate tail₀ r₀ tail r = (r ≤ length kept) × (tail ≡ overwrite (readingBytes (take r (table (usedIn kept estimate) (length kept)))) tail₀) × (length tail ≡ length tail₀)
@@ -27,56 +23,46 @@ Inv-values kept estimate tail₀ r₀ tail r = (r ≤ length kept) × (tail ≡ 
 abbrev μ-values : tie.MeasureT-values
 μ-values kept estimate tail₀ r₀ tail r = length kept - r
 
--- src/lib.rt:48:5
 values-holds : tie.Need-values-holds Inv-values μ-values
 values-holds c = (search needs, put-none (table (usedIn (c .before .before .args .kept .now) (c .before .before .args .estimate)) (length (c .before .before .args .kept .now))) (c .before .before .args .tail .now), refl)
 
--- src/lib.rt:49:31
 mul-put-word : tie.Need-mul-put-word Inv-values μ-values
 mul-put-word c = search needs
 
--- src/lib.rt:49:43
 mul-used : tie.Need-mul-used Inv-values μ-values
 mul-used c = search needs
 
--- src/lib.rt:49:43
 shared-slice-read-used : tie.Need-shared-slice-read-used Inv-values μ-values
 shared-slice-read-used c = search needs
 
--- src/lib.rt:49:38
 used-requires : tie.Need-used-requires Inv-values μ-values
 used-requires c κs = search needs
 
--- src/lib.rt:49:9
 put-word-requires : tie.Need-put-word-requires Inv-values μ-values
 put-word-requires c κs = search needs
 
--- src/lib.rt:50:9
 add-r : tie.Need-add-r Inv-values μ-values
 add-r c = search needs
 
--- src/lib.rt:48:5
 values-less : tie.Need-values-less Inv-values μ-values
 values-less c = search needs
 
--- src/lib.rt:48:5
 values-again : tie.Need-values-again Inv-values μ-values
 values-again c =
-    let long = length-table (usedIn (c .before .before .before .before .before .before .before .before .before .before .args .kept .now) (c .before .before .before .before .before .before .before .before .before .before .args .estimate)) (length (c .before .before .before .before .before .before .before .before .before .before .args .kept .now)) in
-    ( search needs,
-    c .before .before .put-word .ensures
-    ∙ put-next (table (usedIn (c .before .before .before .before .before .before .before .before .before .before .args .kept .now) (c .before .before .before .before .before .before .before .before .before .before .args .estimate)) (length (c .before .before .before .before .before .before .before .before .before .before .args .kept .now))) (c .before .before .before .before .before .before .before .values .r) (c .before .before .before .before .before .before .before .before .before .before .args .tail .now) (c .before .before .before .before .before .before .before .values .tail) (c .before .before .before .used .result)
-    (c .before .before .before .before .before .before .before .values .inv .1)
-    (omega (arith, c .before .before .before .before .before .before .values-test .taken))
-    (c .before .before .before .used .ensures ∙ ap (ofZ w32) (sym (getD-table (usedIn (c .before .before .before .before .before .before .before .before .before .before .args .kept .now) (c .before .before .before .before .before .before .before .before .before .before .args .estimate)) (length (c .before .before .before .before .before .before .before .before .before .before .args .kept .now)) (c .before .before .before .before .before .before .before .values .r) (pos 0) (c .before .before .before .before .before .before .values-test .taken))))
-    (omega (arith, c .before .before .before .before .before .before .before .before .before .before .pre .1)),
-    c .before .before .put-word .kept .0 ∙ c .before .before .before .before .before .before .before .values .inv .2)
+    let long = length-table (usedIn (c .before .before .before .before .before .before .before .before .before .before .args .kept .now) (c .before .before .before .before .before .before .before .before .before .before .args .estimate)) (length (c .before .before .before .before .before .before .before .before .before .before .args .kept .now)) in (
+      search needs,
+      c .before .before .put-word .ensures
+          ∙ put-next (table (usedIn (c .before .before .before .before .before .before .before .before .before .before .args .kept .now) (c .before .before .before .before .before .before .before .before .before .before .args .estimate)) (length (c .before .before .before .before .before .before .before .before .before .before .args .kept .now))) (c .before .before .before .before .before .before .before .values .r) (c .before .before .before .before .before .before .before .before .before .before .args .tail .now) (c .before .before .before .before .before .before .before .values .tail) (c .before .before .before .used .result)
+          (c .before .before .before .before .before .before .before .values .inv .1)
+          (omega (arith, c .before .before .before .before .before .before .values-test .taken))
+          (c .before .before .before .used .ensures ∙ ap (ofZ w32) (sym (getD-table (usedIn (c .before .before .before .before .before .before .before .before .before .before .args .kept .now) (c .before .before .before .before .before .before .before .before .before .before .args .estimate)) (length (c .before .before .before .before .before .before .before .before .before .before .args .kept .now)) (c .before .before .before .before .before .before .before .values .r) (pos 0) (c .before .before .before .before .before .before .values-test .taken))))
+          (omega (arith, c .before .before .before .before .before .before .before .before .before .before .pre .1)),
+      c .before .before .put-word .kept .0 ∙ c .before .before .before .before .before .before .before .values .inv .2,
+    )
 
--- src/lib.rt:43:1
 same-length : tie.Need-same-length Inv-values μ-values
 same-length c = search needs
 
--- src/lib.rt:43:1
 returns : tie.Need-returns Inv-values μ-values
 returns c =
     let long = length-table (usedIn (c .before .before .before .before .args .kept .now) (c .before .before .before .before .args .estimate)) (length (c .before .before .before .before .args .kept .now)) in

@@ -5,23 +5,16 @@ use mathlib.Core.Path.{_∙_}
 use borrow.Author.Needs.{needs}
 use Rattle.round.proofs.used.Statement.{statement}
 use Rattle.round.proofs.used.Tie as tie
-use Rattle.round.proofs.used.Reads as reads
-use Rattle.round.proofs.used.Lts as lts
-use Rattle.agreement.proofs.unbias.Reads as unbias-reads
 
--- src/lib.rt:36:9
 unbias-requires : tie.Need-unbias-requires
 unbias-requires c κs = search needs
 
--- src/lib.rt:38:9
 unbias-requires-2 : tie.Need-unbias-requires-2
 unbias-requires-2 c κs = search needs
 
--- src/lib.rt:31:1
 returns : tie.Need-returns
 returns c = c .unbias .ensures ∙ rw (lt-ltb _ _ (c .before .if1 .taken))
 
--- src/lib.rt:31:1
 returns-2 : tie.Need-returns-2
 returns-2 c = c .unbias2 .ensures ∙ rw (le-ltb _ _ (c .before .if1 .left), lt-ltb _ _ (c .before .before .pre))
 

@@ -1,0 +1,11 @@
+pub mod Rows
+pub mod Limits
+pub mod Checks
+pub mod Outcomes
+pub mod Words
+pub mod Readings
+pub mod Written
+pub mod Reread
+pub mod RoundTrips
+pub mod Entries
+pub mod Answer

@@ -73,17 +73,17 @@ module _ (acc bcc : ℕ → Bool) (n : ℕ) (x y : ℕ → ℕ) (both : (r : ℕ
       (ap (numbered-nat k acc n x) count-same ∙ numbered-same k (count bcc n))))
 
 module _ (w need : ℕ) (s : List ℕ) where
-  abbrev kept : List ℕ
+  abbrev pub kept : List ℕ
   kept = table (keptAt w need s) (length s)
 
-  length-kept : length kept ≡ length s
+  pub length-kept : length kept ≡ length s
   length-kept = length-table (keptAt w need s) (length s)
 
-  kept-at : (r : ℕ) → r < length s → getD kept r 0 ≡ keptAt w need s r
+  pub kept-at : (r : ℕ) → r < length s → getD kept r 0 ≡ keptAt w need s r
   kept-at r l = getD-table (keptAt w need s) (length s) r 0 l
 
   -- a kept reading is present just where it was accepted, and is the reading itself
-  kept-present : (r : ℕ) → r < length s → presentAt kept r ≡ acceptedAt w need s r
+  pub kept-present : (r : ℕ) → r < length s → presentAt kept r ≡ acceptedAt w need s r
   unfolding acceptedAt
   kept-present r l = ap (λ (v : ℕ). ltb v 4294967296) (kept-at r l) ∙ go (acceptedAt w need s r) (accepted-present w (presentAt s) (valueAt s) need (length s) r)
     where
@@ -91,7 +91,7 @@ module _ (w need : ℕ) (s : List ℕ) where
       go true f = f refl
       go false f = refl
 
-  kept-value : (r : ℕ) → r < length s → acceptedAt w need s r ≡ true → valueAt s r ≡ valueAt kept r
+  pub kept-value : (r : ℕ) → r < length s → acceptedAt w need s r ≡ true → valueAt s r ≡ valueAt kept r
   kept-value r l e = sym (kept-at r l ∙ ap (λ (b : Bool). cond b (getD s r 0) 4294967296) e)
 
   count-kept : count (presentAt kept) (length s) ≡ countOf w need s

@@ -92,8 +92,8 @@ fn held(start: u64, reach: u64, value: u64) -> u32
     (std::num::wrapping_sub_u64(value, start) <= reach) as u32
 }
 
-// Whether some span that starts at a reading holds r's reading and enough readings. `known` remembers what was found of each start,
-// so that none is counted twice.
+// Whether some span that starts at a reading holds r's reading and enough readings: the loops over starts and readings are left by a label
+// at the first span that does. `known` remembers what was found of each start, so that none is counted twice.
 fn accepts(values: &[u64], window: u32, need: u32, known: &mut [u8], r: usize) -> bool
     requires { ⌜ (r < length (now values)) × (length (now values) ≤ 64) × (length (now known) ≡ 64) ⌝ }
     requires { ⌜ Remembered window need (now values) (now known) ⌝ }

@@ -1,13 +1,12 @@
 // The estimate of readings and the mean of used values, on naturals: readings moved up by 2^31.
 ghost use mathlib.Core.Path.{_≡_};
 ghost use mathlib.Core.Bool.{_&&_, _||_, cond};
-ghost use Prim.Native.Nat.{_+_, _*_, _/_, _≤_, _<_};
+ghost use Prim.Native.Nat.{_*_, _≤_, _<_};
 ghost use lib.Dec.{leb, ltb, eqb};
-ghost use lib.ListN.{length, getD};
-ghost use Rattle.arithmetic.specs.Counting.{bit, count};
+ghost use lib.ListN.{length};
 ghost use Rattle.arithmetic.proofs.Sums.{total};
-ghost use Rattle.rounds.proofs.Shifted.{numbered-nat, mean-nat};
-ghost use Rattle.estimates.specs.Values.{valueAt, presentAt, usedAt, estimateOf, newValueOf};
+ghost use Rattle.rounds.proofs.Shifted.{mean-nat};
+ghost use Rattle.estimates.specs.Values.{usedAt, presentCount, countBelow, countUpTo, numberedAt, estimateOf, newValueOf};
 
 // The first number that is no reading.
 pub const LIMIT: u64 = 4_294_967_296;
@@ -52,7 +51,7 @@ fn sum_used(values: &[u64], other: u64) -> u64
 // How many readings are present.
 fn count_present(values: &[u64]) -> u32
     requires { ⌜ length (now values) ≤ 64 ⌝ }
-    ensures { λ r. ⌜ r ≡ count (presentAt (now (values .entry))) (length (now (values .entry))) ⌝ }
+    ensures { λ r. ⌜ r ≡ presentCount (now (values .entry)) ⌝ }
 {
     let mut present: u32 = 0;
     let mut t = 0;
@@ -65,7 +64,7 @@ fn count_present(values: &[u64]) -> u32
 
 fn rank(values: &[u64], v: u64) -> Ranks
     requires { ⌜ length (now values) ≤ 64 ⌝ }
-    ensures { λ r. ⌜ (r .below ≡ count (λ s. ltb (getD (now (values .entry)) s 0) v) (length (now (values .entry)))) × (r .«up_to» ≡ count (λ s. leb (getD (now (values .entry)) s 0) v) (length (now (values .entry)))) ⌝ }
+    ensures { λ r. ⌜ (r .below ≡ countBelow (now (values .entry)) v) × (r .«up_to» ≡ countUpTo (now (values .entry)) v) ⌝ }
 {
     let mut below: u32 = 0;
     let mut up_to: u32 = 0;
@@ -89,7 +88,7 @@ fn between(low: u64, v: u64, high: u64) -> bool
 // high rules out all beyond it.
 fn numbered(values: &[u64], h: u32) -> u64
     requires { ⌜ length (now values) ≤ 64 ⌝ }
-    ensures { λ r. ⌜ r ≡ numbered-nat 2147483648 (presentAt (now (values .entry))) (length (now (values .entry))) (valueAt (now (values .entry))) h ⌝ }
+    ensures { λ r. ⌜ r ≡ numberedAt (now (values .entry)) h ⌝ }
     ensures { λ r. ⌜ r < 4294967296 ⌝ }
 {
     let mut low: u64 = 0;
@@ -113,8 +112,8 @@ fn numbered(values: &[u64], h: u32) -> u64
 }
 
 fn lowest(values: &[u64]) -> u64
-    requires { ⌜ 0 < count (presentAt (now values)) (length (now values)) ⌝ }
-    ensures { λ r. ⌜ r ≡ numbered-nat 2147483648 (presentAt (now (values .entry))) (length (now (values .entry))) (valueAt (now (values .entry))) 1 ⌝ }
+    requires { ⌜ 0 < presentCount (now values) ⌝ }
+    ensures { λ r. ⌜ r ≡ numberedAt (now (values .entry)) 1 ⌝ }
     ensures { λ r. ⌜ r < 4294967296 ⌝ }
 {
     let mut low = LIMIT;
@@ -130,8 +129,8 @@ fn lowest(values: &[u64]) -> u64
 }
 
 fn highest(values: &[u64]) -> u64
-    requires { ⌜ 0 < count (presentAt (now values)) (length (now values)) ⌝ }
-    ensures { λ r. ⌜ r ≡ numbered-nat 2147483648 (presentAt (now (values .entry))) (length (now (values .entry))) (valueAt (now (values .entry))) (count (presentAt (now (values .entry))) (length (now (values .entry)))) ⌝ }
+    requires { ⌜ 0 < presentCount (now values) ⌝ }
+    ensures { λ r. ⌜ r ≡ numberedAt (now (values .entry)) (presentCount (now (values .entry))) ⌝ }
     ensures { λ r. ⌜ r < 4294967296 ⌝ }
 {
     let mut high: u64 = 0;

@@ -1,1 +1,2 @@
 pub mod Screens
+pub mod Bits

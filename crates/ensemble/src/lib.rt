@@ -4,7 +4,7 @@ ghost use mathlib.Core.Bool.{true, _||_};
 ghost use Prim.Native.Nat.{_+_, _*_};
 ghost use lib.Dec.{eqb, ltb};
 ghost use mir.Syntax.{w32};
-ghost use mir.Val.{toZ};
+ghost use mir.Val.{toZ, ofZ};
 ghost use Rattle.model.specs.Refusals.{when, firstOf, settingsChecks};
 ghost use Rattle.ensemble.specs.Answers.{rowOf};
 use model::Refusal;
@@ -28,6 +28,18 @@ impl Tick {
             Tick(bits as i32)
         } else {
             Tick(!((4_294_967_295 - bits) as i32))
+        }
+    }
+
+    // The 32 bits in two's complement that a reading is.
+    pub fn to_bits(self) -> u32
+        ensures { λ r. ⌜ r ≡ ofZ w32 (self .0) ⌝ }
+    {
+        let ticks = self.0;
+        if ticks < 0 {
+            !((!ticks) as u32)
+        } else {
+            ticks as u32
         }
     }
 }

@@ -1,0 +1,14 @@
+pub mod Rows
+pub mod Limits
+pub mod Checks
+pub mod Searching
+pub mod Outcomes
+pub mod Inspection
+pub mod Words
+pub mod Readings
+pub mod Written
+pub mod Reread
+pub mod RoundTrips
+pub mod Entries
+pub mod Storing
+pub mod Answer

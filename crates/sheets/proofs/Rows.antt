@@ -1,0 +1,72 @@
+-- The first refusal of a list of rows: over lists joined, and where none refuses.
+-- Assumes nothing.
+use mathlib.Core.Bool.{Bool, true, false}
+use mathlib.Core.List.{List, [], _∷_, _++_}
+use mathlib.Core.Option.{Option, none, some}
+use mathlib.Core.Path.{_≡_, refl, sym, _∙_}
+use Prim.Native.Nat.{ℕ, zero, suc}
+use lib.ListN.{getD}
+use Rattle.model.specs.declared.Refusal.{Refusal}
+use Rattle.model.specs.Refusals.{Row, when, atEntry, orNext, firstOf}
+
+-- the first of two lists joined: the first list's, or else the second's
+pub first-append : (xs ys : List Row) → firstOf (xs ++ ys) ≡ orNext (firstOf xs) (firstOf ys)
+unfolding firstOf
+first-append [] ys = refl
+first-append (none ∷ xs) ys = first-append xs ys
+first-append (some r ∷ xs) ys = refl
+
+pub next-none : (a : Row) → orNext a none ≡ a
+next-none none = refl
+next-none (some r) = refl
+
+-- neither of two rows refuses where the first of them does not
+pub next-none-left : (a b : Row) → orNext a b ≡ none → a ≡ none
+next-none-left none b h = refl
+next-none-left (some r) b h = h
+
+pub next-none-right : (a b : Row) → orNext a b ≡ none → b ≡ none
+next-none-right none b h = h
+next-none-right (some r) b h = cc
+
+pub none-left : (xs ys : List Row) → firstOf (xs ++ ys) ≡ none → firstOf xs ≡ none
+none-left xs ys h = next-none-left (firstOf xs) (firstOf ys) (sym (first-append xs ys) ∙ h)
+
+pub none-right : (xs ys : List Row) → firstOf (xs ++ ys) ≡ none → firstOf ys ≡ none
+none-right xs ys h = next-none-right (firstOf xs) (firstOf ys) (sym (first-append xs ys) ∙ h)
+
+pub none-both : (xs ys : List Row) → firstOf xs ≡ none → firstOf ys ≡ none → firstOf (xs ++ ys) ≡ none
+none-both xs ys a b = rw (first-append, a) b
+
+-- where the first of a list does not refuse, no row of it does
+pub none-at : (rows : List Row) → firstOf rows ≡ none → (i : ℕ) → getD rows i none ≡ none
+unfolding firstOf
+none-at [] h i = refl
+none-at (r ∷ rows) h zero = next-none-left r (firstOf rows) h
+none-at (r ∷ rows) h (suc i) = none-at rows (next-none-right r (firstOf rows) h) i
+
+pub none-cons : (r : Row) (rs : List Row) → r ≡ none → firstOf rs ≡ none → firstOf (r ∷ rs) ≡ none
+unfolding firstOf
+none-cons r rs a b = rw a b
+
+-- what a row refuses under, it refuses under before every later row
+pub first-cons-some : (r : Refusal) (row : Row) (rs : List Row) → row ≡ some r → firstOf (row ∷ rs) ≡ some r
+unfolding firstOf
+first-cons-some r row rs a = rw a
+
+pub first-cons-none : (row : Row) (rs : List Row) → row ≡ none → firstOf (row ∷ rs) ≡ firstOf rs
+unfolding firstOf
+first-cons-none row rs a = rw a
+
+-- a row by its test
+pub when-none : (b : Bool) (number : ℕ) → when b number ≡ none → b ≡ false
+when-none true number h = cc
+when-none false number h = refl
+
+pub none-when : (b : Bool) (number : ℕ) → b ≡ false → when b number ≡ none
+none-when b number h = rw h
+
+-- a row by the lowest entry at fault
+pub entry-none : (o : Option ℕ) (number : ℕ) → atEntry o number ≡ none → o ≡ none
+entry-none none number h = refl
+entry-none (some e) number h = cc

@@ -146,6 +146,9 @@ decimal-large x fits h =
     tenth : x / 10 < 1_000_000_000
     tenth = omega arith
 
+pub length-decimal-large : (x : ℕ) → x < 4_294_967_296 → 10 ≤ x → length (decimal x) ≡ length (decimal (x / 10)) + 1
+length-decimal-large x fits h = ap length (decimal-large x fits h) ∙ length-append (decimal (x / 10)) ((48 + x % 10) ∷ [])
+
 pub length-decimal : (x : ℕ) → length (decimal x) ≤ 10
 length-decimal x = length-digits 10 x
 

@@ -2,11 +2,12 @@
 -- Assumes nothing.
 use mathlib.Core.List.{List, [], _∷_, _++_}
 use mathlib.Core.Path.{_≡_, refl, sym, ap, _∙_}
-use Prim.Native.Nat.{ℕ, suc, _+_, _≤_}
+use Prim.Native.Nat.{ℕ, suc, _+_, _≤_, _<_}
 use native.Mathlib.Nat.{add-zero, zero-add, add-assoc, add-suc, suc-add}
 use native.Mathlib.Omega.{arith}
-use lib.ListN.{length, set, drop, length-append}
-use lib.Seq.{sets, length-sets, sets-eq}
+use native.Mathlib.Numerals.{add-one}
+use lib.ListN.{length, getD, set, take, drop, length-append}
+use lib.Seq.{sets, length-sets, sets-eq, take-suc}
 use Rattle.arithmetic.specs.Writing.{overwrite}
 use Rattle.text.specs.Putting.{stored, Puts}
 
@@ -42,3 +43,9 @@ puts-then {old = old} {mid = mid} {at = at} {next = next} {a = a} {b = b} p q =
       buffer = q .buffer ∙ ap (λ (l : List ℕ). sets l next b) (p .buffer) ∙ ap (λ (k : ℕ). sets (sets old at a) k b) (p .position) ∙ sets-append old at a b;
       position = q .position ∙ ap (λ (k : ℕ). k + length b) (p .position) ∙ add-assoc at (length a) (length b) ∙ ap (λ (k : ℕ). at + k) (sym (length-append a b));
     }
+
+-- one byte more of a list
+pub puts-more : {old text : List ℕ} {at : ℕ} (bytes : List ℕ) (i : ℕ) → i < length bytes → Puts old at (take i bytes) text (at + i) → Puts old at (take (i + 1) bytes) (set text (at + i) (getD bytes i 0)) (at + (i + 1))
+puts-more {text = text} {at = at} bytes i h p =
+    rw (add-one i, take-suc bytes i 0 h, ← add-one i, ← add-assoc at i 1)
+    (puts-then p (puts-byte text (at + i) (getD bytes i 0)))

@@ -1,4 +1,5 @@
 use borrow.Author.Needs.{needs}
+use Rattle.text.proofs.Putting.{puts-byte}
 use Rattle.text.proofs.put_byte.Statement.{statement}
 use Rattle.text.proofs.put_byte.Tie as tie
 use Rattle.text.proofs.put_byte.Reads as reads
@@ -18,7 +19,7 @@ same-length c = search needs
 
 -- src/lib.rt:12:1
 returns : tie.Need-returns
-returns c = ?
+returns c = puts-byte (c .args .text .now) (c .args .at) (c .args .byte)
 
 pub put-byte-spec : {M : Type 1} → statement M
 put-byte-spec = tie.close (tie.spec slice-write-text add-result same-length returns)

@@ -1,2 +1,5 @@
 pub mod Putting
 pub mod Digits
+pub mod Signed
+pub mod Lines
+pub mod Texts

@@ -41,3 +41,33 @@ fn put_decimal(text: &mut [u8], at: usize, x: u32) -> usize
     let last = put_decimal(text, at, x / 10);
     put_byte(text, last, (48 + x % 10) as u8)
 }
+
+// Puts the number that 32 bits in two's complement are, a minus sign before a negative one.
+fn put_signed(text: &mut [u8], at: usize, bits: u32) -> usize
+    requires { ⌜ at + length (signed (toZ w32 bits)) ≤ length (now text) ⌝ }
+    ensures { λ r. ⌜ Puts (now (text .entry)) at (signed (toZ w32 bits)) (now (text .exit)) r ⌝ }
+{
+    if bits < 2_147_483_648 {
+        return put_decimal(text, at, bits);
+    }
+    let magnitude = put_byte(text, at, b'-');
+    put_decimal(text, magnitude, 4_294_967_295 - bits + 1)
+}
+
+// Puts a line's next field: a space, then a number.
+fn put_field(text: &mut [u8], at: usize, x: u32) -> usize
+    requires { ⌜ at + length (decimal x) < length (now text) ⌝ }
+    ensures { λ r. ⌜ Puts (now (text .entry)) at (32 ∷ decimal x) (now (text .exit)) r ⌝ }
+{
+    let field = put_byte(text, at, b' ');
+    put_decimal(text, field, x)
+}
+
+// Puts a line's next field: a space, then a signed number.
+fn put_signed_field(text: &mut [u8], at: usize, bits: u32) -> usize
+    requires { ⌜ at + length (signed (toZ w32 bits)) < length (now text) ⌝ }
+    ensures { λ r. ⌜ Puts (now (text .entry)) at (32 ∷ signed (toZ w32 bits)) (now (text .exit)) r ⌝ }
+{
+    let field = put_byte(text, at, b' ');
+    put_signed(text, field, bits)
+}

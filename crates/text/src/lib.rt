@@ -1,12 +1,14 @@
 // Document 01, "Program `settle`": the text of an answer sheet and of a refusal, written into a lent buffer.
 ghost use mathlib.Core.Path.{_≡_};
 ghost use mathlib.Core.List.{[], _∷_};
-ghost use Prim.Native.Nat.{_+_, _≤_, _<_};
+ghost use Prim.Native.Nat.{_+_, _*_, _≤_, _<_};
 ghost use lib.ListN.{length};
 ghost use mir.Syntax.{w32};
 ghost use mir.Val.{toZ};
-ghost use Rattle.model.specs.Listing.{decimal, signed};
+ghost use Rattle.model.specs.RoundSheet.{byte};
+ghost use Rattle.model.specs.Listing.{decimal, signed, line, roundWord, cabinetLines};
 ghost use Rattle.text.specs.Putting.{Puts};
+ghost use Rattle.text.specs.Text.{roundIn, roundWritten, refusalWritten};
 
 // Puts one byte.
 fn put_byte(text: &mut [u8], at: usize, byte: u8) -> usize
@@ -70,4 +72,77 @@ fn put_signed_field(text: &mut [u8], at: usize, bits: u32) -> usize
 {
     let field = put_byte(text, at, b' ');
     put_signed(text, field, bits)
+}
+
+// The text of a refusal: `refused`, number, place. It writes nothing and answers 0 where the buffer is shorter than any refusal's text
+// may be.
+pub fn refusal_text(number: u8, place: u32, text: &mut [u8]) -> usize
+    ensures { λ r. ⌜ r ≡ refusalWritten number place (now (text .entry)) .size ⌝ }
+    ensures { λ _. ⌜ now (text .exit) ≡ refusalWritten number place (now (text .entry)) .buffer ⌝ }
+{
+    if text.len() < 23 {
+        return 0;
+    }
+    let word = put_bytes(text, 0, b"refused");
+    let first = put_field(text, word, number as u32);
+    let second = put_field(text, first, place);
+    put_byte(text, second, b'\n')
+}
+
+// Puts the first line: `round`, N, count, estimate, new value.
+fn put_round(text: &mut [u8], n: u8, count: u8, estimate: u32, value: u32) -> usize
+    requires { ⌜ 38 ≤ length (now text) ⌝ }
+    ensures { λ r. ⌜ Puts (now (text .entry)) 0 (line roundWord (decimal n ∷ decimal count ∷ signed (toZ w32 estimate) ∷ signed (toZ w32 value) ∷ [])) (now (text .exit)) r ⌝ }
+{
+    let word = put_bytes(text, 0, b"round");
+    let first = put_field(text, word, n as u32);
+    let second = put_field(text, first, count as u32);
+    let third = put_signed_field(text, second, estimate);
+    let fourth = put_signed_field(text, third, value);
+    put_byte(text, fourth, b'\n')
+}
+
+// Puts a cabinet's line: number, mark, used value.
+fn put_cabinet(text: &mut [u8], at: usize, r: u8, mark: u8, used: u32) -> usize
+    requires { ⌜ at + 20 ≤ length (now text) ⌝ }
+    ensures { λ next. ⌜ Puts (now (text .entry)) at (line (decimal r) (decimal mark ∷ signed (toZ w32 used) ∷ [])) (now (text .exit)) next ⌝ }
+{
+    let first = put_decimal(text, at, r as u32);
+    let second = put_field(text, first, mark as u32);
+    let third = put_signed_field(text, second, used);
+    put_byte(text, third, b'\n')
+}
+
+// Puts a line for each of the cabinets 0 to n-1, as the answer sheet has them.
+fn put_cabinets(text: &mut [u8], at: usize, answer: &[u8], n: u8) -> usize
+    requires { ⌜ (n ≡ byte (now answer) 0) × (at + 20 * n ≤ length (now text)) ⌝ }
+    ensures { λ r. ⌜ Puts (now (text .entry)) at (cabinetLines (roundIn (now (answer .entry))) n) (now (text .exit)) r ⌝ }
+{
+    let mut next = at;
+    let mut r: u8 = 0;
+    'cabinets: while r < n {
+        let i = r as usize;
+        let mark = words::byte_at(answer, 10 + i);
+        let used = words::word_at(answer, 10 + (n as usize) + 4 * i);
+        next = put_cabinet(text, next, r, mark, used);
+        r += 1;
+    }
+    next
+}
+
+// The text of an answer sheet: the round's line, then a line for each cabinet. It writes nothing and answers 0 where the buffer is
+// shorter than the longest text that an answer sheet may have.
+pub fn round_text(answer: &[u8], text: &mut [u8]) -> usize
+    ensures { λ r. ⌜ r ≡ roundWritten (now (answer .entry)) (now (text .entry)) .size ⌝ }
+    ensures { λ _. ⌜ now (text .exit) ≡ roundWritten (now (answer .entry)) (now (text .entry)) .buffer ⌝ }
+{
+    if text.len() < 5138 {
+        return 0;
+    }
+    let n = words::byte_at(answer, 0);
+    let count = words::byte_at(answer, 1);
+    let estimate = words::word_at(answer, 2);
+    let value = words::word_at(answer, 6);
+    let cabinets = put_round(text, n, count, estimate, value);
+    put_cabinets(text, cabinets, answer, n)
 }

@@ -31,6 +31,11 @@ module _ (s : List ℕ) where
       fields : line (decimal r) (decimal mark ∷ signed (toZ w32 used) ∷ []) ≡ line (decimal r) (decimal (roundIn s .mark r) ∷ signed (roundIn s .used r) ∷ [])
       fields = rw (m, u, cabinets)
 
+  pub round-put : {old mid new : List ℕ} {next end : ℕ} (n count estimate value : ℕ) → n ≡ byte s 0 → count ≡ byte s 1 → estimate ≡ word s 2 → value ≡ word s 6 → Puts old 0 (line roundWord (decimal n ∷ decimal count ∷ signed (toZ w32 estimate) ∷ signed (toZ w32 value) ∷ [])) mid next → Puts mid next (cabinetLines (roundIn s) n) new end → Puts old 0 (roundText (byte s 0) (roundIn s)) new end
+  unfolding roundIn roundText
+  round-put n count estimate value cabinets accepted e v first rest =
+      puts-then (rw (cabinets, accepted, e, v) at first) (rw cabinets at rest)
+
   module _ (small : (j : ℕ) → byte s j < 256) where
     pub length-cabinets-in : (n : ℕ) → n ≤ 256 → length (cabinetLines (roundIn s) n) ≤ 20 * n
     unfolding roundIn

@@ -4,3 +4,4 @@ pub mod Signed
 pub mod Lines
 pub mod Texts
 pub mod Answers
+pub mod Listings

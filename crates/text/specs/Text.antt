@@ -1,10 +1,11 @@
 -- What writing a text gives, and what it leaves in the lent buffer.
 --   roundIn                           the round that an answer sheet says
+--   roundLine, cabinetLine            the first line, and a cabinet's, of numbers given by their bits
 --   roundCapacity, refusalCapacity    bytes that hold any round's text, any refusal's
 --   Text, textIn                      the length of the text and the buffer with it; nothing is written below the capacity
 --   roundWritten, refusalWritten      the text of an answer sheet, of a refusal
 use mathlib.Core.Bool.{Bool, cond}
-use mathlib.Core.List.{List}
+use mathlib.Core.List.{List, [], _∷_}
 use Prim.Native.Nat.{ℕ, _+_, _*_}
 use lib.Dec.{ltb}
 use lib.ListN.{length}
@@ -15,7 +16,7 @@ use Rattle.model.specs.RoundSheet.{byte, word}
 use Rattle.model.specs.AnswerSheet.{answerHeaderSize}
 use Rattle.model.specs.Steps.{Round}
 use Rattle.model.specs.Refusals.{refusal}
-use Rattle.model.specs.Listing.{roundText, refusalText}
+use Rattle.model.specs.Listing.{decimal, signed, line, roundWord, roundText, refusalText}
 
 -- document 01, "The answer sheet", read back
 unfoldable pub roundIn : List ℕ → Round
@@ -27,6 +28,15 @@ roundIn answer =
       mark = λ r. byte answer (answerHeaderSize + r);
       used = λ r. toZ w32 (word answer (answerHeaderSize + byte answer 0 + 4 * r));
     }
+
+-- "First line: `round`, N, count, estimate, new value"
+abbrev pub roundLine : ℕ → ℕ → ℕ → ℕ → List ℕ
+roundLine n count estimate value =
+    line roundWord (decimal n ∷ decimal count ∷ signed (toZ w32 estimate) ∷ signed (toZ w32 value) ∷ [])
+
+-- "Then per cabinet: number, mark, used value"
+abbrev pub cabinetLine : ℕ → ℕ → ℕ → List ℕ
+cabinetLine r mark used = line (decimal r) (decimal mark ∷ signed (toZ w32 used) ∷ [])
 
 -- the longest cabinet's line: numbers of three, three and eleven bytes, two spaces, a line feed
 abbrev pub cabinetCapacity : ℕ

@@ -6,9 +6,9 @@ ghost use lib.ListN.{length};
 ghost use mir.Syntax.{w32};
 ghost use mir.Val.{toZ};
 ghost use Rattle.model.specs.RoundSheet.{byte};
-ghost use Rattle.model.specs.Listing.{decimal, signed, line, roundWord, cabinetLines};
+ghost use Rattle.model.specs.Listing.{decimal, signed, cabinetLines};
 ghost use Rattle.text.specs.Putting.{Puts};
-ghost use Rattle.text.specs.Text.{roundIn, roundWritten, refusalWritten};
+ghost use Rattle.text.specs.Text.{roundIn, roundLine, cabinetLine, roundWritten, refusalWritten};
 
 // Puts one byte.
 fn put_byte(text: &mut [u8], at: usize, byte: u8) -> usize
@@ -92,7 +92,7 @@ pub fn refusal_text(number: u8, place: u32, text: &mut [u8]) -> usize
 // Puts the first line: `round`, N, count, estimate, new value.
 fn put_round(text: &mut [u8], n: u8, count: u8, estimate: u32, value: u32) -> usize
     requires { ⌜ 38 ≤ length (now text) ⌝ }
-    ensures { λ r. ⌜ Puts (now (text .entry)) 0 (line roundWord (decimal n ∷ decimal count ∷ signed (toZ w32 estimate) ∷ signed (toZ w32 value) ∷ [])) (now (text .exit)) r ⌝ }
+    ensures { λ r. ⌜ Puts (now (text .entry)) 0 (roundLine n count estimate value) (now (text .exit)) r ⌝ }
 {
     let word = put_bytes(text, 0, b"round");
     let first = put_field(text, word, n as u32);
@@ -105,7 +105,7 @@ fn put_round(text: &mut [u8], n: u8, count: u8, estimate: u32, value: u32) -> us
 // Puts a cabinet's line: number, mark, used value.
 fn put_cabinet(text: &mut [u8], at: usize, r: u8, mark: u8, used: u32) -> usize
     requires { ⌜ at + 20 ≤ length (now text) ⌝ }
-    ensures { λ next. ⌜ Puts (now (text .entry)) at (line (decimal r) (decimal mark ∷ signed (toZ w32 used) ∷ [])) (now (text .exit)) next ⌝ }
+    ensures { λ next. ⌜ Puts (now (text .entry)) at (cabinetLine r mark used) (now (text .exit)) next ⌝ }
 {
     let first = put_decimal(text, at, r as u32);
     let second = put_field(text, first, mark as u32);
@@ -119,13 +119,14 @@ fn put_cabinets(text: &mut [u8], at: usize, answer: &[u8], n: u8) -> usize
     ensures { λ r. ⌜ Puts (now (text .entry)) at (cabinetLines (roundIn (now (answer .entry))) n) (now (text .exit)) r ⌝ }
 {
     let mut next = at;
-    let mut r: u8 = 0;
-    'cabinets: while r < n {
+    let mut passed: u8 = 0;
+    'cabinets: while passed < n {
+        let r = passed;
+        passed += 1;
         let i = r as usize;
         let mark = words::byte_at(answer, 10 + i);
         let used = words::word_at(answer, 10 + (n as usize) + 4 * i);
         next = put_cabinet(text, next, r, mark, used);
-        r += 1;
     }
     next
 }

@@ -1,23 +1,19 @@
+-- `text::put_byte` meets its contract: one store puts one byte.
+-- Assumes nothing.
 use borrow.Author.Needs.{needs}
 use Rattle.text.proofs.Putting.{puts-byte}
 use Rattle.text.proofs.put_byte.Statement.{statement}
 use Rattle.text.proofs.put_byte.Tie as tie
-use Rattle.text.proofs.put_byte.Reads as reads
-use Rattle.text.proofs.put_byte.Lts as lts
 
--- src/lib.rt:16:5
 slice-write-text : tie.Need-slice-write-text
 slice-write-text c = search needs
 
--- src/lib.rt:17:5
 add-result : tie.Need-add-result
 add-result c = search needs
 
--- src/lib.rt:12:1
 same-length : tie.Need-same-length
 same-length c = search needs
 
--- src/lib.rt:12:1
 returns : tie.Need-returns
 returns c = puts-byte (c .args .text .now) (c .args .at) (c .args .byte)
 

@@ -1,3 +1,6 @@
+-- `text::put_cabinets` meets its contract. The loop's invariant: the lines of the cabinets passed are put. The measure is how many
+-- are left. A line has at most 20 bytes, so the next one has room.
+-- Assumes nothing.
 use mathlib.Core.Path.{_≡_}
 use Prim.Native.Nat.{_-_, _≤_}
 use native.Mathlib.Omega.{arith}
@@ -9,83 +12,76 @@ use Rattle.text.proofs.Lines.{cabinets-none}
 use Rattle.text.proofs.Answers.{cabinet-put, length-cabinets-in}
 use Rattle.text.proofs.put_cabinets.Statement.{statement}
 use Rattle.text.proofs.put_cabinets.Tie as tie
-use Rattle.text.proofs.put_cabinets.Reads as reads
-use Rattle.text.proofs.put_cabinets.Lts as lts
-use Rattle.text.proofs.put_cabinet.Reads as put-cabinet-reads
-use Rattle.words.proofs.byte_at.Reads as byte-at-reads
-use Rattle.words.proofs.word_at.Reads as word-at-reads
 
 abbrev Inv-cabinets : tie.InvT-cabinets
-Inv-cabinets text₀ at answer n next₀ r₀ text next r = (r ≤ n) × Puts text₀ at (cabinetLines (roundIn answer) r) text next
+Inv-cabinets text₀ at answer n next₀ passed₀ text next passed =
+    (passed ≤ n) × Puts text₀ at (cabinetLines (roundIn answer) passed) text next
 
 abbrev μ-cabinets : tie.MeasureT-cabinets
-μ-cabinets text₀ at answer n next₀ r₀ text next r = n - r
+μ-cabinets text₀ at answer n next₀ passed₀ text next passed = n - passed
 
--- src/lib.rt:123:5
 cabinets-holds : tie.Need-cabinets-holds Inv-cabinets μ-cabinets
 cabinets-holds c =
-    (omega arith, rw (cabinets-none (roundIn (c .before .before .args .answer .now))) (puts-none (c .before .before .args .text .now) (c .before .before .args .at)))
+    let args = c .before .before .args in
+    (omega arith, rw (cabinets-none (roundIn (args .answer .now))) (puts-none (args .text .now) (args .at)))
 
--- src/lib.rt:124:17
+add-passed : tie.Need-add-passed Inv-cabinets μ-cabinets
+add-passed c = omega arith
+
 cast-i : tie.Need-cast-i Inv-cabinets μ-cabinets
 cast-i c = omega arith
 
--- src/lib.rt:125:43
 add-byte-at : tie.Need-add-byte-at Inv-cabinets μ-cabinets
 add-byte-at c = omega arith
 
--- src/lib.rt:125:13
 byte-at-requires : tie.Need-byte-at-requires Inv-cabinets μ-cabinets
 byte-at-requires c κs = tt
 
--- src/lib.rt:126:43
 add-word-at : tie.Need-add-word-at Inv-cabinets μ-cabinets
 add-word-at c = omega arith
 
--- src/lib.rt:126:63
 mul-word-at : tie.Need-mul-word-at Inv-cabinets μ-cabinets
 mul-word-at c = omega arith
 
--- src/lib.rt:126:43
 add-word-at-2 : tie.Need-add-word-at-2 Inv-cabinets μ-cabinets
 add-word-at-2 c = omega arith
 
--- src/lib.rt:126:13
 word-at-requires : tie.Need-word-at-requires Inv-cabinets μ-cabinets
 word-at-requires c κs = tt
 
--- src/lib.rt:127:9
 put-cabinet-requires : tie.Need-put-cabinet-requires Inv-cabinets μ-cabinets
 put-cabinet-requires c κs =
-    let written = c .before .before .before .before .cabinets .inv .1 in
-    let small = length-cabinets-in (c .before .before .before .before .before .before .before .args .answer .now) (λ j. (c .before .before .before .before .before .shared-slice-known .given j) .fits) (c .before .before .before .before .cabinets .r) (omega arith) in
-    omega (arith, puts-length written)
+    let head = c .before .before .before .before in
+    let known = head .before in
+    let answer = known .before .before .args .answer .now in
+    let lines = length-cabinets-in answer (λ j. (known .shared-slice-known .given j) .fits) (head .cabinets .passed) (omega arith) in
+    omega (arith, puts-length (head .cabinets .inv .1))
 
--- src/lib.rt:128:9
-add-r : tie.Need-add-r Inv-cabinets μ-cabinets
-add-r c = omega arith
-
--- src/lib.rt:123:5
 cabinets-less : tie.Need-cabinets-less Inv-cabinets μ-cabinets
 cabinets-less c = omega arith
 
--- src/lib.rt:123:5
 cabinets-again : tie.Need-cabinets-again Inv-cabinets μ-cabinets
-cabinets-again c = (
-  omega arith,
-  cabinet-put (c .before .before .before .before .before .before .before .before .before .before .args .answer .now) (c .before .before .before .before .before .before .before .before .before .before .args .n) (c .before .before .before .before .before .before .before .cabinets .r) (c .before .before .before .before .before .byte-at .result) (c .before .before .before .before .word-at .result)
-      (c .before .before .before .before .before .before .before .before .before .before .pre .0) (c .before .before .before .before .before .byte-at .ensures) (c .before .before .before .before .word-at .ensures) (c .before .before .before .before .before .before .before .cabinets .inv .1) (c .before .before .put-cabinet .ensures),
-)
+cabinets-again c =
+    let read = c .before .before .before .before in
+    let head = read .before .before .before in
+    let start = head .before .before .before in
+    (
+      omega arith,
+      cabinet-put (start .args .answer .now) (start .args .n) (head .cabinets .passed) (read .before .byte-at .result) (read .word-at .result)
+          (start .pre .0)
+          (read .before .byte-at .ensures)
+          (read .word-at .ensures)
+          (head .cabinets .inv .1)
+          (c .before .before .put-cabinet .ensures),
+    )
 
--- src/lib.rt:117:1
 same-length : tie.Need-same-length Inv-cabinets μ-cabinets
 same-length c = puts-length (c .before .cabinets .inv .1)
 
--- src/lib.rt:117:1
 returns : tie.Need-returns Inv-cabinets μ-cabinets
 returns c = rw whole at (c .before .cabinets .inv .1)
   where
-    whole : c .before .cabinets .r ≡ c .before .before .before .before .args .n
+    whole : c .before .cabinets .passed ≡ c .before .before .before .before .args .n
     whole = omega arith
 
 pub put-cabinets-spec : {M : Type 1} → statement M
@@ -95,6 +91,7 @@ put-cabinets-spec =
     Inv-cabinets
     μ-cabinets
     cabinets-holds
+    add-passed
     cast-i
     add-byte-at
     byte-at-requires
@@ -103,7 +100,6 @@ put-cabinets-spec =
     add-word-at-2
     word-at-requires
     put-cabinet-requires
-    add-r
     cabinets-less
     cabinets-again
     same-length

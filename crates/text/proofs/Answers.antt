@@ -18,38 +18,39 @@ use Rattle.sheets.proofs.Answer.{answer-cabinets, answer-count, answer-estimate
 use Rattle.text.specs.Putting.{Puts}
 use Rattle.text.specs.Text.{roundIn, roundLine, cabinetLine, roundCapacity, textIn, roundWritten}
 use Rattle.text.proofs.Putting.{puts-then}
-use Rattle.text.proofs.Lines.{length-first, cabinets-more, length-cabinets}
+use Rattle.text.proofs.Lines.{length-round-line, cabinets-more, cabinets-grow, length-cabinets}
 
 -- ---- the lines of an answer sheet's bytes
 
 module _ (s : List ℕ) where
-  pub cabinet-put : {old text new : List ℕ} {at next end : ℕ} (n r mark used : ℕ) → n ≡ byte s 0 → mark ≡ byte s (10 + r) → used ≡ word s (10 + n + 4 * r) → Puts old at (cabinetLines (roundIn s) r) text next → Puts text next (cabinetLine r mark used) new end → Puts old at (cabinetLines (roundIn s) (r + 1)) new end
-  unfolding roundIn
-  cabinet-put n r mark used cabinets m u before here =
-      rw (cabinets-more (roundIn s) r) (puts-then before (rw fields at here))
-    where
-      fields : cabinetLine r mark used ≡ line (decimal r) (decimal (roundIn s .mark r) ∷ signed (roundIn s .used r) ∷ [])
-      fields = rw (m, u, cabinets)
-
-  pub round-put : {old mid new : List ℕ} {next end : ℕ} (n count estimate value : ℕ) → n ≡ byte s 0 → count ≡ byte s 1 → estimate ≡ word s 2 → value ≡ word s 6 → Puts old 0 (roundLine n count estimate value) mid next → Puts mid next (cabinetLines (roundIn s) n) new end → Puts old 0 (roundText (byte s 0) (roundIn s)) new end
-  unfolding roundIn roundText
-  round-put n count estimate value cabinets accepted e v first rest =
-      puts-then (rw (cabinets, accepted, e, v) at first) (rw cabinets at rest)
-
-  module _ (small : (j : ℕ) → byte s j < 256) where
-    pub length-cabinets-in : (n : ℕ) → n ≤ 256 → length (cabinetLines (roundIn s) n) ≤ 20 * n
+  module _ (n r mark used : ℕ) (cabinets : n ≡ byte s 0) (m : mark ≡ byte s (10 + r)) (u : used ≡ word s (10 + n + 4 * r)) where
+    pub cabinet-next : cabinetLines (roundIn s) (r + 1) ≡ cabinetLines (roundIn s) r ++ cabinetLine r mark used
     unfolding roundIn
-    length-cabinets-in n h = length-cabinets (roundIn s) n h (λ r l. small (10 + r))
+    cabinet-next = rw (m, u, cabinets) (cabinets-more (roundIn s) r)
 
-    pub length-round-in : length (roundText (byte s 0) (roundIn s)) ≤ 5138
-    unfolding roundIn roundText
-    length-round-in =
-        let n = byte s 0 in
-        let whole = length-append (roundLine n (byte s 1) (word s 2) (word s 6)) (cabinetLines (roundIn s) n) in
-        let first = length-first n (byte s 1) (toZ w32 (word s 2)) (toZ w32 (word s 6)) (small 0) (small 1) in
-        let few = small 0 in
-        let rest = length-cabinets-in n (omega arith) in
+    pub cabinet-room : r < n → length (cabinetLines (roundIn s) r) + length (cabinetLine r mark used) ≤ length (cabinetLines (roundIn s) n)
+    cabinet-room h =
+        let grown = cabinets-grow (roundIn s) (r + 1) n (omega arith) in
+        let next = ap length cabinet-next in
+        let whole = length-append (cabinetLines (roundIn s) r) (cabinetLine r mark used) in
         omega arith
+
+    pub cabinet-put : {old text new : List ℕ} {at next end : ℕ} → Puts old at (cabinetLines (roundIn s) r) text next → Puts text next (cabinetLine r mark used) new end → Puts old at (cabinetLines (roundIn s) (r + 1)) new end
+    cabinet-put before here = rw cabinet-next (puts-then before here)
+
+  pub round-lines : (n count estimate value : ℕ) → n ≡ byte s 0 → count ≡ byte s 1 → estimate ≡ word s 2 → value ≡ word s 6 → roundText (byte s 0) (roundIn s) ≡ roundLine n count estimate value ++ cabinetLines (roundIn s) n
+  unfolding roundText roundIn
+  round-lines n count estimate value cabinets accepted e v = rw (accepted, e, v, cabinets)
+
+  -- no answer sheet has a longer text
+  pub length-round : ((j : ℕ) → byte s j < 256) → length (roundText (byte s 0) (roundIn s)) ≤ roundCapacity
+  unfolding roundText roundIn
+  length-round small =
+      let few = small 0 in
+      let first = length-round-line (byte s 0) (byte s 1) (word s 2) (word s 6) few (small 1) in
+      let rest = length-cabinets (roundIn s) (byte s 0) (omega arith) (λ r l. small (10 + r)) in
+      let whole = length-append (roundLine (byte s 0) (byte s 1) (word s 2) (word s 6)) (cabinetLines (roundIn s) (byte s 0)) in
+      omega arith
 
 -- ---- a settled round
 

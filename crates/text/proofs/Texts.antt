@@ -30,8 +30,7 @@ module _ (capacity : ℕ) (text buffer : List ℕ) where
     text-shown = rw (text-size, text-buffer) (take-overwrite text buffer)
 
     pub text-written : {new : List ℕ} {next : ℕ} → length text ≤ capacity → Puts buffer 0 text new next → (next ≡ textIn capacity text buffer .size) × (new ≡ textIn capacity text buffer .buffer)
-    text-written fits p =
-        (
-          p .position ∙ zero-add (length text) ∙ sym text-size,
-          p .buffer ∙ stored-overwrite text buffer (le-trans fits room) ∙ sym text-buffer,
-        )
+    text-written fits p = (
+      p .position ∙ zero-add (length text) ∙ sym text-size,
+      p .buffer ∙ stored-overwrite text buffer (le-trans fits room) ∙ sym text-buffer,
+    )

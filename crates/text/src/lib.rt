@@ -1,7 +1,7 @@
 // Document 01, "Program `settle`": the text of an answer sheet and of a refusal, written into a lent buffer.
 ghost use mathlib.Core.Path.{_≡_};
 ghost use mathlib.Core.List.{[], _∷_};
-ghost use Prim.Native.Nat.{_+_, _*_, _≤_, _<_};
+ghost use Prim.Native.Nat.{_+_, _≤_, _<_};
 ghost use lib.ListN.{length};
 ghost use mir.Syntax.{w32};
 ghost use mir.Val.{toZ};
@@ -90,11 +90,11 @@ pub fn refusal_text(number: u8, place: u32, text: &mut [u8]) -> usize
 }
 
 // Puts the first line: `round`, N, count, estimate, new value.
-fn put_round(text: &mut [u8], n: u8, count: u8, estimate: u32, value: u32) -> usize
-    requires { ⌜ 38 ≤ length (now text) ⌝ }
-    ensures { λ r. ⌜ Puts (now (text .entry)) 0 (roundLine n count estimate value) (now (text .exit)) r ⌝ }
+fn put_round(text: &mut [u8], at: usize, n: u8, count: u8, estimate: u32, value: u32) -> usize
+    requires { ⌜ at + length (roundLine n count estimate value) ≤ length (now text) ⌝ }
+    ensures { λ r. ⌜ Puts (now (text .entry)) at (roundLine n count estimate value) (now (text .exit)) r ⌝ }
 {
-    let word = put_bytes(text, 0, b"round");
+    let word = put_bytes(text, at, b"round");
     let first = put_field(text, word, n as u32);
     let second = put_field(text, first, count as u32);
     let third = put_signed_field(text, second, estimate);
@@ -104,7 +104,7 @@ fn put_round(text: &mut [u8], n: u8, count: u8, estimate: u32, value: u32) -> us
 
 // Puts a cabinet's line: number, mark, used value.
 fn put_cabinet(text: &mut [u8], at: usize, r: u8, mark: u8, used: u32) -> usize
-    requires { ⌜ at + 20 ≤ length (now text) ⌝ }
+    requires { ⌜ at + length (cabinetLine r mark used) ≤ length (now text) ⌝ }
     ensures { λ next. ⌜ Puts (now (text .entry)) at (cabinetLine r mark used) (now (text .exit)) next ⌝ }
 {
     let first = put_decimal(text, at, r as u32);
@@ -115,7 +115,8 @@ fn put_cabinet(text: &mut [u8], at: usize, r: u8, mark: u8, used: u32) -> usize
 
 // Puts a line for each of the cabinets 0 to n-1, as the answer sheet has them.
 fn put_cabinets(text: &mut [u8], at: usize, answer: &[u8], n: u8) -> usize
-    requires { ⌜ (n ≡ byte (now answer) 0) × (at + 20 * n ≤ length (now text)) ⌝ }
+    requires { ⌜ n ≡ byte (now answer) 0 ⌝ }
+    requires { ⌜ at + length (cabinetLines (roundIn (now answer)) n) ≤ length (now text) ⌝ }
     ensures { λ r. ⌜ Puts (now (text .entry)) at (cabinetLines (roundIn (now (answer .entry))) n) (now (text .exit)) r ⌝ }
 {
     let mut next = at;
@@ -144,6 +145,6 @@ pub fn round_text(answer: &[u8], text: &mut [u8]) -> usize
     let count = words::byte_at(answer, 1);
     let estimate = words::word_at(answer, 2);
     let value = words::word_at(answer, 6);
-    let cabinets = put_round(text, n, count, estimate, value);
+    let cabinets = put_round(text, 0, n, count, estimate, value);
     put_cabinets(text, cabinets, answer, n)
 }

@@ -1,148 +1,89 @@
-use mathlib.Core.Path.{_≡_, ap, _∙_}
+-- `text::put_decimal` meets its contract: a number below ten is its digit, and any other is its tenth part and its last digit. The
+-- measure is the number.
+-- Assumes nothing.
+use mathlib.Core.Path.{_∙_}
 use Prim.Native.Nat.{ℕ, _<_}
 use native.Mathlib.Omega.{arith}
-use Rattle.text.proofs.Putting.{puts-length, puts-then}
-use Rattle.text.proofs.Digits.{decimal-some, decimal-small, decimal-large, length-decimal-large}
 use borrow.Fn.Kinds.{In}
 use borrow.Fn.PlainCycle.{Measures, is, falls, and}
-use Rattle.text.proofs.put_decimal.Reads as put-decimal
-use Rattle.text.proofs.put_decimal.Kinds as put-decimal-kinds
-use Rattle.text.proofs.+put_decimal.Lts-put_decimal as put-decimal-lts
-use Rattle.text.proofs.put_byte.Reads as put-byte-reads
+use Rattle.text.proofs.Putting.{puts-length, puts-then}
+use Rattle.text.proofs.Digits.{decimal-some, decimal-small, decimal-large, length-decimal-large}
+use Rattle.text.proofs.put_decimal.Reads as self
+use Rattle.text.proofs.put_decimal.Kinds as kinds
+use Rattle.text.proofs.put_byte.Reads as byte
+use Rattle.text.proofs.+put_decimal.Lts-put_decimal as lts
 use Rattle.text.proofs.+put_decimal.{statement}
 use Rattle.text.proofs.+put_decimal.Tie.{close}
 
-abbrev μ-put-decimal : Measures 1 put-decimal-kinds.ps ℕ
-μ-put-decimal κs a = a .1 .1 .0
+abbrev μ : Measures 1 kinds.ps ℕ
+μ κs a = a .1 .1 .0
 
-abbrev put-decimal-at : ℕ → In 1 put-decimal-kinds.ps
-put-decimal-at t =
-    and 1 put-decimal-kinds.ps (is 1 put-decimal-kinds.ps μ-put-decimal t) put-decimal.Pre
+-- what the function is given at the measure t, and what a call of it asks below t
+abbrev given : ℕ → In 1 kinds.ps
+given t = and 1 kinds.ps (is 1 kinds.ps μ t) self.Pre
 
-abbrev put-decimal-below : ℕ → In 1 put-decimal-kinds.ps
-put-decimal-below t =
-    and 1 put-decimal-kinds.ps (falls 1 put-decimal-kinds.ps _<_ μ-put-decimal t) put-decimal.Pre
+abbrev below : ℕ → In 1 kinds.ps
+below t = and 1 kinds.ps (falls 1 kinds.ps _<_ μ t) self.Pre
 
--- src/lib.rt:39:36
-put-decimal-add-put-byte : (t : ℕ) → put-decimal-lts.Need-add-put-byte (
-  put-byte-reads.Asked,
-  put-byte-reads.Learnt,
-  put-decimal-below t,
-  put-decimal.Post,
-) (put-decimal-at t) put-decimal.Post
-put-decimal-add-put-byte t c = omega arith
+module _ (t : ℕ) where
+  add-put-byte : lts.Need-add-put-byte (byte.Asked, byte.Learnt, below t, self.Post) (given t) self.Post
+  add-put-byte c = omega arith
 
--- src/lib.rt:39:35
-put-decimal-cast-put-byte : (t : ℕ) → put-decimal-lts.Need-cast-put-byte (
-  put-byte-reads.Asked,
-  put-byte-reads.Learnt,
-  put-decimal-below t,
-  put-decimal.Post,
-) (put-decimal-at t) put-decimal.Post
-put-decimal-cast-put-byte t c = omega arith
+  cast-put-byte : lts.Need-cast-put-byte (byte.Asked, byte.Learnt, below t, self.Post) (given t) self.Post
+  cast-put-byte c = omega arith
 
--- src/lib.rt:39:9
-put-decimal-put-byte-requires : (t : ℕ) → put-decimal-lts.Need-put-byte-requires (
-  put-byte-reads.Asked,
-  put-byte-reads.Learnt,
-  put-decimal-below t,
-  put-decimal.Post,
-) (put-decimal-at t) put-decimal.Post
-put-decimal-put-byte-requires t c κs = omega (arith, decimal-some (c .before .before .before .args .x))
+  put-byte-requires : lts.Need-put-byte-requires (byte.Asked, byte.Learnt, below t, self.Post) (given t) self.Post
+  put-byte-requires c κs = omega (arith, decimal-some (c .before .before .before .args .x))
 
--- src/lib.rt:39:9
-put-decimal-same-length : (t : ℕ) → put-decimal-lts.Need-same-length (
-  put-byte-reads.Asked,
-  put-byte-reads.Learnt,
-  put-decimal-below t,
-  put-decimal.Post,
-) (put-decimal-at t) put-decimal.Post
-put-decimal-same-length t c = puts-length (c .before .before .put-byte .ensures)
+  same-length : lts.Need-same-length (byte.Asked, byte.Learnt, below t, self.Post) (given t) self.Post
+  same-length c = puts-length (c .before .before .put-byte .ensures)
 
--- src/lib.rt:39:9
-put-decimal-returns : (t : ℕ) → put-decimal-lts.Need-returns (
-  put-byte-reads.Asked,
-  put-byte-reads.Learnt,
-  put-decimal-below t,
-  put-decimal.Post,
-) (put-decimal-at t) put-decimal.Post
-put-decimal-returns t c = rw (decimal-small (c .before .before .before .before .before .before .args .x) (c .before .before .before .before .if1 .taken)) (c .before .before .put-byte .ensures)
+  returns : lts.Need-returns (byte.Asked, byte.Learnt, below t, self.Post) (given t) self.Post
+  returns c =
+      let branch = c .before .before .before .before in
+      rw (decimal-small (branch .before .before .args .x) (omega arith)) (c .before .before .put-byte .ensures)
 
--- src/lib.rt:41:9
-put-decimal-put-decimal-requires : (t : ℕ) → put-decimal-lts.Need-put-decimal-requires (
-  put-byte-reads.Asked,
-  put-byte-reads.Learnt,
-  put-decimal-below t,
-  put-decimal.Post,
-) (put-decimal-at t) put-decimal.Post
-put-decimal-put-decimal-requires t c κs =
-    (omega arith, omega (arith, length-decimal-large (c .before .before .before .args .x) (c .before .before .before .fits .x .fits) (c .before .if1 .left)))
+  put-decimal-requires : lts.Need-put-decimal-requires (byte.Asked, byte.Learnt, below t, self.Post) (given t) self.Post
+  put-decimal-requires c κs =
+      let start = c .before .before .before in
+      (omega arith, omega (arith, length-decimal-large (start .args .x) (start .fits .x .fits) (c .before .if1 .left)))
 
--- src/lib.rt:42:27
-put-decimal-add-put-byte-2 : (t : ℕ) → put-decimal-lts.Need-add-put-byte-2 (
-  put-byte-reads.Asked,
-  put-byte-reads.Learnt,
-  put-decimal-below t,
-  put-decimal.Post,
-) (put-decimal-at t) put-decimal.Post
-put-decimal-add-put-byte-2 t c = omega arith
+  add-put-byte-2 : lts.Need-add-put-byte-2 (byte.Asked, byte.Learnt, below t, self.Post) (given t) self.Post
+  add-put-byte-2 c = omega arith
 
--- src/lib.rt:42:26
-put-decimal-cast-put-byte-2 : (t : ℕ) → put-decimal-lts.Need-cast-put-byte-2 (
-  put-byte-reads.Asked,
-  put-byte-reads.Learnt,
-  put-decimal-below t,
-  put-decimal.Post,
-) (put-decimal-at t) put-decimal.Post
-put-decimal-cast-put-byte-2 t c = omega arith
+  cast-put-byte-2 : lts.Need-cast-put-byte-2 (byte.Asked, byte.Learnt, below t, self.Post) (given t) self.Post
+  cast-put-byte-2 c = omega arith
 
--- src/lib.rt:42:5
-put-decimal-put-byte-requires-2 : (t : ℕ) → put-decimal-lts.Need-put-byte-requires-2 (
-  put-byte-reads.Asked,
-  put-byte-reads.Learnt,
-  put-decimal-below t,
-  put-decimal.Post,
-) (put-decimal-at t) put-decimal.Post
-put-decimal-put-byte-requires-2 t c κs =
-    omega (arith, length-decimal-large (c .before .before .before .before .before .before .before .args .x) (c .before .before .before .before .before .before .before .fits .x .fits) (c .before .before .before .before .before .if1 .left), c .before .before .before .put-decimal .ensures, puts-length (c .before .before .before .put-decimal .ensures))
+  put-byte-requires-2 : lts.Need-put-byte-requires-2 (byte.Asked, byte.Learnt, below t, self.Post) (given t) self.Post
+  put-byte-requires-2 c κs =
+      let branch = c .before .before .before .before .before in
+      let start = branch .before .before in
+      omega (arith, length-decimal-large (start .args .x) (start .fits .x .fits) (branch .if1 .left))
 
--- src/lib.rt:34:1
-put-decimal-same-length-2 : (t : ℕ) → put-decimal-lts.Need-same-length-2 (
-  put-byte-reads.Asked,
-  put-byte-reads.Learnt,
-  put-decimal-below t,
-  put-decimal.Post,
-) (put-decimal-at t) put-decimal.Post
-put-decimal-same-length-2 t c = puts-length (c .before .before .put-byte2 .ensures) ∙ puts-length (c .before .before .before .before .before .before .put-decimal .ensures)
+  same-length-2 : lts.Need-same-length-2 (byte.Asked, byte.Learnt, below t, self.Post) (given t) self.Post
+  same-length-2 c =
+      puts-length (c .before .before .put-byte2 .ensures)
+      ∙ puts-length (c .before .before .before .before .before .before .put-decimal .ensures)
 
--- src/lib.rt:34:1
-put-decimal-returns-2 : (t : ℕ) → put-decimal-lts.Need-returns-2 (
-  put-byte-reads.Asked,
-  put-byte-reads.Learnt,
-  put-decimal-below t,
-  put-decimal.Post,
-) (put-decimal-at t) put-decimal.Post
-put-decimal-returns-2 t c =
-    rw (decimal-large (c .before .before .before .before .before .before .before .before .before .before .args .x) (c .before .before .before .before .before .before .before .before .before .before .fits .x .fits) (c .before .before .before .before .before .before .before .before .if1 .left))
-    (puts-then (c .before .before .before .before .before .before .put-decimal .ensures) (c .before .before .put-byte2 .ensures))
+  returns-2 : lts.Need-returns-2 (byte.Asked, byte.Learnt, below t, self.Post) (given t) self.Post
+  returns-2 c =
+      let branch = c .before .before .before .before .before .before .before .before in
+      let start = branch .before .before in
+      rw (decimal-large (start .args .x) (start .fits .x .fits) (branch .if1 .left))
+      (puts-then (c .before .before .before .before .before .before .put-decimal .ensures) (c .before .before .put-byte2 .ensures))
 
 pub +put-decimal-spec : {M : Type 1} → statement M
-+put-decimal-spec = close μ-put-decimal λ t. put-decimal-lts.spec (
-  put-byte-reads.Asked,
-  put-byte-reads.Learnt,
-  put-decimal-below t,
-  put-decimal.Post,
-)
-    (put-decimal-at t)
-    put-decimal.Post
-    (put-decimal-add-put-byte t)
-    (put-decimal-cast-put-byte t)
-    (put-decimal-put-byte-requires t)
-    (put-decimal-same-length t)
-    (put-decimal-returns t)
-    (put-decimal-put-decimal-requires t)
-    (put-decimal-add-put-byte-2 t)
-    (put-decimal-cast-put-byte-2 t)
-    (put-decimal-put-byte-requires-2 t)
-    (put-decimal-same-length-2 t)
-    (put-decimal-returns-2 t)
++put-decimal-spec =
+    close μ λ t.
+    lts.spec (byte.Asked, byte.Learnt, below t, self.Post) (given t) self.Post
+    (add-put-byte t)
+    (cast-put-byte t)
+    (put-byte-requires t)
+    (same-length t)
+    (returns t)
+    (put-decimal-requires t)
+    (add-put-byte-2 t)
+    (cast-put-byte-2 t)
+    (put-byte-requires-2 t)
+    (same-length-2 t)
+    (returns-2 t)

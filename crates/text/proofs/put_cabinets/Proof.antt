@@ -1,5 +1,5 @@
 -- `text::put_cabinets` meets its contract. The loop's invariant: the lines of the cabinets passed are put. The measure is how many
--- are left. A line has at most 20 bytes, so the next one has room.
+-- are left.
 -- Assumes nothing.
 use mathlib.Core.Path.{_≡_}
 use Prim.Native.Nat.{_-_, _≤_}
@@ -9,7 +9,7 @@ use Rattle.text.specs.Putting.{Puts}
 use Rattle.text.specs.Text.{roundIn}
 use Rattle.text.proofs.Putting.{puts-length, puts-none}
 use Rattle.text.proofs.Lines.{cabinets-none}
-use Rattle.text.proofs.Answers.{cabinet-put, length-cabinets-in}
+use Rattle.text.proofs.Answers.{cabinet-room, cabinet-put}
 use Rattle.text.proofs.put_cabinets.Statement.{statement}
 use Rattle.text.proofs.put_cabinets.Tie as tie
 
@@ -52,9 +52,12 @@ word-at-requires c κs = tt
 put-cabinet-requires : tie.Need-put-cabinet-requires Inv-cabinets μ-cabinets
 put-cabinet-requires c κs =
     let head = c .before .before .before .before in
-    let known = head .before in
-    let answer = known .before .before .args .answer .now in
-    let lines = length-cabinets-in answer (λ j. (known .shared-slice-known .given j) .fits) (head .cabinets .passed) (omega arith) in
+    let start = head .before .before .before in
+    let room = cabinet-room (start .args .answer .now) (start .args .n) (head .cabinets .passed) (c .before .before .byte-at .result) (c .before .word-at .result)
+    (start .pre .0)
+    (c .before .before .byte-at .ensures)
+    (c .before .word-at .ensures)
+    (c .before .before .before .cabinets-test .taken) in
     omega (arith, puts-length (head .cabinets .inv .1))
 
 cabinets-less : tie.Need-cabinets-less Inv-cabinets μ-cabinets
@@ -64,8 +67,7 @@ cabinets-again : tie.Need-cabinets-again Inv-cabinets μ-cabinets
 cabinets-again c =
     let read = c .before .before .before .before in
     let head = read .before .before .before in
-    let start = head .before .before .before in
-    (
+    let start = head .before .before .before in (
       omega arith,
       cabinet-put (start .args .answer .now) (start .args .n) (head .cabinets .passed) (read .before .byte-at .result) (read .word-at .result)
           (start .pre .0)

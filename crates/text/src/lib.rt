@@ -10,7 +10,12 @@ ghost use Rattle.model.specs.Listing.{decimal, signed, cabinetLines};
 ghost use Rattle.text.specs.Putting.{Puts};
 ghost use Rattle.text.specs.Text.{roundIn, roundLine, cabinetLine, roundWritten, refusalWritten};
 
-// Puts one byte.
+// Bytes that hold the longest text of an answer sheet, and of a refusal.
+pub const ROUND_CAPACITY: usize = 5138;
+
+pub const REFUSAL_CAPACITY: usize = 23;
+
+// Puts one byte. This and each function below that puts bytes from a position on gives the position after the last.
 fn put_byte(text: &mut [u8], at: usize, byte: u8) -> usize
     requires { ⌜ at < length (now text) ⌝ }
     ensures { λ r. ⌜ Puts (now (text .entry)) at (byte ∷ []) (now (text .exit)) r ⌝ }
@@ -32,7 +37,7 @@ fn put_bytes(text: &mut [u8], at: usize, bytes: &[u8]) -> usize
     at + i
 }
 
-// Puts a number in decimal, without leading zeros: its tenth part, then its last digit.
+// Puts a number in decimal, without leading zeros: its tenth part, then its last digit. At most ten calls stand open.
 fn put_decimal(text: &mut [u8], at: usize, x: u32) -> usize
     requires { ⌜ at + length (decimal x) ≤ length (now text) ⌝ }
     ensures { λ r. ⌜ Puts (now (text .entry)) at (decimal x) (now (text .exit)) r ⌝ }
@@ -74,13 +79,12 @@ fn put_signed_field(text: &mut [u8], at: usize, bits: u32) -> usize
     put_signed(text, field, bits)
 }
 
-// The text of a refusal: `refused`, number, place. It writes nothing and answers 0 where the buffer is shorter than any refusal's text
-// may be.
+// The text of a refusal: `refused`, number, place. A buffer below the capacity is left as it was, and the answer is 0.
 pub fn refusal_text(number: u8, place: u32, text: &mut [u8]) -> usize
     ensures { λ r. ⌜ r ≡ refusalWritten number place (now (text .entry)) .size ⌝ }
     ensures { λ _. ⌜ now (text .exit) ≡ refusalWritten number place (now (text .entry)) .buffer ⌝ }
 {
-    if text.len() < 23 {
+    if text.len() < REFUSAL_CAPACITY {
         return 0;
     }
     let word = put_bytes(text, 0, b"refused");
@@ -132,13 +136,13 @@ fn put_cabinets(text: &mut [u8], at: usize, answer: &[u8], n: u8) -> usize
     next
 }
 
-// The text of an answer sheet: the round's line, then a line for each cabinet. It writes nothing and answers 0 where the buffer is
-// shorter than the longest text that an answer sheet may have.
+// The text of an answer sheet: the round's line, then a line for each cabinet. A buffer below the capacity is left as it was, and the
+// answer is 0.
 pub fn round_text(answer: &[u8], text: &mut [u8]) -> usize
     ensures { λ r. ⌜ r ≡ roundWritten (now (answer .entry)) (now (text .entry)) .size ⌝ }
     ensures { λ _. ⌜ now (text .exit) ≡ roundWritten (now (answer .entry)) (now (text .entry)) .buffer ⌝ }
 {
-    if text.len() < 5138 {
+    if text.len() < ROUND_CAPACITY {
         return 0;
     }
     let n = words::byte_at(answer, 0);

@@ -34,10 +34,11 @@ same-length c = search needs
 returns : tie.Need-returns
 unfolding line
 returns c =
-    puts-then (c .before .before .before .before .before .before .before .before .before .before .before .before .before .before .put-decimal .ensures)
-    (puts-then (c .before .before .before .before .before .before .before .before .before .before .put-field .ensures)
-    (puts-then (c .before .before .before .before .before .before .put-signed-field .ensures)
-    (c .before .before .put-byte .ensures)))
+    let fourth = c .before .before in
+    let third = fourth .before .before .before .before in
+    let second = third .before .before .before .before in
+    let first = second .before .before .before .before in
+    puts-then (first .put-decimal .ensures) (puts-then (second .put-field .ensures) (puts-then (third .put-signed-field .ensures) (fourth .put-byte .ensures)))
 
 pub put-cabinet-spec : {M : Type 1} → statement M
 put-cabinet-spec =

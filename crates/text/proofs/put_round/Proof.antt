@@ -47,12 +47,13 @@ same-length c = search needs
 returns : tie.Need-returns
 unfolding line
 returns c =
-    puts-then (c .before .before .before .before .before .before .before .before .before .before .before .before .before .before .before .before .before .before .before .before .before .before .put-bytes .ensures)
-    (puts-then (c .before .before .before .before .before .before .before .before .before .before .before .before .before .before .before .before .before .before .put-field .ensures)
-    (puts-then (c .before .before .before .before .before .before .before .before .before .before .before .before .before .before .put-field2 .ensures)
-    (puts-then (c .before .before .before .before .before .before .before .before .before .before .put-signed-field .ensures)
-    (puts-then (c .before .before .before .before .before .before .put-signed-field2 .ensures)
-    (c .before .before .put-byte .ensures)))))
+    let sixth = c .before .before in
+    let fifth = sixth .before .before .before .before in
+    let fourth = fifth .before .before .before .before in
+    let third = fourth .before .before .before .before in
+    let second = third .before .before .before .before in
+    let first = second .before .before .before .before in
+    puts-then (first .put-bytes .ensures) (puts-then (second .put-field .ensures) (puts-then (third .put-field2 .ensures) (puts-then (fourth .put-signed-field .ensures) (puts-then (fifth .put-signed-field2 .ensures) (sixth .put-byte .ensures)))))
 
 pub put-round-spec : {M : Type 1} → statement M
 put-round-spec =

@@ -46,14 +46,15 @@ same-length c = search needs
 returns-2 : tie.Need-returns-2
 unfolding refusalWritten refusalText line
 returns-2 c =
-    let branch = c .before .before .before .before .before .before .before .before .before .before .before .before .before .before .before .before .before in
+    let fourth = c .before .before in
+    let third = fourth .before .before .before .before in
+    let second = third .before .before .before .before in
+    let first = second .before .before .before .before in
+    let branch = first .before .before .before in
     let start = branch .before .before in
     text-written 23 (refusalText (refusal (start .args .number) (start .args .place))) (start .args .text .now) (branch .if1 .left)
     (length-refusal (start .args .number) (start .args .place) (start .fits .number .fits))
-    (puts-then (c .before .before .before .before .before .before .before .before .before .before .before .before .before .before .put-bytes .ensures)
-    (puts-then (c .before .before .before .before .before .before .before .before .before .before .put-field .ensures)
-    (puts-then (c .before .before .before .before .before .before .put-field2 .ensures)
-    (c .before .before .put-byte .ensures))))
+    (puts-then (first .put-bytes .ensures) (puts-then (second .put-field .ensures) (puts-then (third .put-field2 .ensures) (fourth .put-byte .ensures))))
 
 pub refusal-text-spec : {M : Type 1} → statement M
 refusal-text-spec =

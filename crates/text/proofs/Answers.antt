@@ -1,19 +1,19 @@
--- The text of an answer sheet's bytes: a cabinet's line of what the bytes say, how long the text is, and the text of a settled round.
+-- The text of an answer sheet's bytes: a cabinet's line of what the bytes say, how long the text is, and the text of
+-- a settled round.
 -- Assumes nothing.
-use mathlib.Core.List.{List, [], _∷_, _++_}
-use mathlib.Core.Path.{_≡_, refl, sym, ap, ap₂, _∙_}
+use mathlib.Core.List.{List, _++_}
+use mathlib.Core.Path.{_≡_, refl, ap}
 use Prim.Native.Nat.{ℕ, zero, suc, _+_, _*_, _≤_, _<_}
 use native.Mathlib.Omega.{arith}
-use lib.IntN.{ℤ}
 use lib.ListN.{length, length-append}
 use mir.Syntax.{w32}
-use mir.Val.{SFits, toZ}
+use mir.Val.{SFits}
 use Rattle.arithmetic.specs.Writing.{overwrite}
 use Rattle.arithmetic.proofs.Counting.{below, last}
 use Rattle.model.specs.RoundSheet.{byte, word}
 use Rattle.model.specs.AnswerSheet.{answerBytes}
 use Rattle.model.specs.Steps.{Round}
-use Rattle.model.specs.Listing.{decimal, signed, line, roundWord, cabinetLines, roundText}
+use Rattle.model.specs.Listing.{cabinetLines, roundText}
 use Rattle.sheets.proofs.Answer.{answer-cabinets, answer-count, answer-estimate, answer-value, answer-mark, answer-used}
 use Rattle.text.specs.Putting.{Puts}
 use Rattle.text.specs.Text.{roundIn, roundLine, cabinetLine, roundCapacity, textIn, roundWritten}
@@ -28,17 +28,21 @@ module _ (s : List ℕ) where
     unfolding roundIn
     cabinet-next = rw (m, u, cabinets) (cabinets-more (roundIn s) r)
 
-    pub cabinet-room : r < n → length (cabinetLines (roundIn s) r) + length (cabinetLine r mark used) ≤ length (cabinetLines (roundIn s) n)
+    pub cabinet-room : r < n
+        → length (cabinetLines (roundIn s) r) + length (cabinetLine r mark used) ≤ length (cabinetLines (roundIn s) n)
     cabinet-room h =
         let grown = cabinets-grow (roundIn s) (r + 1) n (omega arith) in
         let next = ap length cabinet-next in
         let whole = length-append (cabinetLines (roundIn s) r) (cabinetLine r mark used) in
         omega arith
 
-    pub cabinet-put : {old text new : List ℕ} {at next end : ℕ} → Puts old at (cabinetLines (roundIn s) r) text next → Puts text next (cabinetLine r mark used) new end → Puts old at (cabinetLines (roundIn s) (r + 1)) new end
+    pub cabinet-put : {old text new : List ℕ} {at next end : ℕ} → Puts old at (cabinetLines (roundIn s) r) text next
+        → Puts text next (cabinetLine r mark used) new end → Puts old at (cabinetLines (roundIn s) (r + 1)) new end
     cabinet-put before here = rw cabinet-next (puts-then before here)
 
-  pub round-lines : (n count estimate value : ℕ) → n ≡ byte s 0 → count ≡ byte s 1 → estimate ≡ word s 2 → value ≡ word s 6 → roundText (byte s 0) (roundIn s) ≡ roundLine n count estimate value ++ cabinetLines (roundIn s) n
+  pub round-lines : (n count estimate value : ℕ) → n ≡ byte s 0 → count ≡ byte s 1 → estimate ≡ word s 2
+      → value ≡ word s 6
+      → roundText (byte s 0) (roundIn s) ≡ roundLine n count estimate value ++ cabinetLines (roundIn s) n
   unfolding roundText roundIn
   round-lines n count estimate value cabinets accepted e v = rw (accepted, e, v, cabinets)
 
@@ -56,16 +60,22 @@ module _ (s : List ℕ) where
 
 -- a round's text depends on what it shows: of the marks and used values, those of cabinets 0 to n-1
 module _ (a b : Round) where
-  cabinets-alike : (n : ℕ) → ((r : ℕ) → r < n → a .mark r ≡ b .mark r) → ((r : ℕ) → r < n → a .used r ≡ b .used r) → cabinetLines a n ≡ cabinetLines b n
+  cabinets-alike : (n : ℕ) → ((r : ℕ) → r < n → a .mark r ≡ b .mark r) → ((r : ℕ) → r < n → a .used r ≡ b .used r)
+      → cabinetLines a n ≡ cabinetLines b n
   unfolding cabinetLines
   cabinets-alike zero marks used = refl
   cabinets-alike (suc n) marks used = rw (cabinets-alike n (below marks) (below used), last marks, last used)
 
-  pub text-alike : (n : ℕ) → a .count ≡ b .count → a .estimate ≡ b .estimate → a .value ≡ b .value → ((r : ℕ) → r < n → a .mark r ≡ b .mark r) → ((r : ℕ) → r < n → a .used r ≡ b .used r) → roundText n a ≡ roundText n b
+  pub text-alike : (n : ℕ) → a .count ≡ b .count → a .estimate ≡ b .estimate → a .value ≡ b .value
+      → ((r : ℕ) → r < n → a .mark r ≡ b .mark r)
+      → ((r : ℕ) → r < n → a .used r ≡ b .used r)
+      → roundText n a ≡ roundText n b
   unfolding roundText
   text-alike n count estimate value marks used = rw (cabinets-alike n marks used, count, estimate, value)
 
-module _ (n : ℕ) (round : Round) (old : List ℕ) (estimate-fits : SFits w32 (round .estimate)) (value-fits : SFits w32 (round .value)) (used-fit : (r : ℕ) → r < n → SFits w32 (round .used r)) where
+module _ (n : ℕ) (round : Round) (old : List ℕ)
+    (estimate-fits : SFits w32 (round .estimate)) (value-fits : SFits w32 (round .value))
+    (used-fit : (r : ℕ) → r < n → SFits w32 (round .used r)) where
   abbrev answer : List ℕ
   answer = overwrite (answerBytes n round) old
 
@@ -80,6 +90,7 @@ module _ (n : ℕ) (round : Round) (old : List ℕ) (estimate-fits : SFits w32 (
       (answer-mark n round old)
       (λ r h. rw (answer-cabinets n round old) (answer-used n round old r h (used-fit r h)))
 
-  pub settled-written : (buffer : List ℕ) → roundWritten answer buffer ≡ textIn roundCapacity (roundText n round) buffer
+  pub settled-written : (buffer : List ℕ)
+      → roundWritten answer buffer ≡ textIn roundCapacity (roundText n round) buffer
   unfolding roundWritten
   settled-written buffer = rw (answer-cabinets n round old, settled-text)

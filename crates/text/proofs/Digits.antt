@@ -1,19 +1,19 @@
--- Numbers in decimal: as many digits as the number has, each of them a digit, no leading zero, and read back they are the number.
+-- Numbers in decimal: as many digits as the number has, each of them a digit, no leading zero, and read back they are
+-- the number.
 -- Assumes nothing.
-use mathlib.Core.Bool.{Bool, true, false}
 use mathlib.Core.List.{List, [], _∷_, _++_}
-use mathlib.Core.Logic.{_⊎_, ⊎-elim}
+use mathlib.Core.Logic.{⊎-elim}
 use mathlib.Core.Path.{_≡_, refl, sym, ap, _∙_}
 use Prim.Native.Nat.{ℕ, zero, suc, _+_, _*_, _-_, _/_, _%_, _^_, _≤_, _<_}
-use native.Mathlib.Nat.{not-suc-le-zero, pow-suc, pow-zero, div-lt-iff-lt-mul, div-add-mod'}
+use native.Mathlib.Nat.{not-suc-le-zero, pow-suc, div-lt-iff-lt-mul}
 use native.Mathlib.Omega.{arith}
 use borrow.Author.Tests.{lt-ltb, le-ltb, ltb-true, ltb-false}
-use lib.Dec.{ltb, eqb, lit<}
+use lib.Dec.{ltb, lit<}
 use lib.ListN.{length, getD, length-append, List·getD-append}
 use lib.Seq.{getD-at}
 use Rattle.arithmetic.proofs.Bools.{both-ways}
 use Rattle.arithmetic.proofs.Counting.{split-last}
-use Rattle.model.specs.Listing.{digits, decimal, signed}
+use Rattle.model.specs.Listing.{digits, decimal}
 
 -- ---- one digit, or one digit more than the tenth part has
 
@@ -25,7 +25,8 @@ pub digits-large : (k x : ℕ) → 10 ≤ x → digits (suc k) x ≡ digits k (x
 unfolding digits
 digits-large k x h = rw (le-ltb x 10 h, digits)
 
-digits-cases : (P : List ℕ → Type 0) (k x : ℕ) → (x < 10 → P ((48 + x) ∷ [])) → (10 ≤ x → P (digits k (x / 10) ++ ((48 + x % 10) ∷ []))) → P (digits (suc k) x)
+digits-cases : (P : List ℕ → Type 0) (k x : ℕ) → (x < 10 → P ((48 + x) ∷ []))
+    → (10 ≤ x → P (digits k (x / 10) ++ ((48 + x % 10) ∷ []))) → P (digits (suc k) x)
 digits-cases P k x small large =
     ⊎-elim
     (λ t. let h = ltb-true x 10 t in rw (digits-small k x h) (small h))

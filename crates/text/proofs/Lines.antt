@@ -1,8 +1,8 @@
 -- How long the lines of the text are, at most, and the lines of one cabinet more.
 -- Assumes nothing.
 use mathlib.Core.List.{List, [], _∷_, _++_}
-use mathlib.Core.Logic.{_⊎_, ⊎-elim}
-use mathlib.Core.Path.{_≡_, refl, ap, _∙_}
+use mathlib.Core.Logic.{⊎-elim}
+use mathlib.Core.Path.{_≡_, refl}
 use Prim.Native.Nat.{ℕ, zero, suc, _+_, _*_, _≤_, _<_}
 use native.Mathlib.Nat.{le-refl, le-of-suc-le-suc, eq-or-lt-of-le}
 use native.Mathlib.Numerals.{add-one}
@@ -33,14 +33,17 @@ length-line first (next ∷ rest) =
 -- ---- the three kinds of line
 
 module _ (number place : ℕ) where
-  pub refusal-size : length (line refusedWord (decimal number ∷ decimal place ∷ [])) ≡ 10 + length (decimal number) + length (decimal place)
+  pub refusal-size : length (line refusedWord (decimal number ∷ decimal place ∷ []))
+      ≡ 10 + length (decimal number) + length (decimal place)
   refusal-size = omega (arith, length-line refusedWord (decimal number ∷ decimal place ∷ []))
 
-  pub length-refusal : number < 256 → length (line refusedWord (decimal number ∷ decimal place ∷ [])) ≤ refusalCapacity
+  pub length-refusal : number < 256
+      → length (line refusedWord (decimal number ∷ decimal place ∷ [])) ≤ refusalCapacity
   length-refusal h = omega (arith, refusal-size, length-decimal-byte number h, length-decimal place)
 
 module _ (n count estimate value : ℕ) where
-  pub round-size : length (roundLine n count estimate value) ≡ 10 + length (decimal n) + length (decimal count) + length (signed (toZ w32 estimate)) + length (signed (toZ w32 value))
+  pub round-size : length (roundLine n count estimate value)
+      ≡ 10 + length (decimal n) + length (decimal count) + length (signed (toZ w32 estimate)) + length (signed (toZ w32 value))
   round-size =
       omega (arith, length-line roundWord (decimal n ∷ decimal count ∷ signed (toZ w32 estimate) ∷ signed (toZ w32 value) ∷ []))
 
@@ -50,10 +53,12 @@ module _ (n count estimate value : ℕ) where
       let second = length-signed (toZ w32 value) in
       omega (arith, round-size, length-decimal-byte n h, length-decimal-byte count k)
 
-pub cabinet-size : (r mark used : ℕ) → length (cabinetLine r mark used) ≡ 3 + length (decimal r) + length (decimal mark) + length (signed (toZ w32 used))
+pub cabinet-size : (r mark used : ℕ)
+    → length (cabinetLine r mark used) ≡ 3 + length (decimal r) + length (decimal mark) + length (signed (toZ w32 used))
 cabinet-size r mark used = omega (arith, length-line (decimal r) (decimal mark ∷ signed (toZ w32 used) ∷ []))
 
-length-cabinet : (r mark : ℕ) (used : ℤ) → r < 256 → mark < 256 → length (line (decimal r) (decimal mark ∷ signed used ∷ [])) ≤ cabinetCapacity
+length-cabinet : (r mark : ℕ) (used : ℤ) → r < 256 → mark < 256
+    → length (line (decimal r) (decimal mark ∷ signed used ∷ [])) ≤ cabinetCapacity
 length-cabinet r mark used h k =
     let whole = length-line (decimal r) (decimal mark ∷ signed used ∷ []) in
     omega (arith, length-decimal-byte r h, length-decimal-byte mark k, length-signed used)
@@ -65,7 +70,9 @@ module _ (round : Round) where
   unfolding cabinetLines
   cabinets-none = refl
 
-  pub cabinets-more : (r : ℕ) → cabinetLines round (r + 1) ≡ cabinetLines round r ++ line (decimal r) (decimal (round .mark r) ∷ signed (round .used r) ∷ [])
+  pub cabinets-more : (r : ℕ)
+      → cabinetLines round (r + 1)
+      ≡ cabinetLines round r ++ line (decimal r) (decimal (round .mark r) ∷ signed (round .used r) ∷ [])
   unfolding cabinetLines
   cabinets-more r = rw (add-one r)
 
@@ -81,7 +88,8 @@ module _ (round : Round) where
       omega arith)
       (eq-or-lt-of-le h)
 
-  pub length-cabinets : (n : ℕ) → n ≤ 256 → ((r : ℕ) → r < n → round .mark r < 256) → length (cabinetLines round n) ≤ cabinetCapacity * n
+  pub length-cabinets : (n : ℕ) → n ≤ 256 → ((r : ℕ) → r < n → round .mark r < 256)
+      → length (cabinetLines round n) ≤ cabinetCapacity * n
   unfolding cabinetLines
   length-cabinets zero h small = omega arith
   length-cabinets (suc n) h small =

@@ -21,11 +21,14 @@ module _ (input buffer : List ℕ) where
   abbrev sheet : List ℕ
   sheet = take maxInput input
 
-  pub listing-refused : (r : Refusal) → firstOf (settleChecks sheet listingBuffer) ≡ some r → refusalWritten (r .number) (r .place) buffer ≡ textIn refusalCapacity (listing input) buffer
+  pub listing-refused : (r : Refusal) → firstOf (settleChecks sheet listingBuffer) ≡ some r
+      → refusalWritten (r .number) (r .place) buffer ≡ textIn refusalCapacity (listing input) buffer
   unfolding refusalWritten listing
   listing-refused r refused = rw refused
 
-  pub listing-settled : firstOf (settleChecks sheet listingBuffer) ≡ none → SFits w32 (roundAt sheet .estimate) → SFits w32 (roundAt sheet .value) → ((r : ℕ) → r < settingsAt sheet .n → SFits w32 (roundAt sheet .used r)) → roundWritten (settle sheet listingBuffer .buffer) buffer ≡ textIn roundCapacity (listing input) buffer
+  pub listing-settled : firstOf (settleChecks sheet listingBuffer) ≡ none → SFits w32 (roundAt sheet .estimate)
+      → SFits w32 (roundAt sheet .value) → ((r : ℕ) → r < settingsAt sheet .n → SFits w32 (roundAt sheet .used r))
+      → roundWritten (settle sheet listingBuffer .buffer) buffer ≡ textIn roundCapacity (listing input) buffer
   unfolding listing settle
   listing-settled granted estimate value used =
       rw granted (settled-written (settingsAt sheet .n) (roundAt sheet) listingBuffer estimate value used buffer)

@@ -1,6 +1,6 @@
 -- Signed numbers in decimal: by the bits that a number is, at most eleven bytes, and read back they are the number.
 -- Assumes nothing.
-use mathlib.Core.Bool.{Bool, true, false}
+use mathlib.Core.Bool.{true, false}
 use mathlib.Core.List.{List, [], _∷_}
 use mathlib.Core.Path.{_≡_, refl, ap, _∙_}
 use Prim.Native.Nat.{ℕ, zero, suc, _+_, _-_, _≤_, _<_}
@@ -19,7 +19,8 @@ use Rattle.text.proofs.Digits.{length-decimal, readFrom, read-decimal, 
 pub signed-low : (bits : ℕ) → bits < 2_147_483_648 → signed (toZ w32 bits) ≡ decimal bits
 signed-low bits h = rw (lt-ltb bits 2_147_483_648 h)
 
-pub signed-high : (bits : ℕ) → bits < 4_294_967_296 → 2_147_483_648 ≤ bits → signed (toZ w32 bits) ≡ 45 ∷ decimal (4_294_967_295 - bits + 1)
+pub signed-high : (bits : ℕ) → bits < 4_294_967_296 → 2_147_483_648 ≤ bits
+    → signed (toZ w32 bits) ≡ 45 ∷ decimal (4_294_967_295 - bits + 1)
 signed-high bits fits h = rw (le-ltb bits 2_147_483_648 h) (ap (λ (x : ℕ). 45 ∷ decimal x) magnitude)
   where
     magnitude : suc (4_294_967_296 - suc bits) ≡ 4_294_967_295 - bits + 1

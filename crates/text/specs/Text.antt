@@ -2,9 +2,10 @@
 --   roundIn                           the round that an answer sheet says
 --   roundLine, cabinetLine            the first line, and a cabinet's, of numbers given by their bits
 --   roundCapacity, refusalCapacity    bytes that hold any round's text, any refusal's
---   Text, textIn                      the length of the text and the buffer with it; nothing is written below the capacity
+--   Text, textIn                      the length of the text and the buffer with it; nothing is written below the
+-- capacity
 --   roundWritten, refusalWritten      the text of an answer sheet, of a refusal
-use mathlib.Core.Bool.{Bool, cond}
+use mathlib.Core.Bool.{cond}
 use mathlib.Core.List.{List, [], _∷_}
 use Prim.Native.Nat.{ℕ, _+_, _*_}
 use lib.Dec.{ltb}

@@ -136,8 +136,8 @@ fn put_cabinets(text: &mut [u8], at: usize, answer: &[u8], n: u8) -> usize
     next
 }
 
-// The text of an answer sheet: the round's line, then a line for each cabinet. A buffer below the capacity is left as it was, and the
-// answer is 0.
+// The text of an answer sheet: the round's line, then a line for each cabinet. A buffer below the capacity is left as
+// it was, and the answer is 0.
 pub fn round_text(answer: &[u8], text: &mut [u8]) -> usize
     ensures { λ r. ⌜ r ≡ roundWritten (now (answer .entry)) (now (text .entry)) .size ⌝ }
     ensures { λ _. ⌜ now (text .exit) ≡ roundWritten (now (answer .entry)) (now (text .entry)) .buffer ⌝ }

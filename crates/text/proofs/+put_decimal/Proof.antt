@@ -1,5 +1,5 @@
--- `text::put_decimal` meets its contract: a number below ten is its digit, and any other is its tenth part and its last digit. The
--- measure is the number.
+-- `text::put_decimal` meets its contract: a number below ten is its digit, and any other is its tenth part and its
+-- last digit. The measure is the number.
 -- Assumes nothing.
 use mathlib.Core.Path.{_∙_}
 use Prim.Native.Nat.{ℕ, _<_}
@@ -70,7 +70,8 @@ module _ (t : ℕ) where
       let branch = c .before .before .before .before .before .before .before .before in
       let start = branch .before .before in
       rw (decimal-large (start .args .x) (start .fits .x .fits) (branch .if1 .left))
-      (puts-then (c .before .before .before .before .before .before .put-decimal .ensures) (c .before .before .put-byte2 .ensures))
+      (puts-then (c .before .before .before .before .before .before .put-decimal .ensures)
+      (c .before .before .put-byte2 .ensures))
 
 pub +put-decimal-spec : {M : Type 1} → statement M
 +put-decimal-spec =

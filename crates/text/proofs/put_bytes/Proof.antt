@@ -1,4 +1,5 @@
--- `text::put_bytes` meets its contract. The loop's invariant: the first i bytes are put. The measure is how many are left.
+-- `text::put_bytes` meets its contract. The loop's invariant: the first i bytes are put. The measure is how many are
+-- left.
 -- Assumes nothing.
 use Prim.Native.Nat.{_+_, _-_, _≤_}
 use native.Mathlib.Nat.{add-zero}

@@ -25,7 +25,8 @@ put-signed-field-requires c κs =
 
 put-byte-requires : tie.Need-put-byte-requires
 put-byte-requires c κs =
-    let start = c .before .before .before .before .before .before .before .before .before .before .before .before .before .before in
+    let middle = c .before .before .before .before .before .before .before in
+    let start = middle .before .before .before .before .before .before .before in
     omega (arith, cabinet-size (start .args .r) (start .args .mark) (start .args .used))
 
 same-length : tie.Need-same-length
@@ -38,7 +39,9 @@ returns c =
     let third = fourth .before .before .before .before in
     let second = third .before .before .before .before in
     let first = second .before .before .before .before in
-    puts-then (first .put-decimal .ensures) (puts-then (second .put-field .ensures) (puts-then (third .put-signed-field .ensures) (fourth .put-byte .ensures)))
+    puts-then (first .put-decimal .ensures)
+    (puts-then (second .put-field .ensures)
+    (puts-then (third .put-signed-field .ensures) (fourth .put-byte .ensures)))
 
 pub put-cabinet-spec : {M : Type 1} → statement M
 put-cabinet-spec =

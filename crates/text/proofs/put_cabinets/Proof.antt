@@ -1,5 +1,5 @@
--- `text::put_cabinets` meets its contract. The loop's invariant: the lines of the cabinets passed are put. The measure is how many
--- are left.
+-- `text::put_cabinets` meets its contract. The loop's invariant: the lines of the cabinets passed are put. The
+-- measure is how many are left.
 -- Assumes nothing.
 use mathlib.Core.Path.{_≡_}
 use Prim.Native.Nat.{_-_, _≤_}
@@ -53,7 +53,9 @@ put-cabinet-requires : tie.Need-put-cabinet-requires Inv-cabinets μ-cabinets
 put-cabinet-requires c κs =
     let head = c .before .before .before .before in
     let start = head .before .before .before in
-    let room = cabinet-room (start .args .answer .now) (start .args .n) (head .cabinets .passed) (c .before .before .byte-at .result) (c .before .word-at .result)
+    let room = cabinet-room (start .args .answer .now) (start .args .n) (head .cabinets .passed)
+    (c .before .before .byte-at .result)
+    (c .before .word-at .result)
     (start .pre .0)
     (c .before .before .byte-at .ensures)
     (c .before .word-at .ensures)
@@ -69,7 +71,9 @@ cabinets-again c =
     let head = read .before .before .before in
     let start = head .before .before .before in (
       omega arith,
-      cabinet-put (start .args .answer .now) (start .args .n) (head .cabinets .passed) (read .before .byte-at .result) (read .word-at .result)
+      cabinet-put (start .args .answer .now) (start .args .n) (head .cabinets .passed)
+          (read .before .byte-at .result)
+          (read .word-at .result)
           (start .pre .0)
           (read .before .byte-at .ensures)
           (read .word-at .ensures)

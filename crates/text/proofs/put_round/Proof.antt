@@ -28,17 +28,20 @@ put-field-requires-2 c κs =
 
 put-signed-field-requires : tie.Need-put-signed-field-requires
 put-signed-field-requires c κs =
-    let start = c .before .before .before .before .before .before .before .before .before .before .before .before .before .before .before in
+    let middle = c .before .before .before .before .before .before .before in
+    let start = middle .before .before .before .before .before .before .before .before in
     omega (arith, round-size (start .args .n) (start .args .count) (start .args .estimate) (start .args .value))
 
 put-signed-field-requires-2 : tie.Need-put-signed-field-requires-2
 put-signed-field-requires-2 c κs =
-    let start = c .before .before .before .before .before .before .before .before .before .before .before .before .before .before .before .before .before .before .before in
+    let middle = c .before .before .before .before .before .before .before .before .before in
+    let start = middle .before .before .before .before .before .before .before .before .before .before in
     omega (arith, round-size (start .args .n) (start .args .count) (start .args .estimate) (start .args .value))
 
 put-byte-requires : tie.Need-put-byte-requires
 put-byte-requires c κs =
-    let start = c .before .before .before .before .before .before .before .before .before .before .before .before .before .before .before .before .before .before .before .before .before .before .before in
+    let middle = c .before .before .before .before .before .before .before .before .before .before .before in
+    let start = middle .before .before .before .before .before .before .before .before .before .before .before .before in
     omega (arith, round-size (start .args .n) (start .args .count) (start .args .estimate) (start .args .value))
 
 same-length : tie.Need-same-length
@@ -53,7 +56,11 @@ returns c =
     let third = fourth .before .before .before .before in
     let second = third .before .before .before .before in
     let first = second .before .before .before .before in
-    puts-then (first .put-bytes .ensures) (puts-then (second .put-field .ensures) (puts-then (third .put-field2 .ensures) (puts-then (fourth .put-signed-field .ensures) (puts-then (fifth .put-signed-field2 .ensures) (sixth .put-byte .ensures)))))
+    puts-then (first .put-bytes .ensures)
+    (puts-then (second .put-field .ensures)
+    (puts-then (third .put-field2 .ensures)
+    (puts-then (fourth .put-signed-field .ensures)
+    (puts-then (fifth .put-signed-field2 .ensures) (sixth .put-byte .ensures)))))
 
 pub put-round-spec : {M : Type 1} → statement M
 put-round-spec =

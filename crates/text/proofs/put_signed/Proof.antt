@@ -1,4 +1,5 @@
--- `text::put_signed` meets its contract: bits from 2^31 on are a number below 0, by a minus sign and how far below it lies.
+-- `text::put_signed` meets its contract: bits from 2^31 on are a number below 0, by a minus sign and how far below it
+-- lies.
 -- Assumes nothing.
 use borrow.Author.Needs.{needs}
 use mathlib.Core.Path.{ap}
@@ -46,7 +47,8 @@ returns-2 c =
     let branch = c .before .before .before .before .before .before .before .before in
     let start = branch .before .before in
     rw (signed-high (start .args .bits) (start .fits .bits .fits) (branch .if1 .left))
-    (puts-then (c .before .before .before .before .before .before .put-byte .ensures) (c .before .before .put-decimal2 .ensures))
+    (puts-then (c .before .before .before .before .before .before .put-byte .ensures)
+    (c .before .before .put-decimal2 .ensures))
 
 pub put-signed-spec : {M : Type 1} → statement M
 put-signed-spec =

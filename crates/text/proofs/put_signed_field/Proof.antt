@@ -15,7 +15,8 @@ same-length : tie.Need-same-length
 same-length c = search needs
 
 returns : tie.Need-returns
-returns c = puts-then (c .before .before .before .before .before .before .put-byte .ensures) (c .before .before .put-signed .ensures)
+returns c =
+    puts-then (c .before .before .before .before .before .before .put-byte .ensures) (c .before .before .put-signed .ensures)
 
 pub put-signed-field-spec : {M : Type 1} → statement M
 put-signed-field-spec = tie.close (tie.spec put-byte-requires put-signed-requires same-length returns)

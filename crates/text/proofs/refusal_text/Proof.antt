@@ -1,5 +1,5 @@
--- `text::refusal_text` meets its contract: a buffer below the capacity is left as it was, and in any other three fields and a
--- line feed, one after the other, are the refusal's text.
+-- `text::refusal_text` meets its contract: a buffer below the capacity is left as it was, and in any other three
+-- fields and a line feed, one after the other, are the refusal's text.
 -- Assumes nothing.
 use borrow.Author.Needs.{needs}
 use native.Mathlib.Omega.{arith}
@@ -28,17 +28,21 @@ put-bytes-requires c κs = search needs
 put-field-requires : tie.Need-put-field-requires
 put-field-requires c κs =
     let start = c .before .before .before .before .before .before .before .before in
-    omega (arith, length-decimal-byte (start .args .number) (start .fits .number .fits), length-decimal (start .args .place))
+    let number = length-decimal-byte (start .args .number) (start .fits .number .fits) in
+    omega (arith, length-decimal (start .args .place))
 
 put-field-requires-2 : tie.Need-put-field-requires-2
 put-field-requires-2 c κs =
     let start = c .before .before .before .before .before .before .before .before .before .before .before .before in
-    omega (arith, length-decimal-byte (start .args .number) (start .fits .number .fits), length-decimal (start .args .place))
+    let number = length-decimal-byte (start .args .number) (start .fits .number .fits) in
+    omega (arith, length-decimal (start .args .place))
 
 put-byte-requires : tie.Need-put-byte-requires
 put-byte-requires c κs =
-    let start = c .before .before .before .before .before .before .before .before .before .before .before .before .before .before .before .before in
-    omega (arith, length-decimal-byte (start .args .number) (start .fits .number .fits), length-decimal (start .args .place))
+    let middle = c .before .before .before .before .before .before .before .before in
+    let start = middle .before .before .before .before .before .before .before .before in
+    let number = length-decimal-byte (start .args .number) (start .fits .number .fits) in
+    omega (arith, length-decimal (start .args .place))
 
 same-length : tie.Need-same-length
 same-length c = search needs
@@ -52,9 +56,12 @@ returns-2 c =
     let first = second .before .before .before .before in
     let branch = first .before .before .before in
     let start = branch .before .before in
-    text-written 23 (refusalText (refusal (start .args .number) (start .args .place))) (start .args .text .now) (branch .if1 .left)
+    text-written 23 (refusalText (refusal (start .args .number) (start .args .place))) (start .args .text .now)
+    (branch .if1 .left)
     (length-refusal (start .args .number) (start .args .place) (start .fits .number .fits))
-    (puts-then (first .put-bytes .ensures) (puts-then (second .put-field .ensures) (puts-then (third .put-field2 .ensures) (fourth .put-byte .ensures))))
+    (puts-then (first .put-bytes .ensures)
+    (puts-then (second .put-field .ensures)
+    (puts-then (third .put-field2 .ensures) (fourth .put-byte .ensures))))
 
 pub refusal-text-spec : {M : Type 1} → statement M
 refusal-text-spec =

@@ -1,5 +1,5 @@
--- `text::round_text` meets its contract: a buffer below the capacity is left as it was, and in any other the first line and the
--- cabinets' lines, of the bytes that were read, are the answer sheet's text.
+-- `text::round_text` meets its contract: a buffer below the capacity is left as it was, and in any other the first
+-- line and the cabinets' lines, of the bytes that were read, are the answer sheet's text.
 -- Assumes nothing.
 use borrow.Author.Needs.{needs}
 use mathlib.Core.List.{List, _++_}
@@ -29,7 +29,9 @@ module _ (c : tie.After-word-at2) where
   text = roundText (byte answer 0) (roundIn answer)
 
   abbrev first : List ℕ
-  first = roundLine (c .before .before .before .byte-at .result) (c .before .before .byte-at2 .result) (c .before .word-at .result) (c .word-at2 .result)
+  first =
+      roundLine (c .before .before .before .byte-at .result) (c .before .before .byte-at2 .result) (c .before .word-at .result)
+      (c .word-at2 .result)
 
   abbrev rest : List ℕ
   rest = cabinetLines (roundIn answer) (c .before .before .before .byte-at .result)
@@ -47,7 +49,8 @@ module _ (c : tie.After-word-at2) where
       (c .word-at2 .ensures)
 
   fits : length text ≤ 5138
-  fits = length-round answer (λ j. (c .before .before .before .before .before .before .shared-slice-known .given j) .fits)
+  fits =
+      length-round answer (λ j. (c .before .before .before .before .before .before .shared-slice-known .given j) .fits)
 
   lines-fit : length first + length rest ≤ 5138
   lines-fit = omega (arith, fits, ap length lines, length-append first rest)
@@ -56,7 +59,8 @@ returns : tie.Need-returns
 unfolding roundWritten
 returns c =
     let args = c .before .before .before .args in
-    text-refused 5138 (roundText (byte (args .answer .now) 0) (roundIn (args .answer .now))) (args .text .now) (c .if1 .taken)
+    let answer = args .answer .now in
+    text-refused 5138 (roundText (byte answer 0) (roundIn answer)) (args .text .now) (c .if1 .taken)
 
 byte-at-requires : tie.Need-byte-at-requires
 byte-at-requires c κs = search needs
@@ -87,7 +91,9 @@ returns-2 c =
     let read = c .before .before .before .before .before .before .before .before in
     text-written 5138 (text read) (start read .args .text .now) (read .before .before .before .before .if1 .left)
     (fits read)
-    (rw (lines read) (puts-then (c .before .before .before .before .before .before .put-round .ensures) (c .before .before .put-cabinets .ensures)))
+    (rw (lines read)
+    (puts-then (c .before .before .before .before .before .before .put-round .ensures)
+    (c .before .before .put-cabinets .ensures)))
 
 pub round-text-spec : {M : Type 1} → statement M
 round-text-spec =

@@ -94,42 +94,42 @@ pub fn refusal_text(number: u8, place: u32, text: &mut [u8]) -> usize
 }
 
 // Puts the first line: `round`, N, count, estimate, new value.
-fn put_round(text: &mut [u8], at: usize, n: u8, count: u8, estimate: u32, value: u32) -> usize
+fn put_round(text: &mut [u8], at: usize, n: u32, count: u32, estimate: u32, value: u32) -> usize
     requires { ⌜ at + length (roundLine n count estimate value) ≤ length (now text) ⌝ }
     ensures { λ r. ⌜ Puts (now (text .entry)) at (roundLine n count estimate value) (now (text .exit)) r ⌝ }
 {
     let word = put_bytes(text, at, b"round");
-    let first = put_field(text, word, n as u32);
-    let second = put_field(text, first, count as u32);
+    let first = put_field(text, word, n);
+    let second = put_field(text, first, count);
     let third = put_signed_field(text, second, estimate);
     let fourth = put_signed_field(text, third, value);
     put_byte(text, fourth, b'\n')
 }
 
 // Puts a cabinet's line: number, mark, used value.
-fn put_cabinet(text: &mut [u8], at: usize, r: u8, mark: u8, used: u32) -> usize
+fn put_cabinet(text: &mut [u8], at: usize, r: u32, mark: u32, used: u32) -> usize
     requires { ⌜ at + length (cabinetLine r mark used) ≤ length (now text) ⌝ }
     ensures { λ next. ⌜ Puts (now (text .entry)) at (cabinetLine r mark used) (now (text .exit)) next ⌝ }
 {
-    let first = put_decimal(text, at, r as u32);
-    let second = put_field(text, first, mark as u32);
+    let first = put_decimal(text, at, r);
+    let second = put_field(text, first, mark);
     let third = put_signed_field(text, second, used);
     put_byte(text, third, b'\n')
 }
 
 // Puts a line for each of the cabinets 0 to n-1, as the answer sheet has them.
-fn put_cabinets(text: &mut [u8], at: usize, answer: &[u8], n: u8) -> usize
+fn put_cabinets(text: &mut [u8], at: usize, answer: &[u8], n: u32) -> usize
     requires { ⌜ n ≡ byte (now answer) 0 ⌝ }
     requires { ⌜ at + length (cabinetLines (roundIn (now answer)) n) ≤ length (now text) ⌝ }
     ensures { λ r. ⌜ Puts (now (text .entry)) at (cabinetLines (roundIn (now (answer .entry))) n) (now (text .exit)) r ⌝ }
 {
     let mut next = at;
-    let mut passed: u8 = 0;
+    let mut passed: u32 = 0;
     'cabinets: while passed < n {
         let r = passed;
         passed += 1;
         let i = r as usize;
-        let mark = words::byte_at(answer, 10 + i);
+        let mark = words::byte_at(answer, 10 + i) as u32;
         let used = words::word_at(answer, 10 + (n as usize) + 4 * i);
         next = put_cabinet(text, next, r, mark, used);
     }
@@ -145,8 +145,8 @@ pub fn round_text(answer: &[u8], text: &mut [u8]) -> usize
     if text.len() < ROUND_CAPACITY {
         return 0;
     }
-    let n = words::byte_at(answer, 0);
-    let count = words::byte_at(answer, 1);
+    let n = words::byte_at(answer, 0) as u32;
+    let count = words::byte_at(answer, 1) as u32;
     let estimate = words::word_at(answer, 2);
     let value = words::word_at(answer, 6);
     let cabinets = put_round(text, 0, n, count, estimate, value);

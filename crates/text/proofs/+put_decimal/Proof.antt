@@ -46,7 +46,7 @@ module _ (t : ℕ) where
   put-decimal-requires : lts.Need-put-decimal-requires (byte.Asked, byte.Learnt, below t, self.Post) (given t) self.Post
   put-decimal-requires c κs =
       let start = c .before .before .before in
-      (omega arith, omega (arith, length-decimal-large (start .args .x) (start .fits .x .fits) (c .before .if1 .left)))
+      (omega arith, omega (arith, length-decimal-large (start .args .x) (omega arith) (omega arith)))
 
   add-put-byte-2 : lts.Need-add-put-byte-2 (byte.Asked, byte.Learnt, below t, self.Post) (given t) self.Post
   add-put-byte-2 c = omega arith
@@ -58,7 +58,7 @@ module _ (t : ℕ) where
   put-byte-requires-2 c κs =
       let branch = c .before .before .before .before .before in
       let start = branch .before .before in
-      omega (arith, length-decimal-large (start .args .x) (start .fits .x .fits) (branch .if1 .left))
+      omega (arith, length-decimal-large (start .args .x) (omega arith) (omega arith))
 
   same-length-2 : lts.Need-same-length-2 (byte.Asked, byte.Learnt, below t, self.Post) (given t) self.Post
   same-length-2 c =
@@ -69,7 +69,7 @@ module _ (t : ℕ) where
   returns-2 c =
       let branch = c .before .before .before .before .before .before .before .before in
       let start = branch .before .before in
-      rw (decimal-large (start .args .x) (start .fits .x .fits) (branch .if1 .left))
+      rw (decimal-large (start .args .x) (omega arith) (omega arith))
       (puts-then (c .before .before .before .before .before .before .put-decimal .ensures)
       (c .before .before .put-byte2 .ensures))
 

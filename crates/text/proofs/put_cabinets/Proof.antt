@@ -37,6 +37,9 @@ add-byte-at c = omega arith
 byte-at-requires : tie.Need-byte-at-requires Inv-cabinets μ-cabinets
 byte-at-requires c κs = tt
 
+cast-mark : tie.Need-cast-mark Inv-cabinets μ-cabinets
+cast-mark c = omega arith
+
 add-word-at : tie.Need-add-word-at Inv-cabinets μ-cabinets
 add-word-at c = omega arith
 
@@ -101,6 +104,7 @@ put-cabinets-spec =
     cast-i
     add-byte-at
     byte-at-requires
+    cast-mark
     add-word-at
     mul-word-at
     add-word-at-2

@@ -12,7 +12,7 @@ use Rattle.text.proofs.put_signed.Tie as tie
 
 put-decimal-requires : tie.Need-put-decimal-requires
 put-decimal-requires c κs =
-    omega (arith, ap length (signed-low (c .before .before .before .args .bits) (c .before .if1 .taken)))
+    omega (arith, ap length (signed-low (c .before .before .before .args .bits) (omega arith)))
 
 same-length : tie.Need-same-length
 same-length c = search needs
@@ -20,12 +20,12 @@ same-length c = search needs
 returns : tie.Need-returns
 returns c =
     let branch = c .before .before .before .before in
-    rw (signed-low (branch .before .before .args .bits) (branch .if1 .taken)) (c .before .before .put-decimal .ensures)
+    rw (signed-low (branch .before .before .args .bits) (omega arith)) (c .before .before .put-decimal .ensures)
 
 put-byte-requires : tie.Need-put-byte-requires
 put-byte-requires c κs =
     let start = c .before .before .before in
-    omega (arith, ap length (signed-high (start .args .bits) (start .fits .bits .fits) (c .before .if1 .left)))
+    omega (arith, ap length (signed-high (start .args .bits) (omega arith) (omega arith)))
 
 sub-put-decimal : tie.Need-sub-put-decimal
 sub-put-decimal c = search needs
@@ -37,7 +37,7 @@ put-decimal-requires-2 : tie.Need-put-decimal-requires-2
 put-decimal-requires-2 c κs =
     let branch = c .before .before .before .before .before in
     let start = branch .before .before in
-    omega (arith, ap length (signed-high (start .args .bits) (start .fits .bits .fits) (branch .if1 .left)))
+    omega (arith, ap length (signed-high (start .args .bits) (omega arith) (omega arith)))
 
 same-length-2 : tie.Need-same-length-2
 same-length-2 c = search needs
@@ -46,7 +46,7 @@ returns-2 : tie.Need-returns-2
 returns-2 c =
     let branch = c .before .before .before .before .before .before .before .before in
     let start = branch .before .before in
-    rw (signed-high (start .args .bits) (start .fits .bits .fits) (branch .if1 .left))
+    rw (signed-high (start .args .bits) (omega arith) (omega arith))
     (puts-then (c .before .before .before .before .before .before .put-byte .ensures)
     (c .before .before .put-decimal2 .ensures))
 

@@ -65,8 +65,14 @@ returns c =
 byte-at-requires : tie.Need-byte-at-requires
 byte-at-requires c κs = search needs
 
+cast-n : tie.Need-cast-n
+cast-n c = search needs
+
 byte-at-requires-2 : tie.Need-byte-at-requires-2
 byte-at-requires-2 c κs = search needs
+
+cast-count : tie.Need-cast-count
+cast-count c = search needs
 
 word-at-requires : tie.Need-word-at-requires
 word-at-requires c κs = search needs
@@ -101,7 +107,9 @@ round-text-spec =
     (tie.spec
     returns
     byte-at-requires
+    cast-n
     byte-at-requires-2
+    cast-count
     word-at-requires
     word-at-requires-2
     put-round-requires

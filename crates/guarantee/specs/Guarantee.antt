@@ -1,22 +1,28 @@
--- Demand 3 and document 01, "Limits for sound cabinets": how far sound cabinets can be from each other and from true time, over a whole
--- run of 0 to 32 rounds, whatever faulty cabinets send. The theorem is `guarantee` of proofs/Guarantee.antt.
+-- Demand 3 and document 01, "Limits for sound cabinets": how far sound cabinets can be from each other and from true
+-- time, over a whole run of 0 to 32 rounds, whatever faulty cabinets send. The theorem is `guarantee` of
+-- proofs/Guarantee.antt. Beside this file, Regulator.antt has it for seven cabinets, and Witnesses.antt has rounds that
+-- reach its limits.
 --
--- The run settles with `settle`, steps with `step` and fills sheets with `write` of crates/model/specs/Calls.antt: the same definitions
--- that the functions' promises are equations with.
+-- The run settles with `settle`, steps with `step` and fills sheets with `write` of crates/model/specs/Calls.antt: the
+-- same definitions that the functions' promises are equations with.
 --
--- Where this departs from the paper (document 004): t counts every cabinet outside the good set, faulty or sound with a bad first
--- reading (the paper's Theorem 2 counts the faulty ones only); limits are whole numbers, rounded up; a reading may be missing; nothing
--- is said of values that two cabinets share (Lemmas 5 and 7, the sharing half of Theorem 8, Theorem 10).
--- What is not claimed: anything about networks or times of delivery; more than the first round where more than m are bad; what the
--- program prints.
+-- Where this departs from the paper (document 004): t counts every cabinet outside the good set, faulty or sound with a
+-- bad first reading (the paper's Theorem 2 counts the faulty ones only); limits are whole numbers, rounded up; a
+-- reading may be missing; nothing is said of values that two cabinets share (Lemmas 5 and 7, the sharing half of
+-- Theorem 8, Theorem 10).
+-- What is not claimed: anything about networks or times of delivery; more than the first round where more than m are
+-- bad; what the program prints.
 --
---   Station, Start              what a run starts from, and what must hold of it
---   Sends, Allowed              what faulty cabinets do in a round, with the answer buffers lent in it
---   State, heard, entryOf, sheetOf, settled, next    a round, step by step
---   Good, bad                   the good cabinets, and t, the number of the others
---   Every, First                a claim about every round, and about the first
---   Close, Wide                 the limits for t ≤ m, and for m < t < N-m
---   Guarantee                   both, of one run
+--   Station, N, m, δ, κ, Start       what a run starts from, the paper's letters for it, and what must hold of it
+--   Sends, Allowed                   what faulty cabinets do in a round, with the answer buffers lent in it
+--   State, start                     the plan, and what each sound cabinet holds, between rounds
+--   heard, copy, entryOf, sheetOf, settled, next     a round, step by step
+--   newValue, Unrefused, Sound, apart                words for the limits
+--   Good, bad                        the good cabinets, and t, the number of the others
+--   Every, First                     a claim about every round, and about the first
+--   closeGap, closeError, Close      the limits for t ≤ m
+--   wideGap, wideError, Wide         the limits for m < t < N-m
+--   Guarantee, Demand3               both, of one run; of every run
 use mathlib.Core.Bool.{Bool, true, not, cond}
 use mathlib.Core.List.{List, [], _∷_}
 use mathlib.Core.Option.{none}
@@ -54,9 +60,22 @@ pub record Station : Type 0 where
   -- "Each sound one holds its first reading, present or missing"
   pub first : Readings
 
+-- the paper's letters: "N is the cabinets, m the faults planned for", the window and the accuracy at the start
+abbrev pub N : Station → ℕ
+N st = st .settings .n
+
+abbrev pub m : Station → ℕ
+m st = st .settings .m
+
+abbrev pub δ : Station → ℕ
+δ st = st .settings .window
+
+abbrev pub κ : Station → ℕ
+κ st = st .accuracy
+
 pub record Start (st : Station) : Type 0 where
   -- "settings that the planner grants for 0 rounds"
-  pub grants : firstOf (planChecks (st .settings) (st .accuracy) 0) ≡ none
+  pub grants : firstOf (planChecks (st .settings) (κ st) 0) ≡ none
   pub readings : (p : ℕ) → IsReading (st .first p)
 
 -- ---- Sending
@@ -75,7 +94,7 @@ pub record Allowed (st : Station) (x : Sends) : Type 0 where
   pub sent : (r s : ℕ) → IsReading (x .sent r s)
   pub relayed : (r s p : ℕ) → IsReading (x .relayed r s p)
   -- "The tray is long enough"
-  pub room : (p : ℕ) → answerLength (st .settings .n) ≤ length (x .buffer p)
+  pub room : (p : ℕ) → answerLength (N st) ≤ length (x .buffer p)
 
 -- ---- A round
 
@@ -86,19 +105,21 @@ pub record State : Type 0 where
 
 -- "The plan has window δ, accuracy κ and no round done"
 abbrev pub start : Station → State
-start st = record { plan = planFrom (st .settings) (st .accuracy); held = st .first }
+start st = record { plan = planFrom (st .settings) (κ st); held = st .first }
 
 module _ (st : Station) (now : State) (x : Sends) where
   -- "a sound cabinet sends what it holds (nothing, if that is missing) to every cabinet, itself included"
   unfoldable pub heard : ℕ → ℕ → Reading
   heard r s = cond (st .sound r) (now .held r) (x .sent r s)
 
-  -- "FCA: entry s is what s sent p. CCA: entry r × N + s is what r sent s, if s is sound"
+  -- CCA: the copy of r's value that p has from s, "what r sent s, if s is sound; a faulty s relays anything or nothing,
+  -- to each p apart"
+  abbrev pub copy : ℕ → ℕ → ℕ → Reading
+  copy r s p = cond (st .sound s) (heard r s) (x .relayed r s p)
+
+  -- "FCA: entry s is what s sent p. CCA: entry r × N + s is" that copy
   unfoldable pub entryOf : ℕ → ℕ → Reading
-  entryOf p e =
-      cond (eqb (st .settings .rule) cca)
-      (cond (st .sound (e % st .settings .n)) (heard (e / st .settings .n) (e % st .settings .n)) (x .relayed (e / st .settings .n) (e % st .settings .n) p))
-      (heard e p)
+  entryOf p e = cond (eqb (st .settings .rule) cca) (copy (e / N st) (e % N st) p) (heard e p)
 
   -- "each sound cabinet p fills a round sheet with those settings, the plan's window as its δ"
   unfoldable pub sheetOf : ℕ → List ℕ
@@ -114,7 +135,8 @@ module _ (st : Station) (now : State) (x : Sends) where
   unfoldable pub settled : ℕ → Written
   settled p = settle (sheetOf p) (x .buffer p)
 
--- "Its new value, bytes 6 to 9 of its answer sheet, is what it holds next"; "after a refusal it holds a missing reading"
+-- "Its new value, bytes 6 to 9 of its answer sheet, is what it holds next"; "after a refusal it holds a missing
+-- reading"
 abbrev pub holds : Verdict ℕ → List ℕ → Reading
 holds (granted length) answer = present (toZ w32 (word answer 6))
 holds (refused r) answer = missing
@@ -131,19 +153,36 @@ next st now x =
       held = λ p. holds (settled st now x p .verdict) (settled st now x p .buffer);
     }
 
+-- p's new value, which it holds after the round unless it was refused
+abbrev pub newValue : Station → State → Sends → ℕ → ℤ
+newValue st now x p = ticks (next st now x .held p)
+
+abbrev pub Unrefused : Station → State → Sends → ℕ → Type 0
+Unrefused st now x p = isPresent (next st now x .held p) ≡ true
+
+-- p is one of the N, and sound
+abbrev pub Sound : Station → ℕ → Type 0
+Sound st p = (p < N st) × (st .sound p ≡ true)
+
+-- how far two whole numbers are apart
+abbrev pub apart : ℤ → ℤ → ℕ
+apart a b = natAbs (a -ℤ b)
+
 -- ---- The good cabinets
 
--- "The good cabinets are any set of sound ones whose first readings are present, within κ of one whole true value, the same all
--- through the run, and within δ of each other"
+-- "The good cabinets are any set of sound ones whose first readings are present, within κ of one whole true value, the
+-- same all through the run, and within δ of each other"
 pub record Good (st : Station) (good : ℕ → Bool) (true-value : ℤ) : Type 0 where
-  pub sound : (p : ℕ) → p < st .settings .n → good p ≡ true → st .sound p ≡ true
-  pub present : (p : ℕ) → p < st .settings .n → good p ≡ true → isPresent (st .first p) ≡ true
-  pub accurate : (p : ℕ) → p < st .settings .n → good p ≡ true → natAbs (ticks (st .first p) -ℤ true-value) ≤ st .accuracy
-  pub precise : (p q : ℕ) → p < st .settings .n → q < st .settings .n → good p ≡ true → good q ≡ true → natAbs (ticks (st .first p) -ℤ ticks (st .first q)) ≤ st .settings .window
+  pub sound : (p : ℕ) → p < N st → good p ≡ true → st .sound p ≡ true
+  pub present : (p : ℕ) → p < N st → good p ≡ true → isPresent (st .first p) ≡ true
+  pub accurate : (p : ℕ) → p < N st → good p ≡ true → apart (ticks (st .first p)) true-value ≤ κ st
+  pub precise :
+      (p q : ℕ) → p < N st → q < N st → good p ≡ true → good q ≡ true
+      → apart (ticks (st .first p)) (ticks (st .first q)) ≤ δ st
 
 -- t: "The other t cabinets are bad"
 abbrev pub bad : Station → (ℕ → Bool) → ℕ
-bad st good = count (λ p. not (good p)) (st .settings .n)
+bad st good = count (λ p. not (good p)) (N st)
 
 -- ---- The limits
 
@@ -157,18 +196,38 @@ abbrev pub First : (State → Sends → Type 0) → State → List Sends → Typ
 First Claim now [] = Unit {0}
 First Claim now (x ∷ xs) = Claim now x
 
--- t ≤ m: "no sound cabinet and no step of the plan refuses, and after each round any two sound cabinets' new values differ by no more
--- than the next window and each strays from true time by no more than the planned accuracy"
-pub record Close (st : Station) (true-value : ℤ) (now : State) (x : Sends) : Type 0 where
-  pub unrefused : (p : ℕ) → p < st .settings .n → st .sound p ≡ true → settled st now x p .verdict ≡ granted (answerLength (st .settings .n))
-  pub steps : step (now .plan) ≡ granted (next st now x .plan)
-  pub precise : (p q : ℕ) → p < st .settings .n → q < st .settings .n → st .sound p ≡ true → st .sound q ≡ true → natAbs (ticks (next st now x .held p) -ℤ ticks (next st now x .held q)) ≤ next st now x .plan .settings .window
-  pub accurate : (p : ℕ) → p < st .settings .n → st .sound p ≡ true → natAbs (ticks (next st now x .held p) -ℤ true-value) ≤ next st now x .plan .accuracy
+-- "the next window", and "the planned accuracy", of the plan that goes one round forward
+abbrev pub closeGap : Station → State → Sends → ℕ
+closeGap st now x = next st now x .plan .settings .window
 
--- m < t < N-m, first round: "an unrefused value is within κ + ⌈(m+t)δ/N⌉ of true, and two differ by at most ⌈(N+2t+2m)δ/N⌉"
+abbrev pub closeError : Station → State → Sends → ℕ
+closeError st now x = next st now x .plan .accuracy
+
+-- t ≤ m: "no sound cabinet and no step of the plan refuses, and after each round any two sound cabinets' new values
+-- differ by no more than the next window and each strays from true time by no more than the planned accuracy"
+pub record Close (st : Station) (true-value : ℤ) (now : State) (x : Sends) : Type 0 where
+  pub unrefused : (p : ℕ) → Sound st p → settled st now x p .verdict ≡ granted (answerLength (N st))
+  pub steps : step (now .plan) ≡ granted (next st now x .plan)
+  pub precise :
+      (p q : ℕ) → Sound st p → Sound st q
+      → apart (newValue st now x p) (newValue st now x q) ≤ closeGap st now x
+  pub accurate : (p : ℕ) → Sound st p → apart (newValue st now x p) true-value ≤ closeError st now x
+
+-- m < t < N-m, first round: "an unrefused value is within κ + ⌈(m+t)δ/N⌉ of true, and two differ by at most
+-- ⌈(N+2t+2m)δ/N⌉"
+abbrev pub wideError : Station → ℕ → ℕ
+wideError st t = κ st + ceilDiv ((m st + t) * δ st) (N st)
+
+abbrev pub wideGap : Station → ℕ → ℕ
+wideGap st t = ceilDiv ((N st + 2 * t + 2 * m st) * δ st) (N st)
+
 pub record Wide (st : Station) (t : ℕ) (true-value : ℤ) (now : State) (x : Sends) : Type 0 where
-  pub accurate : (p : ℕ) → p < st .settings .n → st .sound p ≡ true → isPresent (next st now x .held p) ≡ true → natAbs (ticks (next st now x .held p) -ℤ true-value) ≤ st .accuracy + ceilDiv ((st .settings .m + t) * st .settings .window) (st .settings .n)
-  pub precise : (p q : ℕ) → p < st .settings .n → q < st .settings .n → st .sound p ≡ true → st .sound q ≡ true → isPresent (next st now x .held p) ≡ true → isPresent (next st now x .held q) ≡ true → natAbs (ticks (next st now x .held p) -ℤ ticks (next st now x .held q)) ≤ ceilDiv ((st .settings .n + 2 * t + 2 * st .settings .m) * st .settings .window) (st .settings .n)
+  pub accurate :
+      (p : ℕ) → Sound st p → Unrefused st now x p
+      → apart (newValue st now x p) true-value ≤ wideError st t
+  pub precise :
+      (p q : ℕ) → Sound st p → Sound st q → Unrefused st now x p → Unrefused st now x q
+      → apart (newValue st now x p) (newValue st now x q) ≤ wideGap st t
 
 -- ---- The statement
 
@@ -178,8 +237,10 @@ Each Claim [] = Unit {0}
 Each Claim (x ∷ xs) = Claim x × Each Claim xs
 
 pub record Guarantee (st : Station) (rounds : List Sends) (good : ℕ → Bool) (true-value : ℤ) : Type 0 where
-  pub few : bad st good ≤ st .settings .m → Every st (Close st true-value) (start st) rounds
-  pub many : st .settings .m < bad st good → bad st good < st .settings .n - st .settings .m → First (Wide st (bad st good) true-value) (start st) rounds
+  pub few : bad st good ≤ m st → Every st (Close st true-value) (start st) rounds
+  pub many :
+      m st < bad st good → bad st good < N st - m st
+      → First (Wide st (bad st good) true-value) (start st) rounds
 
 -- "For every list of 0 to 32 rounds from a fresh plan, whatever the faulty cabinets send to whom in each"
 abbrev pub Demand3 : Type 0

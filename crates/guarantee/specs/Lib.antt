@@ -1,1 +1,3 @@
 pub mod Guarantee
+pub mod Regulator
+pub mod Witnesses

@@ -1,123 +1,100 @@
-// Document 01, "The round sheet": the checks of a sheet, the reader and the row accessor.
+// Document 01, "The round sheet": the row accessor and the reader.
 ghost use mathlib.Core.Path.{_≡_};
-ghost use Prim.Native.Nat.{_+_, _*_, _≤_, _<_};
-ghost use lib.Dec.{ltb};
+ghost use Prim.Native.Nat.{_+_, _*_, _≤_};
 ghost use lib.ListN.{length};
-ghost use Rattle.arithmetic.specs.Counting.{lowest};
-ghost use Rattle.ensemble.specs.Answers.{rowOf};
-ghost use Rattle.model.specs.RoundSheet.{byte, word, settingsAt, entryCount, markAt, bitsAt};
-ghost use Rattle.model.specs.Refusals.{orNext, firstOf, sheetChecks, rowChecks, badMark, badMissing};
-ghost use Rattle.model.specs.Calls.{verdict};
-ghost use Rattle.sheets.specs.Entries.{notZero};
-ghost use Rattle.sheet.specs.Answers.{openedAs, foundAs};
-use ensemble::Screened;
+ghost use mir.Syntax.{w32};
+ghost use mir.Val.{toZ};
+ghost use Rattle.arithmetic.specs.Writing.{table, overwrite};
+ghost use Rattle.model.specs.RoundSheet.{settingsAt, rowEntries, bitsAt};
+ghost use Rattle.model.specs.Calls.{verdict, row, read};
+ghost use Rattle.sheets.specs.Entries.{readRows};
+ghost use Rattle.inspection.specs.Answers.{openedAs};
+ghost use Rattle.sheet.specs.Answers.{readAs};
+use ensemble::Tick;
+use inspection::Opened;
 use model::Refusal;
 use model::Settings;
 
-// A sheet's settings, or the first refusal.
-pub enum Opened {
-    Granted(Settings),
-    Refused(Refusal),
-}
-
-// The sizes, bytes 0 to 7.
-pub fn sizes(sheet: &[u8]) -> Settings
-    ensures { λ r. ⌜ r ≡ settingsAt (now (sheet .entry)) ⌝ }
+// The readings in a row: one for FCA, N for CCA.
+fn row_entries(settings: Settings) -> usize
+    ensures { λ r. ⌜ r ≡ rowEntries settings ⌝ }
 {
-    Settings {
-        n: words::byte_at(sheet, 0),
-        m: words::byte_at(sheet, 1),
-        rule: words::byte_at(sheet, 2),
-        estimator: words::byte_at(sheet, 3),
-        window: words::word_at(sheet, 4),
+    if settings.rule == 1 {
+        settings.n as usize
+    } else {
+        1
     }
 }
 
-// E, the number of entries.
-pub fn entry_count(settings: Settings) -> usize
-    ensures { λ r. ⌜ r ≡ entryCount settings ⌝ }
+// The part of the sheet that holds cabinet r's readings. It is empty for a sheet that checks 1 to 6, 8 or 9 refuse, and from cabinet N on.
+pub fn row(sheet: &[u8], r: usize) -> &[u8]
+    ensures { λ part. ⌜ now part ≡ row (now (sheet .entry)) r ⌝ }
 {
+    let Opened::Granted(settings) = inspection::validate(sheet) else {
+        return &sheet[..0];
+    };
     let n = settings.n as usize;
-    if settings.rule == 1 { n * n } else { n }
+    if n <= r {
+        return &sheet[..0];
+    }
+    let width = row_entries(settings);
+    let start = 8 + inspection::entry_count(settings) + 4 * (r * width);
+    &sheet[start..start + 4 * width]
 }
 
-// Checks 1 to 6.
-pub fn inspect(sheet: &[u8]) -> Opened
-    ensures { λ r. ⌜ openedAs r ≡ verdict (firstOf (sheetChecks (now (sheet .entry)))) (settingsAt (now (sheet .entry))) ⌝ }
+// Fills the first entries of readings with the sheet's.
+fn decode(sheet: &[u8], entries: usize, readings: &mut [i32])
+    requires { ⌜ (8 + entries + 4 * entries ≤ length (now sheet)) × (entries ≤ length (now readings)) ⌝ }
+    ensures { λ _. ⌜ now (readings .exit) ≡ overwrite (table (λ e. toZ w32 (bitsAt (now (sheet .entry)) entries e)) entries) (now (readings .entry)) ⌝ }
 {
-    if sheet.len() < 8 {
-        return Opened::Refused(Refusal {
-            number: 1,
-            place: 0,
-        });
+    let mut e: usize = 0;
+    'entries: while e < entries {
+        let i = 8 + entries + 4 * e;
+        let tick = Tick::from_bits(words::join(sheet[i], sheet[i + 1], sheet[i + 2], sheet[i + 3]));
+        let ticks = tick.0;
+        readings[e] = ticks;
+        e += 1;
     }
-    let settings = sizes(sheet);
-    match ensemble::screen(settings) {
-        Screened::Refused(r) => Opened::Refused(r),
-        Screened::Passed => {
-            if sheet.len() == 8 + 5 * entry_count(settings) {
-                Opened::Granted(settings)
-            } else {
-                Opened::Refused(Refusal {
-                    number: 6,
+}
+
+// Checks 1 to 9 of the reader, lent arrays of these lengths.
+fn open(sheet: &[u8], marks: usize, readings: usize) -> Opened
+    ensures { λ r. ⌜ openedAs r ≡ verdict (readRows (now (sheet .entry)) marks readings) (settingsAt (now (sheet .entry))) ⌝ }
+{
+    match inspection::inspect(sheet) {
+        Opened::Refused(r) => Opened::Refused(r),
+        Opened::Granted(settings) => {
+            let entries = inspection::entry_count(settings);
+            if marks < entries {
+                return Opened::Refused(Refusal {
+                    number: 7,
                     place: 0,
-                })
+                });
             }
+            if readings < entries {
+                return Opened::Refused(Refusal {
+                    number: 7,
+                    place: 0,
+                });
+            }
+            inspection::validate(sheet)
         }
     }
 }
 
-// Where a search for an entry ends.
-pub enum Found {
-    At(usize),
-    Nothing,
-}
-
-// The lowest mark that is not 0 or 1.
-pub fn bad_mark(marks: &[u8]) -> Found
-    ensures { λ r. ⌜ foundAs r ≡ lowest (λ e. ltb 1 (byte (now (marks .entry)) e)) (length (now (marks .entry))) ⌝ }
+// The reader: the settings, with the first entries of marks and readings filled from the sheet, or the first refusal of checks 1 to 9,
+// which fills nothing.
+pub fn read(sheet: &[u8], marks: &mut [u8], readings: &mut [i32]) -> Opened
+    ensures { λ r. ⌜ readAs r (now (marks .exit)) (now (readings .exit)) ≡ read (now (sheet .entry)) (now (marks .entry)) (now (readings .entry)) ⌝ }
 {
-    let mut e: usize = 0;
-    'entries: while e < marks.len() {
-        let mark = marks[e];
-        if 1 < mark {
-            return Found::At(e);
+    match open(sheet, marks.len(), readings.len()) {
+        Opened::Refused(r) => Opened::Refused(r),
+        Opened::Granted(settings) => {
+            let entries = inspection::entry_count(settings);
+            let body = 8 + entries;
+            bytes::copy(&sheet[8..body], marks);
+            decode(sheet, entries, readings);
+            Opened::Granted(settings)
         }
-        e += 1;
     }
-    Found::Nothing
-}
-
-// Whether an entry is missing with bytes that are not zero. An entry that is present is not looked at.
-fn not_zero(marks: &[u8], readings: &[u8], e: usize) -> bool
-    requires { ⌜ (length (now readings) ≡ 4 * length (now marks)) × (e < length (now marks)) ⌝ }
-    ensures { λ r. ⌜ r ≡ notZero (byte (now (marks .entry)) e) (word (now (readings .entry)) (4 * e)) ⌝ }
-{
-    let mark = marks[e];
-    if mark != 0 {
-        return false;
-    }
-    let i = 4 * e;
-    words::join(
-        readings[i],
-        readings[i + 1],
-        readings[i + 2],
-        readings[i + 3],
-    )
-        != 0
-}
-
-// The lowest entry that is missing with bytes that are not zero.
-fn bad_missing(marks: &[u8], readings: &[u8]) -> Found
-    requires { ⌜ length (now readings) ≡ 4 * length (now marks) ⌝ }
-    ensures { λ r. ⌜ foundAs r ≡ lowest (λ e. notZero (byte (now (marks .entry)) e) (word (now (readings .entry)) (4 * e))) (length (now (marks .entry))) ⌝ }
-{
-    let mut e: usize = 0;
-    'entries: while e < marks.len() {
-        if not_zero(marks, readings, e) {
-            return Found::At(e);
-        }
-        e += 1;
-    }
-    Found::Nothing
 }

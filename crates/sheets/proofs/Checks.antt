@@ -72,11 +72,6 @@ module _ (mark : ℕ → ℕ) (E : ℕ) where
 -- ---- a whole sheet
 
 module _ (s : List ℕ) where
-  -- what checks 1 to 6 tell of a sheet that passes them
-  pub header-passed : firstOf (sheetChecks s) ≡ none → 8 ≤ length s
-  unfolding sheetChecks tooShort
-  header-passed h = ltb-false (length s) 8 (when-none (ltb (length s) 8) 1 (none-at (sheetChecks s) h 0))
-
   pub settings-passed : firstOf (sheetChecks s) ≡ none → firstOf (settingsChecks (settingsAt s)) ≡ none
   unfolding sheetChecks firstOf
   settings-passed h =

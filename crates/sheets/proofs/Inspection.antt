@@ -2,16 +2,19 @@
 -- Assumes nothing.
 use mathlib.Core.List.{List, [], _∷_}
 use mathlib.Core.Option.{none, some}
-use mathlib.Core.Path.{_≡_, ap}
+use mathlib.Core.Path.{_≡_, sym, ap, _∙_}
 use Prim.Native.Nat.{ℕ, _≤_, _<_}
 use borrow.Author.Tests.{lt-ltb, le-ltb, eq-eqb, ne-eqb}
 use lib.ListN.{length}
 use Rattle.model.specs.declared.Settings.{Settings}
 use Rattle.model.specs.declared.Refusal.{Refusal}
-use Rattle.model.specs.RoundSheet.{settingsAt, sheetLength}
-use Rattle.model.specs.Refusals.{refusal, orNext, firstOf, settingsChecks, sheetChecks, tooShort, badLength}
+use Rattle.model.specs.RoundSheet.{settingsAt, entryCount, sheetLength, markAt, bitsAt}
+use Rattle.model.specs.Refusals.{refusal, orNext, firstOf, settingsChecks, sheetChecks, tooShort, badLength, badMark, badMissing, rowChecks, entryChecks}
 use Rattle.model.specs.Calls.{granted, refused, verdict}
-use Rattle.sheets.proofs.Rows.{first-append}
+use Rattle.sheets.proofs.Rows.{first-append, next-none, none-left, none-right}
+use Rattle.sheets.proofs.Limits.{Limits, limits, entries-most}
+use Rattle.sheets.proofs.Checks.{settings-passed, sheet-length-passed}
+use Rattle.sheets.proofs.Outcomes.{granted-none, granted-same}
 
 -- ---- checks 1 to 6
 
@@ -37,3 +40,74 @@ module _ (s : List ℕ) where
       pub inspection-passes : length s ≡ sheetLength c → granted c ≡ verdict (firstOf (sheetChecks s)) (settingsAt s)
       unfolding badLength firstOf
       inspection-passes h = rw (rows-after-header, pass, eq-eqb (length s) (sheetLength c) h) (ap granted same)
+
+-- what it means that checks 1 to 6 grant settings
+pub record Inspected (s : List ℕ) (c : Settings) : Type 0 where
+  pub passes : firstOf (sheetChecks s) ≡ none
+  pub settings : settingsAt s ≡ c
+  pub long : length s ≡ sheetLength c
+  pub within : Limits c
+  pub few : entryCount c ≤ 4096
+
+pub inspected : (s : List ℕ) (c : Settings) → verdict (firstOf (sheetChecks s)) (settingsAt s) ≡ granted c → Inspected s c
+inspected s c h =
+    record {
+      passes = passes;
+      settings = same;
+      long = sheet-length-passed s passes ∙ ap (λ (d : Settings). sheetLength d) same;
+      within = within;
+      few = entries-most c (within .cabinets);
+    }
+  where
+    passes : firstOf (sheetChecks s) ≡ none
+    passes = granted-none (firstOf (sheetChecks s)) (settingsAt s) c h
+
+    same : settingsAt s ≡ c
+    same = granted-same (firstOf (sheetChecks s)) (settingsAt s) c h
+
+    within : Limits c
+    within = limits c (ap (λ (d : Settings). firstOf (settingsChecks d)) (sym same) ∙ settings-passed s passes)
+
+-- ---- checks 1 to 6, 8 and 9
+
+module _ (s : List ℕ) where
+  pub first-refused : (r : Refusal) → firstOf (sheetChecks s) ≡ some r → refused r ≡ verdict (firstOf (rowChecks s)) (settingsAt s)
+  unfolding rowChecks
+  first-refused r h = rw (first-append, h)
+
+  -- checks 8 and 9 of as many entries as the settings say
+  pub entry-rows : (E : ℕ) → E ≡ entryCount (settingsAt s) → firstOf (entryChecks s) ≡ orNext (badMark (markAt s) E) (badMissing (markAt s) (bitsAt s E) E)
+  unfolding entryChecks firstOf
+  entry-rows E same =
+      rw same
+      (ap (orNext (badMark (markAt s) (entryCount (settingsAt s))))
+      (next-none (badMissing (markAt s) (bitsAt s (entryCount (settingsAt s))) (entryCount (settingsAt s)))))
+
+  module _ (pass : firstOf (sheetChecks s) ≡ none) (E : ℕ) (same : E ≡ entryCount (settingsAt s)) where
+    rows-after-sizes : firstOf (rowChecks s) ≡ orNext (badMark (markAt s) E) (badMissing (markAt s) (bitsAt s E) E)
+    unfolding rowChecks
+    rows-after-sizes = rw (first-append, pass) (entry-rows E same)
+
+    pub entries-refused : (r : Refusal) → orNext (badMark (markAt s) E) (badMissing (markAt s) (bitsAt s E) E) ≡ some r → refused r ≡ verdict (firstOf (rowChecks s)) (settingsAt s)
+    entries-refused r h = rw (rows-after-sizes, h)
+
+    pub validation-passes : (c : Settings) → c ≡ settingsAt s → orNext (badMark (markAt s) E) (badMissing (markAt s) (bitsAt s E) E) ≡ none → granted c ≡ verdict (firstOf (rowChecks s)) (settingsAt s)
+    validation-passes c e h = rw (rows-after-sizes, h) (ap granted e)
+
+-- what it means that these checks grant settings
+pub record Validated (s : List ℕ) (c : Settings) : Type 0 where
+  pub sizes : Inspected s c
+  pub rows : firstOf (rowChecks s) ≡ none
+  pub entries : firstOf (entryChecks s) ≡ none
+
+pub validated : (s : List ℕ) (c : Settings) → verdict (firstOf (rowChecks s)) (settingsAt s) ≡ granted c → Validated s c
+unfolding rowChecks
+validated s c h =
+    record {
+      sizes = inspected s c (rw (none-left (sheetChecks s) (entryChecks s) rows) (ap granted (granted-same (firstOf (rowChecks s)) (settingsAt s) c h)));
+      rows = rows;
+      entries = none-right (sheetChecks s) (entryChecks s) rows;
+    }
+  where
+    rows : firstOf (rowChecks s) ≡ none
+    rows = granted-none (firstOf (rowChecks s)) (settingsAt s) c h

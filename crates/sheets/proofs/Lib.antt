@@ -4,7 +4,11 @@ pub mod Checks
 pub mod Searching
 pub mod Outcomes
 pub mod Inspection
+pub mod Shown
+pub mod Opening
+pub mod Filling
 pub mod Words
+pub mod Parts
 pub mod Readings
 pub mod Written
 pub mod Reread

@@ -18,6 +18,7 @@ use Rattle.model.specs.AnswerSheet.{answerLength}
 use Rattle.model.specs.Steps.{roundAt}
 use Rattle.model.specs.Refusals.{Row, orNext, firstOf, settingsChecks, sheetChecks, entryChecks, readChecks, writeChecks, rowChecks, settleChecks, badLength, noRoom, badMark, badMissing, tooManyFaults}
 use Rattle.model.specs.Calls.{granted, refused, verdict, marksOf, ticksOf, readAfter, read, writtenAfter, write, row, lent}
+use Rattle.sheets.specs.Entries.{readRows, arrayRows, writeRows}
 use Rattle.sheets.proofs.Rows.{first-append, next-none}
 
 -- ---- verdicts
@@ -32,12 +33,16 @@ module _ {A : Type 0} where
   granted-same none a b h = cc
   granted-same (some r) a b h = cc
 
+  pub refused-some : (r : Row) (a : A) (x : Refusal) → verdict r a ≡ refused x → r ≡ some x
+  refused-some none a x h = cc
+  refused-some (some r) a x h = cc
+
 -- ---- the reader
 
 module _ (s marks : List ℕ) (readings : List ℤ) where
   -- the rows in their order: checks 1 to 6, 7 of each array, 8 and 9
-  pub read-rows : firstOf (readChecks s marks readings) ≡ orNext (firstOf (sheetChecks s)) (orNext (noRoom (length marks) (entryCount (settingsAt s))) (orNext (noRoom (length readings) (entryCount (settingsAt s))) (firstOf (entryChecks s))))
-  unfolding readChecks firstOf
+  pub read-rows : firstOf (readChecks s marks readings) ≡ readRows s (length marks) (length readings)
+  unfolding readChecks firstOf readRows
   read-rows = first-append (sheetChecks s) (noRoom (length marks) (entryCount (settingsAt s)) ∷ noRoom (length readings) (entryCount (settingsAt s)) ∷ entryChecks s)
 
   pub read-grants : firstOf (readChecks s marks readings) ≡ none → read s marks readings ≡ record { verdict = granted (settingsAt s); marks = overwrite (marksOf s) marks; readings = overwrite (ticksOf s) readings }
@@ -50,20 +55,24 @@ module _ (s marks : List ℕ) (readings : List ℤ) where
 
 -- ---- the writer
 
--- rows 6 to 9 of the writer
-unfoldable pub entryRows : Settings → List ℕ → List ℤ → List ℕ → List Row
-entryRows c marks readings buffer =
-    badLength (length marks) (entryCount c)
-    ∷ badLength (length readings) (entryCount c)
-    ∷ noRoom (length buffer) (sheetLength c)
-    ∷ badMark (λ e. getD marks e 0) (entryCount c)
-    ∷ badMissing (λ e. getD marks e 0) (λ e. ofZ w32 (getD readings e (pos 0))) (entryCount c)
-    ∷ []
-
 module _ (c : Settings) (marks : List ℕ) (readings : List ℤ) (buffer : List ℕ) where
-  pub write-rows : firstOf (writeChecks c marks readings buffer) ≡ orNext (firstOf (settingsChecks c)) (firstOf (entryRows c marks readings buffer))
-  unfolding writeChecks entryRows
-  write-rows = first-append (settingsChecks c) (entryRows c marks readings buffer)
+  pub write-rows : firstOf (writeChecks c marks readings buffer) ≡ writeRows c marks readings (length buffer)
+  unfolding writeChecks firstOf writeRows arrayRows
+  write-rows =
+      first-append (settingsChecks c)
+      (badLength (length marks) (entryCount c)
+      ∷ badLength (length readings) (entryCount c)
+      ∷ noRoom (length buffer) (sheetLength c)
+      ∷ badMark (λ e. getD marks e 0) (entryCount c)
+      ∷ badMissing (λ e. getD marks e 0) (λ e. ofZ w32 (getD readings e (pos 0))) (entryCount c)
+      ∷ [])
+      ∙ ap
+      (λ (r : Row).
+      orNext (firstOf (settingsChecks c))
+      (orNext (badLength (length marks) (entryCount c))
+      (orNext (badLength (length readings) (entryCount c))
+      (orNext (noRoom (length buffer) (sheetLength c)) (orNext (badMark (λ e. getD marks e 0) (entryCount c)) r)))))
+      (next-none (badMissing (λ e. getD marks e 0) (λ e. ofZ w32 (getD readings e (pos 0))) (entryCount c)))
 
   pub write-grants : firstOf (writeChecks c marks readings buffer) ≡ none → write c marks readings buffer ≡ record { verdict = granted (sheetLength c); buffer = overwrite (sheetBytes c marks readings) buffer }
   unfolding write

@@ -6,10 +6,11 @@ use Prim.Native.Nat.{ℕ, zero, suc, _+_, _*_, _<_}
 use native.Mathlib.Nat.{not-suc-le-zero, le-of-suc-le-suc}
 use native.Mathlib.Omega.{arith}
 use lib.IntN.{ℤ, pos}
+use lib.Signed.{mag}
 use lib.ListN.{length, getD}
 use mir.Syntax.{w32}
-use mir.Val.{SFits, ofZ}
-use mir.Facts.{fits-ofZ, fits-lt-pow}
+use mir.Val.{SFits, toZ, ofZ}
+use mir.Facts.{fits-ofZ, fits-lt-pow, toZ-ofZ}
 use Rattle.model.specs.RoundSheet.{word, bytes4, readingBytes}
 use Rattle.sheets.proofs.Words.{word-bytes4, word-append-right}
 
@@ -30,6 +31,10 @@ readingBytes-append (z ∷ zs) ys =
 -- the bits of a number that 32 signed bits hold are below 2^32
 pub bits-fit : (z : ℤ) → SFits w32 z → ofZ w32 z < 4_294_967_296
 bits-fit z h = fits-lt-pow (fits-ofZ h)
+
+-- such a number is that of its bits
+pub bits-again : (z : ℤ) → mag z < 2_147_483_648 → toZ w32 (ofZ w32 z) ≡ z
+bits-again z h = toZ-ofZ (record { sfits = h })
 
 pub length-bytes4 : (x : ℕ) → length (bytes4 x) ≡ 4
 unfolding bytes4

@@ -7,7 +7,7 @@ use Prim.Native.Nat.{ℕ, zero, suc, _+_, _*_, _≤_, _<_}
 use native.Mathlib.Omega.{arith}
 use lib.IntN.{pos}
 use lib.ListN.{length, take, drop, length-drop, take-append-drop}
-use lib.Seq.{ext-getD, length-take-le, getD-take, getD-drop, take-add, drop-drop, take-all}
+use lib.Seq.{take-add, drop-drop, take-all}
 use mir.Syntax.{w32}
 use mir.Val.{toZ, ofZ}
 use mir.Facts.{ofZ-toZ, fits-of-lt, sfits-toZ}
@@ -17,21 +17,10 @@ use Rattle.model.specs.RoundSheet.{byte, word, settingsAt, entryCount, markAt, 
 use Rattle.model.specs.Refusals.{firstOf, sheetChecks, entryChecks}
 use Rattle.model.specs.Calls.{marksOf, ticksOf}
 use Rattle.sheets.proofs.Checks.{settings-passed, sheet-length-passed, sheet-marks-passed, sheet-missing-passed}
+use Rattle.sheets.proofs.Parts.{table-part}
 use Rattle.sheets.proofs.Words.{word-fits, bytes4-word, take4}
 use Rattle.sheets.proofs.Readings.{readingBytes-append}
 use Rattle.sheets.proofs.Written.{WellFormed}
-
--- the entries of a part of a list are that part
-pub table-part : (s : List ℕ) (k n : ℕ) → k + n ≤ length s → table (λ e. byte s (k + e)) n ≡ take n (drop k s)
-table-part s k n h =
-    ext-getD 0 (table (λ e. byte s (k + e)) n) (take n (drop k s))
-    (length-table (λ e. byte s (k + e)) n ∙ sym (length-take-le n (drop k s) fits))
-    (λ i l.
-    let i-in : i < n = rw (length-table (λ e. byte s (k + e)) n) at l in
-    getD-table (λ e. byte s (k + e)) n i 0 i-in ∙ sym (getD-take n (drop k s) i 0 i-in ∙ getD-drop k s i 0))
-  where
-    fits : n ≤ length (drop k s)
-    fits = let d = length-drop k s in omega arith
 
 module _ (s : List ℕ) (small : (i : ℕ) → byte s i < 256) where
   -- so are the bytes of the readings in it

@@ -16,9 +16,10 @@ use Rattle.model.specs.declared.Settings.{Settings}
 use Rattle.model.specs.RoundSheet.{byte, settingsAt, entryCount, sheetLength, markAt, bitsAt, sheetBytes}
 use Rattle.model.specs.Refusals.{firstOf, settingsChecks, sheetChecks, entryChecks, readChecks, writeChecks, noRoom}
 use Rattle.model.specs.Calls.{granted, verdict, Read, marksOf, ticksOf, read, Written, write}
-use Rattle.sheets.proofs.Rows.{first-append, next-none-left, next-none-right, none-at, none-left}
-use Rattle.sheets.proofs.Outcomes.{granted-none, granted-same, read-rows, read-grants, entryRows, write-grants}
-use Rattle.sheets.proofs.Checks.{length-pass, length-passed, room-pass, room-passed, marks-pass, marks-passed, missing-pass, missing-passed, sheet-length-passed}
+use Rattle.sheets.specs.Entries.{readRows, writeRows}
+use Rattle.sheets.proofs.Rows.{first-append, next-none-left, next-none-right, none-at}
+use Rattle.sheets.proofs.Outcomes.{granted-none, granted-same, read-rows, read-grants, write-rows, write-grants}
+use Rattle.sheets.proofs.Checks.{length-pass, length-passed, room-pass, marks-pass, marks-passed, missing-pass, missing-passed, sheet-length-passed}
 use Rattle.sheets.proofs.Written.{WellFormed, settings-back, length-back, marks-back, readings-back, sheet-passes, entries-pass}
 use Rattle.sheets.proofs.Reread.{sheet-again, sheet-well-formed}
 
@@ -26,14 +27,17 @@ use Rattle.sheets.proofs.Reread.{sheet-again, sheet-well-formed}
 
 module _ (s marks : List ℕ) (readings : List ℤ) where
   pub read-passes : firstOf (sheetChecks s) ≡ none → entryCount (settingsAt s) ≤ length marks → entryCount (settingsAt s) ≤ length readings → firstOf (entryChecks s) ≡ none → firstOf (readChecks s marks readings) ≡ none
+  unfolding readRows
   read-passes a b d e =
       read-rows s marks readings
       ∙ rw (a, room-pass (length marks) (entryCount (settingsAt s)) b, room-pass (length readings) (entryCount (settingsAt s)) d, e)
 
   pub read-sheet-passed : firstOf (readChecks s marks readings) ≡ none → firstOf (sheetChecks s) ≡ none
+  unfolding readRows
   read-sheet-passed h = next-none-left (firstOf (sheetChecks s)) _ (sym (read-rows s marks readings) ∙ h)
 
   pub read-entries-passed : firstOf (readChecks s marks readings) ≡ none → firstOf (entryChecks s) ≡ none
+  unfolding readRows
   read-entries-passed h =
       next-none-right (noRoom (length readings) (entryCount (settingsAt s))) (firstOf (entryChecks s))
       (next-none-right (noRoom (length marks) (entryCount (settingsAt s))) _
@@ -42,6 +46,10 @@ module _ (s marks : List ℕ) (readings : List ℤ) where
 -- ---- the writer's checks
 
 module _ (c : Settings) (marks : List ℕ) (readings : List ℤ) (buffer : List ℕ) where
+  write-settings-passed : firstOf (writeChecks c marks readings buffer) ≡ none → firstOf (settingsChecks c) ≡ none
+  unfolding writeRows
+  write-settings-passed h = next-none-left (firstOf (settingsChecks c)) _ (sym (write-rows c marks readings buffer) ∙ h)
+
   pub write-passes : WellFormed c marks readings → sheetLength c ≤ length buffer → firstOf (writeChecks c marks readings buffer) ≡ none
   unfolding writeChecks firstOf
   write-passes w room =
@@ -57,10 +65,10 @@ module _ (c : Settings) (marks : List ℕ) (readings : List ℤ) (buffer : List 
       )
 
   pub write-passed : firstOf (writeChecks c marks readings buffer) ≡ none → ((e : ℕ) → e < entryCount c → SFits w32 (getD readings e (pos 0))) → WellFormed c marks readings
-  unfolding writeChecks settingsChecks entryRows
+  unfolding writeChecks settingsChecks
   write-passed h fits =
       record {
-        settingsPass = none-left (settingsChecks c) (entryRows c marks readings buffer) h;
+        settingsPass = write-settings-passed h;
         marksLong = length-passed (length marks) (entryCount c) (none-at (writeChecks c marks readings buffer) h 4);
         readingsLong = length-passed (length readings) (entryCount c) (none-at (writeChecks c marks readings buffer) h 5);
         marksPass = marks-passed (λ e. getD marks e 0) (entryCount c) (none-at (writeChecks c marks readings buffer) h 7);
@@ -71,10 +79,6 @@ module _ (c : Settings) (marks : List ℕ) (readings : List ℤ) (buffer : List 
             (missing-passed (λ i. getD marks i 0) (entryCount c) (λ i. ofZ w32 (getD readings i (pos 0)))
             (none-at (writeChecks c marks readings buffer) h 8) e l m);
       }
-
-  pub write-room : firstOf (writeChecks c marks readings buffer) ≡ none → sheetLength c ≤ length buffer
-  unfolding writeChecks settingsChecks
-  write-room h = room-passed (length buffer) (sheetLength c) (none-at (writeChecks c marks readings buffer) h 6)
 
 -- the writer fills a buffer of just the sheet's length with the sheet
 pub write-fills : (c : Settings) (marks : List ℕ) (readings : List ℤ) (buffer : List ℕ) → WellFormed c marks readings → length buffer ≡ sheetLength c → write c marks readings buffer ≡ record { verdict = granted (sheetLength c); buffer = sheetBytes c marks readings }

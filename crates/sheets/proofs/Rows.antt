@@ -6,7 +6,6 @@ use mathlib.Core.Option.{Option, none, some}
 use mathlib.Core.Path.{_≡_, refl, sym, _∙_}
 use Prim.Native.Nat.{ℕ, zero, suc}
 use lib.ListN.{getD}
-use Rattle.model.specs.declared.Refusal.{Refusal}
 use Rattle.model.specs.Refusals.{Row, when, atEntry, orNext, firstOf}
 
 -- the first of two lists joined: the first list's, or else the second's
@@ -45,26 +44,10 @@ none-at [] h i = refl
 none-at (r ∷ rows) h zero = next-none-left r (firstOf rows) h
 none-at (r ∷ rows) h (suc i) = none-at rows (next-none-right r (firstOf rows) h) i
 
-pub none-cons : (r : Row) (rs : List Row) → r ≡ none → firstOf rs ≡ none → firstOf (r ∷ rs) ≡ none
-unfolding firstOf
-none-cons r rs a b = rw a b
-
--- what a row refuses under, it refuses under before every later row
-pub first-cons-some : (r : Refusal) (row : Row) (rs : List Row) → row ≡ some r → firstOf (row ∷ rs) ≡ some r
-unfolding firstOf
-first-cons-some r row rs a = rw a
-
-pub first-cons-none : (row : Row) (rs : List Row) → row ≡ none → firstOf (row ∷ rs) ≡ firstOf rs
-unfolding firstOf
-first-cons-none row rs a = rw a
-
 -- a row by its test
 pub when-none : (b : Bool) (number : ℕ) → when b number ≡ none → b ≡ false
 when-none true number h = cc
 when-none false number h = refl
-
-pub none-when : (b : Bool) (number : ℕ) → b ≡ false → when b number ≡ none
-none-when b number h = rw h
 
 -- a row by the lowest entry at fault
 pub entry-none : (o : Option ℕ) (number : ℕ) → atEntry o number ≡ none → o ≡ none

@@ -1,18 +1,23 @@
 -- Stores into a lent buffer: four bytes at a place, and entries one after another from the front.
 -- Assumes nothing.
-use mathlib.Core.List.{List, [], _∷_, _++_, append-assoc}
-use mathlib.Core.Path.{_≡_, sym, ap, ap₂, _∙_}
-use Prim.Native.Nat.{ℕ, _+_, _/_, _%_, _≤_, _<_}
+use mathlib.Core.List.{List, [], _∷_, _++_, append-assoc, append-nil}
+use mathlib.Core.Path.{_≡_, refl, sym, ap, ap₂, _∙_}
+use Prim.Native.Nat.{ℕ, _+_, _*_, _-_, _/_, _%_, _≤_, _<_}
+use native.Mathlib.Nat.{le-antisymm, le-of-eq}
 use native.Mathlib.Numerals.{add-one, add-two, add-three}
 use native.Mathlib.Omega.{arith}
 use borrow.Author.Tests.{le-leb, lt-leb}
-use lib.ListN.{length, take, drop, set, length-append, length-drop}
-use lib.Seq.{sets-eq, take-at, drop-at, drop-append-add, drop-drop}
+use lib.IntN.{ℤ, pos}
+use lib.ListN.{getD, length, take, drop, set, length-append, length-drop, drop-of-length-le}
+use lib.Seq.{length-take-le, take-suc, take-all, sets-eq, take-length, take-at, drop-at, drop-append-add, drop-drop}
+use mir.Syntax.{w32}
+use mir.Val.{ofZ}
 use Rattle.arithmetic.specs.Writing.{table, overwrite}
 use Rattle.arithmetic.proofs.Writing.{length-table, overwrite-snoc}
-use Rattle.model.specs.RoundSheet.{bytes4}
+use Rattle.model.specs.declared.Settings.{Settings}
+use Rattle.model.specs.RoundSheet.{bytes4, readingBytes, sizeBytes}
 use Rattle.sheets.specs.Storing.{putWord}
-use Rattle.sheets.proofs.Readings.{length-bytes4}
+use Rattle.sheets.proofs.Readings.{length-bytes4, length-readingBytes, readingBytes-append}
 
 -- ---- four bytes at a place
 
@@ -55,14 +60,26 @@ put-word-next new old i x e h =
         ∙ ap (λ (k : ℕ). drop k old) (ap (λ (k : ℕ). k + 4) e ∙ sym long)
 
 module _ {A : Type 0} where
-  -- the next entry of a table stored
-  pub store-next : (f : ℕ → A) (n : ℕ) (old : List A) (x : A) → x ≡ f n → n < length old → set (overwrite (table f n) old) n x ≡ overwrite (table f (n + 1)) old
+  -- a table stored entry by entry: nothing yet, the next entry, all of them
+  pub store-none : (f : ℕ → A) (old : List A) → old ≡ overwrite (table f 0) old
+  unfolding table overwrite
+  store-none f old = refl
+
+  pub store-next : (f : ℕ → A) (n : ℕ) (old now : List A) (x : A) → now ≡ overwrite (table f n) old → x ≡ f n → n < length old → set now n x ≡ overwrite (table f (n + 1)) old
   unfolding table
-  store-next f n old x e h =
-      ap (λ (k : ℕ). set (overwrite (table f n) old) k x) (sym (length-table f n))
+  store-next f n old now x s e h =
+      ap₂ (λ (l : List A) (k : ℕ). set l k x) s (sym (length-table f n))
       ∙ overwrite-snoc (table f n) old x (rw (length-table f n) h)
       ∙ ap (λ (y : A). overwrite (table f n ++ (y ∷ [])) old) e
       ∙ ap (λ (k : ℕ). overwrite (table f k) old) (sym (add-one n))
+
+  pub store-ended : (f : ℕ → A) (n e : ℕ) (old now : List A) → e ≤ n → n ≤ e → now ≡ overwrite (table f e) old → now ≡ overwrite (table f n) old
+  store-ended f n e old now a b s = s ∙ ap (λ (k : ℕ). overwrite (table f k) old) (le-antisymm a b)
+
+  -- a whole list copied to the front
+  pub copy-overwrites : (new old : List A) → take (length new) new ++ drop (length new) old ≡ overwrite new old
+  unfolding overwrite
+  copy-overwrites new old = ap (λ (l : List A). l ++ drop (length new) old) (take-length new)
 
   -- a part written behind what was written
   pub overwrite-append : (p q old : List A) (k : ℕ) → length p ≡ k → take k (overwrite p old) ++ overwrite q (drop k (overwrite p old)) ≡ overwrite (p ++ q) old
@@ -71,3 +88,53 @@ module _ {A : Type 0} where
       ap₂ (λ (l r : List A). l ++ (q ++ drop (length q) r)) (take-at p (drop (length p) old) k e) (drop-at p (drop (length p) old) k e)
       ∙ ap (λ (r : List A). p ++ (q ++ r)) (drop-drop (length q) (length p) old ∙ ap (λ (j : ℕ). drop j old) (sym (length-append p q)))
       ∙ sym (append-assoc p q (drop (length (p ++ q)) old))
+
+  -- what is left from place k on, as it is lent
+  pub length-tail : (b : List A) (k : ℕ) → length (take (length b - k) (drop k b)) ≡ length b - k
+  length-tail b k = length-take-le (length b - k) (drop k b) (le-of-eq (sym (length-drop k b)))
+
+  -- a tail that was lent and written, put back behind what was written
+  pub tail-written : (p q old b t : List A) (k : ℕ) → length p ≡ k → b ≡ overwrite p old → t ≡ overwrite q (take (length b - k) (drop k b)) → take k b ++ (t ++ drop (length b - k) (drop k b)) ≡ overwrite (p ++ q) old
+  tail-written p q old b t k e s w =
+      ap₂ (λ (l r : List A). take k b ++ (l ++ r)) (w ∙ ap (overwrite q) whole) (drop-of-length-le (drop k b) (le-of-eq (length-drop k b)))
+      ∙ ap (λ (l : List A). take k b ++ l) (append-nil (overwrite q (drop k b)))
+      ∙ ap (λ (l : List A). take k l ++ overwrite q (drop k l)) s
+      ∙ overwrite-append p q old k e
+    where
+      whole : take (length b - k) (drop k b) ≡ drop k b
+      whole = take-all (length b - k) (drop k b) (le-of-eq (length-drop k b))
+
+-- ---- the writer's stores
+
+-- the four bytes and the number of the sizes
+pub sizes-stored : (c : Settings) (b : List ℕ) → 8 ≤ length b → putWord (set (set (set (set b 0 (c .n)) 1 (c .m)) 2 (c .rule)) 3 (c .estimator)) 4 (c .window) ≡ overwrite (sizeBytes c) b
+unfolding sizeBytes
+sizes-stored c b h =
+    ap (λ (l : List ℕ). putWord l 4 (c .window)) first ∙ put-word-next (c .n ∷ c .m ∷ c .rule ∷ c .estimator ∷ []) b 4 (c .window) refl h
+  where
+    first : set (set (set (set b 0 (c .n)) 1 (c .m)) 2 (c .rule)) 3 (c .estimator) ≡ overwrite (c .n ∷ c .m ∷ c .rule ∷ c .estimator ∷ []) b
+    first = unfold overwrite in sets-eq (c .n ∷ c .m ∷ c .rule ∷ c .estimator ∷ []) b 0 (omega arith)
+
+-- readings stored one by one: none yet, the next, all of them
+pub put-none : (zs : List ℤ) (old : List ℕ) → old ≡ overwrite (readingBytes (take 0 zs)) old
+unfolding readingBytes overwrite
+put-none zs old = refl
+
+pub put-next : (zs : List ℤ) (e : ℕ) (old now : List ℕ) (x : ℕ) → now ≡ overwrite (readingBytes (take e zs)) old → e < length zs → x ≡ ofZ w32 (getD zs e (pos 0)) → 4 * length zs ≤ length old → putWord now (4 * e) x ≡ overwrite (readingBytes (take (e + 1) zs)) old
+put-next zs e old now x s h v room =
+    ap₂ (λ (l : List ℕ) (y : ℕ). putWord l (4 * e) y) s v
+    ∙ put-word-next (readingBytes (take e zs)) old (4 * e) (ofZ w32 (getD zs e (pos 0))) long (omega arith)
+    ∙ ap (λ (l : List ℕ). overwrite l old) (sym more)
+  where
+    long : length (readingBytes (take e zs)) ≡ 4 * e
+    long = length-readingBytes (take e zs) ∙ ap (λ (k : ℕ). 4 * k) (length-take-le e zs (omega arith))
+
+    more : readingBytes (take (e + 1) zs) ≡ readingBytes (take e zs) ++ bytes4 (ofZ w32 (getD zs e (pos 0)))
+    more =
+        ap (λ (k : ℕ). readingBytes (take k zs)) (add-one e)
+        ∙ ap readingBytes (take-suc zs e (pos 0) h)
+        ∙ readingBytes-append (take e zs) (getD zs e (pos 0) ∷ [])
+        ∙ ap (λ (l : List ℕ). readingBytes (take e zs) ++ l) (unfold readingBytes in append-nil (bytes4 (ofZ w32 (getD zs e (pos 0)))))
+
+pub put-ended : (zs : List ℤ) (e : ℕ) (old now : List ℕ) → length zs ≤ e → now ≡ overwrite (readingBytes (take e zs)) old → now ≡ overwrite (readingBytes zs) old
+put-ended zs e old now h s = s ∙ ap (λ (l : List ℤ). overwrite (readingBytes l) old) (take-all e zs h)

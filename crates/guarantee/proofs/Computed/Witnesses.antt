@@ -1,0 +1,127 @@
+-- The limits are reached: the claims of specs/Witnesses.antt, computed from the first readings to the last byte.
+-- Assumes nothing.
+use mathlib.Core.List.{[], _∷_}
+use mathlib.Core.Path.{_≡_, refl}
+use lib.Dec.{lit<}
+use lib.IntN.{pos}
+use Rattle.arithmetic.specs.Counting.{count, any, lowest, sum}
+use Rattle.arithmetic.specs.Writing.{table, overwrite}
+use Rattle.model.specs.RoundSheet.{word, entryCount, entryAt, bytes4, readingBytes, sizeBytes, sheetBytes}
+use Rattle.model.specs.AnswerSheet.{answerHeader, answerBytes}
+use Rattle.model.specs.Steps.{decide, readingsOf, accepted, acceptedAt, numbered, averageOf, medianOf, midpointOf}
+use Rattle.model.specs.Steps.{estimate, mean, roundOf, roundAt}
+use Rattle.model.specs.Planner.{ceilDiv, windowFactor, nextWindow, growth, advance}
+use Rattle.model.specs.Refusals.{firstOf, tooShort, badCabinets, badFaults, badMethod, badWindow, badLength, noRoom}
+use Rattle.model.specs.Refusals.{badMark, badMissing, tooManyFaults, badPlan, settingsChecks, sheetChecks, entryChecks}
+use Rattle.model.specs.Refusals.{writeChecks, settleChecks, planChecks, stepChecks}
+use Rattle.model.specs.Calls.{write, settle, step}
+use Rattle.guarantee.specs.Guarantee.{Station, State, Sends, heard, entryOf, sheetOf, settled, next}
+use Rattle.guarantee.specs.Witnesses.{below, listed, Meets, wideStation, wideSends, WideReached}
+use Rattle.guarantee.specs.Witnesses.{closeStation, closeSends, CloseReached}
+use Rattle.guarantee.specs.Witnesses.{medianStation, medianSends, MedianReached}
+use Rattle.guarantee.specs.Witnesses.{averageStation, averageSends, AverageReached}
+use Rattle.guarantee.specs.Witnesses.{mixedStation, mixedSends, MixedRefused}
+use Rattle.guarantee.specs.Witnesses.{directStation, directFirst, directSecond, directNext, DirectRounds}
+use Rattle.guarantee.specs.Witnesses.{crusadersStation, crusadersFirst, crusadersSecond, crusadersNext}
+use Rattle.guarantee.specs.Witnesses.{CrusadersRounds}
+use Rattle.guarantee.proofs.Computed.Tested.{sends-tested, meets-tested}
+
+-- a round, with all that it computes by: whoever unfolds it unfolds its line
+computed : Station → State → Sends → State
+unfolding count any lowest sum table overwrite
+    word entryCount entryAt bytes4 readingBytes sizeBytes sheetBytes answerHeader answerBytes
+    decide readingsOf accepted acceptedAt numbered averageOf medianOf midpointOf estimate mean roundOf roundAt
+    ceilDiv windowFactor nextWindow growth advance
+    firstOf tooShort badCabinets badFaults badMethod badWindow badLength noRoom badMark badMissing tooManyFaults badPlan
+    settingsChecks sheetChecks entryChecks writeChecks settleChecks planChecks stepChecks
+    write settle step heard entryOf sheetOf settled next listed
+computed = next
+
+-- ---- m < t < N-m
+
+wide-meets : Meets wideStation (wideSends ∷ []) (below 4) (pos 0)
+unfolding wideStation wideSends
+wide-meets =
+    meets-tested _ _ _ _ _ _ _ (unfold computed in (refl, refl, refl, refl))
+    (sends-tested wideStation _ _ refl, tt)
+
+pub wide-reached : WideReached
+unfolding computed wideStation wideSends
+wide-reached = record { meets = wide-meets; counts = refl; values = refl; widest = refl; farthest = refl }
+
+-- ---- t ≤ m
+
+close-meets : Meets closeStation (closeSends ∷ []) (below 3) (pos 0)
+unfolding closeStation closeSends
+close-meets =
+    meets-tested _ _ _ _ _ _ _ (unfold computed in (refl, refl, refl, refl))
+    (sends-tested closeStation _ _ refl, tt)
+
+pub close-reached : CloseReached
+unfolding computed closeStation closeSends
+close-reached = record { meets = close-meets; counts = refl; values = refl; widest = refl; farthest = refl }
+
+median-meets : Meets medianStation (medianSends ∷ []) (below 3) (pos 0)
+unfolding medianStation medianSends
+median-meets =
+    meets-tested _ _ _ _ _ _ _ (unfold computed in (refl, refl, refl, refl))
+    (sends-tested medianStation _ _ refl, tt)
+
+pub median-reached : MedianReached
+unfolding computed medianStation medianSends
+median-reached = record { meets = median-meets; counts = refl; values = refl; widest = refl }
+
+average-meets : Meets averageStation (averageSends ∷ []) (below 3) (pos 1)
+unfolding averageStation averageSends
+average-meets =
+    meets-tested _ _ _ _ _ _ _ (unfold computed in (refl, refl, refl, refl))
+    (sends-tested averageStation _ _ refl, tt)
+
+pub average-reached : AverageReached
+unfolding computed averageStation averageSends
+average-reached = record { meets = average-meets; counts = refl; values = refl; widest = refl; above = lit< tt }
+
+-- ---- what t counts
+
+mixed-meets : Meets mixedStation (mixedSends ∷ []) (below 2) (pos 0)
+unfolding mixedStation mixedSends
+mixed-meets =
+    meets-tested _ _ _ _ _ _ _ (unfold computed in (refl, refl, refl, refl))
+    (sends-tested mixedStation _ _ refl, tt)
+
+pub mixed-refused : MixedRefused
+unfolding computed mixedStation mixedSends
+mixed-refused = record { meets = mixed-meets; counts = refl; faulty = refl; refuses = refl }
+
+-- ---- two rounds
+
+direct-meets : Meets directStation (directFirst ∷ directSecond ∷ []) (below 3) (pos 0)
+unfolding directStation directFirst directSecond
+direct-meets =
+    meets-tested _ _ _ _ _ _ _ (unfold computed in (refl, refl, refl, refl))
+    (sends-tested directStation _ _ refl, (sends-tested directStation _ _ refl, tt))
+
+pub direct-rounds : DirectRounds
+unfolding computed directStation directFirst directSecond directNext
+direct-rounds =
+    record { meets = direct-meets; counts = refl; first = refl; second = refl; widest = refl; repeated = refl }
+
+crusaders-meets : Meets crusadersStation (crusadersFirst ∷ crusadersSecond ∷ []) (below 3) (pos 0)
+unfolding crusadersStation crusadersFirst crusadersSecond
+crusaders-meets =
+    meets-tested _ _ _ _ _ _ _ (unfold computed in (refl, refl, refl, refl))
+    (sends-tested crusadersStation _ _ refl, (sends-tested crusadersStation _ _ refl, tt))
+
+pub crusaders-rounds : CrusadersRounds
+unfolding computed crusadersStation crusadersFirst crusadersSecond crusadersNext
+crusaders-rounds =
+    record {
+      meets = crusaders-meets;
+      counts = refl;
+      first = refl;
+      widest = refl;
+      farthest = refl;
+      second = refl;
+      limit = refl;
+      repeated = refl;
+    }

@@ -1,0 +1,67 @@
+-- What a cabinet reads in a round, moved up into the naturals: its round is the round of those naturals, moved down, and 32 bits hold
+-- its new value.
+-- Assumes nothing.
+use mathlib.Core.Bool.{Bool, true}
+use mathlib.Core.Path.{_≡_, refl, sym, ap, _∙_, subst, subst⁻¹}
+use Prim.Native.Nat.{ℕ, suc, _+_, _-_, _≤_, _<_, zero-le}
+use native.Mathlib.Nat.{lt-of-lt-of-le, le-refl}
+use native.Mathlib.Omega.{arith}
+use lib.IntN.{ℤ, pos, negsuc}
+use lib.Signed.{mag}
+use mir.Syntax.{w32}
+use mir.Val.{SFits}
+use Rattle.arithmetic.specs.Counting.{count}
+use Rattle.arithmetic.proofs.Biased.{bias}
+use Rattle.arithmetic.proofs.Shift.{down, up}
+use Rattle.model.specs.declared.Settings.{Settings}
+use Rattle.model.specs.Ensemble.{Reading, missing, present, Readings, isPresent, ticks}
+use Rattle.model.specs.Steps.{Round, roundOf}
+use Rattle.rounds.proofs.Local.{Agree}
+use Rattle.rounds.proofs.Natural.{round-count, round-value}
+use Rattle.rounds.proofs.Represent.{shift-raise}
+use Rattle.rounds.proofs.Shifted.{shifted}
+use Rattle.limits.proofs.Settled.{Received, accepts, valueOf, value-within}
+use Rattle.guarantee.specs.Guarantee.{IsReading}
+use Rattle.guarantee.proofs.Distances.{down-fits, fits-mag}
+
+reading-mag : (y : Reading) → IsReading y → mag (ticks y) < bias
+reading-mag missing i = omega arith
+reading-mag (present z) i = fits-mag z i
+
+up-small : (y : Reading) → IsReading y → up bias (ticks y) < 4_294_967_296
+unfolding up
+up-small missing i = omega arith
+up-small (present (pos a)) i = let h = fits-mag (pos a) i in omega arith
+up-small (present (negsuc a)) i = omega arith
+
+module _ (c : Settings) (v : Readings) (reads : (r : ℕ) → r < c .n → IsReading (v r)) where
+  -- the readings v moved up by k
+  abbrev pub received : ℕ → Received
+  received k = record { pres = λ r. isPresent (v r); x = λ r. up k (ticks (v r)); k = k; kind = c .estimator }
+
+  represented : (k : ℕ) → bias ≤ k → Agree (c .n) v (shifted k (λ r. isPresent (v r)) (λ r. up k (ticks (v r))))
+  represented k h r l = sym (shift-raise k (v r) (lt-of-lt-of-le (reading-mag (v r) (reads r l)) h))
+
+  pub received-count : (k : ℕ) → bias ≤ k → roundOf c v .count ≡ count (accepts (c .n) (c .m) (c .window) (received k)) (c .n)
+  received-count k h = round-count c (λ r. isPresent (v r)) (λ r. up k (ticks (v r))) v k (represented k h)
+
+  pub received-value : (k : ℕ) → bias ≤ k → 0 < c .n → 0 < roundOf c v .count → roundOf c v .value ≡ down k (valueOf (c .n) (c .m) (c .window) (received k))
+  received-value k h some-n some-acc =
+      round-value c (λ r. isPresent (v r)) (λ r. up k (ticks (v r))) v k (represented k h) some-n
+      (subst (λ (a : ℕ). 0 < a) (received-count k h) some-acc)
+
+  pub value-fits : 0 < c .n → 0 < roundOf c v .count → SFits w32 (roundOf c v .value)
+  value-fits some-n some-acc =
+      subst⁻¹ (SFits w32) (received-value bias (le-refl bias) some-n some-acc)
+      (down-fits (valueOf (c .n) (c .m) (c .window) (received bias)) (below (valueOf (c .n) (c .m) (c .window) (received bias)) bound))
+    where
+      bound : valueOf (c .n) (c .m) (c .window) (received bias) ≤ 4_294_967_295
+      bound =
+          value-within (c .n) (c .m) (c .window) (received bias) 0 4_294_967_295 some-n
+          (subst (λ (a : ℕ). 0 < a) (received-count bias (le-refl bias)) some-acc)
+          (λ r l e. zero-le)
+          (λ r l e. let u = up-small (v r) (reads r l) in omega arith)
+          .high
+
+      below : (a : ℕ) → a ≤ 4_294_967_295 → a < 4_294_967_296
+      below a h = omega arith

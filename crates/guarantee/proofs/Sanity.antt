@@ -1,0 +1,55 @@
+-- The theorems are not empty: `guarantee` and `regulators-case` apply to runs of specs/Witnesses.antt, of which all
+-- their hypotheses hold.
+-- Assumes nothing.
+use mathlib.Core.Bool.{Bool}
+use mathlib.Core.List.{List, [], _∷_}
+use mathlib.Core.Path.{_≡_, refl}
+use Prim.Native.Nat.{ℕ}
+use lib.Dec.{lit<, lit≤}
+use lib.IntN.{ℤ, pos}
+use Rattle.guarantee.specs.Guarantee.{Station, Sends, start, Every, First, Close, Wide, Guarantee}
+use Rattle.guarantee.specs.Regulator.{SevenPlannedForTwo, ThreeBad}
+use Rattle.guarantee.specs.Witnesses.{Meets, below, wideStation, wideSends}
+use Rattle.guarantee.specs.Witnesses.{directStation, directFirst, directSecond}
+use Rattle.guarantee.specs.Witnesses.{crusadersStation, crusadersFirst, crusadersSecond}
+use Rattle.guarantee.proofs.Guarantee.{guarantee}
+use Rattle.guarantee.proofs.Regulator.{regulators-case}
+use Rattle.guarantee.proofs.Computed.Witnesses.{wide-reached, direct-rounds, crusaders-rounds}
+
+promised :
+    (st : Station) (rounds : List Sends) (good : ℕ → Bool) (truth : ℤ)
+    → Meets st rounds good truth → Guarantee st rounds good truth
+promised st rounds good truth m = guarantee st (m .starts) rounds (m .most) (m .allowed) good truth (m .goodness)
+
+-- two rounds, at most m bad
+pub direct-promised :
+    Every directStation (Close directStation (pos 0)) (start directStation) (directFirst ∷ directSecond ∷ [])
+direct-promised =
+    promised directStation (directFirst ∷ directSecond ∷ []) (below 3) (pos 0) (direct-rounds .meets) .few
+    (rw (direct-rounds .counts) (unfold directStation in lit≤ tt))
+
+pub crusaders-promised :
+    Every
+    crusadersStation
+    (Close crusadersStation (pos 0))
+    (start crusadersStation)
+    (crusadersFirst ∷ crusadersSecond ∷ [])
+crusaders-promised =
+    promised crusadersStation (crusadersFirst ∷ crusadersSecond ∷ []) (below 3) (pos 0) (crusaders-rounds .meets) .few
+    (rw (crusaders-rounds .counts) (unfold crusadersStation in lit≤ tt))
+
+-- three of seven bad
+pub wide-promised : First (Wide wideStation 3 (pos 0)) (start wideStation) (wideSends ∷ [])
+wide-promised =
+    rw (wide-reached .counts) at
+    (promised wideStation (wideSends ∷ []) (below 4) (pos 0) (wide-reached .meets) .many
+    (rw (wide-reached .counts) (unfold wideStation in lit< tt))
+    (rw (wide-reached .counts) (unfold wideStation in lit< tt)))
+
+pub wide-answered : First (ThreeBad wideStation (pos 0)) (start wideStation) (wideSends ∷ [])
+wide-answered =
+    let m : Meets wideStation (wideSends ∷ []) (below 4) (pos 0) = wide-reached .meets in
+    let seven : SevenPlannedForTwo wideStation = unfold wideStation in record { seven = refl; two = refl } in
+    regulators-case
+    wideStation seven (m .starts) (wideSends ∷ []) (m .most) (m .allowed) (below 4) (pos 0) (m .goodness)
+    .three (wide-reached .counts)

@@ -1,0 +1,75 @@
+-- `inspection::bad_missing` meets its contract. The loop's invariant: no entry passed is at fault. The measure is what is left of the marks.
+-- Assumes nothing.
+use mathlib.Core.Option.{none}
+use mathlib.Core.Path.{_≡_, sym, _∙_}
+use Prim.Native.Nat.{_*_, _-_, _≤_}
+use native.Mathlib.Omega.{arith}
+use lib.ListN.{length}
+use Rattle.arithmetic.specs.Counting.{lowest}
+use Rattle.model.specs.RoundSheet.{byte, word}
+use Rattle.sheets.specs.Entries.{notZero}
+use Rattle.sheets.proofs.Searching.{search-none, search-more, search-found, search-ended}
+use Rattle.inspection.proofs.bad_missing.Statement.{statement}
+use Rattle.inspection.proofs.bad_missing.Tie as tie
+
+abbrev Inv-entries : tie.InvT-entries
+Inv-entries marks readings entry₀ entry = (entry ≤ length marks) × (lowest (λ i. notZero (byte marks i) (word readings (4 * i))) entry ≡ none)
+
+abbrev μ-entries : tie.MeasureT-entries
+μ-entries marks readings entry₀ entry = length marks - entry
+
+entries-holds : tie.Need-entries-holds Inv-entries μ-entries
+entries-holds c =
+    (omega arith, search-none (λ i. notZero (byte (c .before .before .args .marks .now) i) (word (c .before .before .args .readings .now) (4 * i))))
+
+not-zero-requires : tie.Need-not-zero-requires Inv-entries μ-entries
+not-zero-requires c κs = (c .before .before .before .before .pre, c .entries-test .taken)
+
+returns : tie.Need-returns Inv-entries μ-entries
+returns c =
+    sym
+    (search-found (λ i. notZero (byte (c .before .before .before .before .before .before .args .marks .now) i) (word (c .before .before .before .before .before .before .args .readings .now) (4 * i)))
+    (length (c .before .before .before .before .before .before .args .marks .now))
+    (c .before .before .before .entries .entry)
+    (omega arith)
+    (c .before .before .before .entries .inv .1)
+    (sym (c .before .not-zero .ensures) ∙ c .if1 .taken))
+
+add-entry : tie.Need-add-entry Inv-entries μ-entries
+add-entry c = omega arith
+
+entries-less : tie.Need-entries-less Inv-entries μ-entries
+entries-less c = omega arith
+
+entries-again : tie.Need-entries-again Inv-entries μ-entries
+entries-again c = (
+  omega arith,
+  search-more (λ i. notZero (byte (c .before .before .before .before .before .before .args .marks .now) i) (word (c .before .before .before .before .before .before .args .readings .now) (4 * i)))
+      (c .before .before .before .entries .entry)
+      (c .before .before .before .entries .inv .1)
+      (sym (c .before .not-zero .ensures) ∙ c .if1 .left),
+)
+
+returns-2 : tie.Need-returns-2 Inv-entries μ-entries
+returns-2 c =
+    sym
+    (search-ended (λ i. notZero (byte (c .before .before .before .before .args .marks .now) i) (word (c .before .before .before .before .args .readings .now) (4 * i)))
+    (length (c .before .before .before .before .args .marks .now))
+    (c .before .entries .entry)
+    (c .before .entries .inv .0)
+    (c .entries-test .left)
+    (c .before .entries .inv .1))
+
+pub bad-missing-spec : {M : Type 1} → statement M
+bad-missing-spec =
+    tie.close
+    (tie.spec
+    Inv-entries
+    μ-entries
+    entries-holds
+    not-zero-requires
+    returns
+    add-entry
+    entries-less
+    entries-again
+    returns-2)

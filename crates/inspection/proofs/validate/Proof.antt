@@ -1,0 +1,79 @@
+-- `inspection::validate` meets its contract: what `inspect` and `check_entries` answer says which check refuses first.
+-- Assumes nothing.
+use borrow.Author.Needs.{needs}
+use mathlib.Core.Path.{_≡_, sym, ap, _∙_}
+use Prim.Native.Nat.{ℕ, _+_, _*_}
+use Rattle.ensemble.specs.Answers.{rowOf}
+use Rattle.model.specs.RoundSheet.{settingsAt, entryCount}
+use Rattle.model.specs.Refusals.{firstOf, sheetChecks}
+use Rattle.inspection.specs.Answers.{openedAs}
+use Rattle.sheets.proofs.Outcomes.{refused-some}
+use Rattle.sheets.proofs.Inspection.{Inspected, inspected, first-refused, entries-refused, validation-passes}
+use Rattle.inspection.proofs.validate.Statement.{statement}
+use Rattle.inspection.proofs.validate.Tie as tie
+
+-- what `inspect` granted
+seen : (c : tie.After-entry-count) → Inspected (c .before .before .before .before .before .before .args .sheet .now) (c .before .before .settings .given .0 .0)
+seen c =
+    inspected (c .before .before .before .before .before .before .args .sheet .now) (c .before .before .settings .given .0 .0)
+    (sym (c .before .before .before .before .inspect .ensures) ∙ ap openedAs (c .before .before .settings .given .1))
+
+inspect-requires : tie.Need-inspect-requires
+inspect-requires c κs = search needs
+
+enum-known-r : tie.Need-enum-known-r
+enum-known-r c = search needs
+
+enum-known-settings : tie.Need-enum-known-settings
+enum-known-settings c = search needs
+
+entry-count-requires : tie.Need-entry-count-requires
+entry-count-requires c κs = search needs
+
+check-entries-requires : tie.Need-check-entries-requires
+check-entries-requires c κs =
+    let i = seen c in
+    let e : c .entry-count .result ≡ entryCount (c .before .before .settings .given .0 .0) = c .entry-count .ensures in
+    (i .long ∙ ap (λ (k : ℕ). 8 + 5 * k) (sym e), rw e (i .few))
+
+enum-known-r-2 : tie.Need-enum-known-r-2
+enum-known-r-2 c = search needs
+
+enum-told : tie.Need-enum-told
+enum-told c = search needs
+
+returns : tie.Need-returns
+returns c =
+    first-refused (c .before .before .before .before .before .args .sheet .now) (c .before .r .given .0 .0)
+    (refused-some (firstOf (sheetChecks (c .before .before .before .before .before .args .sheet .now))) (settingsAt (c .before .before .before .before .before .args .sheet .now)) (c .before .r .given .0 .0)
+    (sym (c .before .before .before .inspect .ensures) ∙ ap openedAs (c .before .r .given .1)))
+
+returns-2 : tie.Need-returns-2
+returns-2 c =
+    entries-refused (c .before .before .before .before .before .before .before .before .before .before .args .sheet .now) (seen (c .before .before .before .before) .passes) (c .before .before .before .before .entry-count .result)
+    (c .before .before .before .before .entry-count .ensures ∙ ap entryCount (sym (seen (c .before .before .before .before) .settings)))
+    (c .before .r2 .given .0 .0)
+    (sym (c .before .before .before .check-entries .ensures) ∙ ap rowOf (c .before .r2 .given .1))
+
+returns-3 : tie.Need-returns-3
+returns-3 c =
+    validation-passes (c .before .before .before .before .before .before .before .before .before .args .sheet .now) (seen (c .before .before .before) .passes) (c .before .before .before .entry-count .result)
+    (c .before .before .before .entry-count .ensures ∙ ap entryCount (sym (seen (c .before .before .before) .settings)))
+    (c .before .before .before .before .before .settings .given .0 .0)
+    (sym (seen (c .before .before .before) .settings))
+    (sym (c .before .before .check-entries .ensures) ∙ ap rowOf (c .enum-told .given .1))
+
+pub validate-spec : {M : Type 1} → statement M
+validate-spec =
+    tie.close
+    (tie.spec
+    inspect-requires
+    enum-known-r
+    enum-known-settings
+    entry-count-requires
+    check-entries-requires
+    enum-known-r-2
+    enum-told
+    returns
+    returns-2
+    returns-3)

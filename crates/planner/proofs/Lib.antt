@@ -1,0 +1,4 @@
+mod Shares
+mod Rows
+mod Turns
+mod Fresh

@@ -1,0 +1,27 @@
+-- `planner::check_all` meets its contract: the rows of the settings come first, and then row 11.
+-- Assumes nothing.
+use borrow.Author.Needs.{needs}
+use mathlib.Core.Path.{sym, ap₂, _∙_}
+use Rattle.model.specs.Refusals.{orNext, badPlan, settingsChecks}
+use Rattle.planning.proofs.Checks.{first-of-snoc}
+use Rattle.planner.proofs.check_all.Statement.{statement}
+use Rattle.planner.proofs.check_all.Tie as tie
+
+screen-requires : tie.Need-screen-requires
+screen-requires c κs = search needs
+
+check-plan-requires : tie.Need-check-plan-requires
+check-plan-requires c κs = search needs
+
+first-of-requires : tie.Need-first-of-requires
+first-of-requires c κs = search needs
+
+returns : tie.Need-returns
+returns c =
+    let a = c .before .before .before .args in
+    c .first-of .ensures
+    ∙ ap₂ orNext (c .before .before .screen .ensures) (c .before .check-plan .ensures)
+    ∙ sym (first-of-snoc (settingsChecks (a .settings)) (badPlan (a .fails)))
+
+pub check-all-spec : {M : Type 1} → statement M
+check-all-spec = tie.close (tie.spec screen-requires check-plan-requires first-of-requires returns)

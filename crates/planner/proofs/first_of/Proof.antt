@@ -1,0 +1,20 @@
+-- `planner::first_of` meets its contract: each arm is a case of `orNext`.
+-- Assumes nothing.
+use borrow.Author.Needs.{needs}
+use Rattle.planner.proofs.first_of.Statement.{statement}
+use Rattle.planner.proofs.first_of.Tie as tie
+
+enum-told : tie.Need-enum-told
+enum-told c = search needs
+
+enum-known-row : tie.Need-enum-known-row
+enum-known-row c = search needs
+
+returns : tie.Need-returns
+returns c = search needs
+
+returns-2 : tie.Need-returns-2
+returns-2 c = rw (c .before .row .given .1)
+
+pub first-of-spec : {M : Type 1} → statement M
+first-of-spec = tie.close (tie.spec enum-told enum-known-row returns returns-2)

@@ -1,0 +1,72 @@
+-- `planner::reach` meets its contract. The invariant: at most 32 turns are done, and the plan is the start that many rounds on.
+-- The measure is what is left of 32.
+-- Assumes nothing.
+use mathlib.Core.Path.{_≡_, refl}
+use Prim.Native.Nat.{_-_, _≤_, zero-le}
+use native.Mathlib.Omega.{arith}
+use Rattle.model.specs.Planner.{planFrom, after}
+use Rattle.planning.proofs.Checks.{none-may-start}
+use Rattle.planner.specs.Answers.{planOf}
+use Rattle.planner.proofs.Turns.{no-turn, turn, turn-allowed, turn-missed, turn-reached}
+use Rattle.planner.proofs.reach.Statement.{statement}
+use Rattle.planner.proofs.reach.Tie as tie
+
+abbrev Inv-rounds : tie.InvT-rounds
+Inv-rounds target start k₀ reached k = (k ≤ 32) × (planOf reached ≡ after k (planFrom (start .settings) (start .accuracy)))
+
+abbrev μ-rounds : tie.MeasureT-rounds
+μ-rounds target start k₀ reached k = 32 - k
+
+rounds-holds : tie.Need-rounds-holds Inv-rounds μ-rounds
+rounds-holds c = (zero-le, no-turn (planOf (c .args .start)) (c .pre .1) refl)
+
+returns : tie.Need-returns Inv-rounds μ-rounds
+returns c =
+    let s = c .before .before .before .before in
+    let at = c .before .before .before .rounds in
+    turn-missed (s .args .start .settings) (s .args .start .accuracy) (at .k) (at .inv .1) (s .args .target) (s .pre .0)
+    (at .inv .0)
+    (omega arith)
+    (omega arith)
+
+advance-requires : tie.Need-advance-requires Inv-rounds μ-rounds
+advance-requires c κs =
+    let s = c .before .before .before .before in
+    let at = c .before .before .before .rounds in
+    turn-allowed (s .args .start .settings) (s .args .start .accuracy) (at .k) (at .inv .1) 0
+    (none-may-start (s .args .start .settings) (s .args .start .accuracy) 0 (s .pre .0))
+    (omega arith)
+
+add-k : tie.Need-add-k Inv-rounds μ-rounds
+add-k c = omega arith
+
+rounds-less : tie.Need-rounds-less Inv-rounds μ-rounds
+rounds-less c = omega arith
+
+rounds-again : tie.Need-rounds-again Inv-rounds μ-rounds
+rounds-again c =
+    let start = c .before .before .before .before .before .args .start in
+    let at = c .before .before .before .before .rounds in
+    (omega arith, turn (start .settings) (start .accuracy) (at .k) (at .inv .1) (c .advance .ensures) (omega arith))
+
+returns-2 : tie.Need-returns-2 Inv-rounds μ-rounds
+returns-2 c =
+    let s = c .before .before .before in
+    let at = c .before .before .rounds in
+    turn-reached (s .args .start .settings) (s .args .start .accuracy) (at .k) (at .inv .1) (s .args .target) (s .pre .0)
+    (at .inv .0)
+    (omega arith)
+
+pub reach-spec : {M : Type 1} → statement M
+reach-spec =
+    tie.close
+    (tie.spec
+    Inv-rounds
+    μ-rounds
+    rounds-holds
+    returns
+    advance-requires
+    add-k
+    rounds-less
+    rounds-again
+    returns-2)

@@ -1,0 +1,34 @@
+-- Laws of the quotient rounded up.
+-- Assumes nothing.
+use Prim.Native.Nat.{ℕ, suc, _+_, _*_, _-_, _/_, _≤_, _<_}
+use native.Mathlib.Nat.{div-lt-iff-lt-mul, lt-div-mul-add, div-mul-le-self, le-trans, suc-mul, mul-le-mul-left, mul-one}
+use native.Mathlib.Omega.{arith}
+use Rattle.model.specs.Planner.{ceilDiv}
+
+module _ (n : ℕ) (h : 0 < n) where
+  -- the quotient rounded up covers the dividend
+  pub ceil-div-covers : (a : ℕ) → a ≤ ceilDiv a n * n
+  unfolding ceilDiv
+  ceil-div-covers a = omega (arith, lt-div-mul-add {a = a + (n - 1)} h)
+
+  -- and is the least number that does
+  pub ceil-div-least : {a k : ℕ} → a ≤ k * n → ceilDiv a n ≤ k
+  unfolding ceilDiv
+  ceil-div-least {a} {k} l =
+      let e = suc-mul k n in
+      let below : (a + (n - 1)) / n < suc k = div-lt-iff-lt-mul h .1 (omega arith) in
+      omega arith
+
+  -- it passes the dividend by less than one divisor
+  pub ceil-div-near : (a : ℕ) → ceilDiv a n * n < a + n
+  unfolding ceilDiv
+  ceil-div-near a = omega (arith, div-mul-le-self (a + (n - 1)) n)
+
+  pub ceil-div-mono : {a b : ℕ} → a ≤ b → ceilDiv a n ≤ ceilDiv b n
+  ceil-div-mono {b} l = ceil-div-least (le-trans l (ceil-div-covers b))
+
+  pub ceil-div-le : (a : ℕ) → ceilDiv a n ≤ a
+  ceil-div-le a =
+      let e = mul-one a in
+      let l : a * 1 ≤ a * n = mul-le-mul-left a h in
+      ceil-div-least (omega arith)

@@ -1,0 +1,69 @@
+-- `sheet::open` meets its contract: what `inspect` and `validate` answer, and the lengths, say which of checks 1 to 9 refuses first.
+-- Assumes nothing.
+use borrow.Author.Needs.{needs}
+use mathlib.Core.Path.{sym, ap, _∙_}
+use Rattle.model.specs.RoundSheet.{settingsAt}
+use Rattle.model.specs.Refusals.{firstOf, sheetChecks}
+use Rattle.inspection.specs.Answers.{openedAs}
+use Rattle.sheets.proofs.Outcomes.{refused-some}
+use Rattle.sheets.proofs.Inspection.{Inspected, inspected}
+use Rattle.sheets.proofs.Opening.{opening-refused, short-marks, short-readings, opening-validated}
+use Rattle.sheet.proofs.open.Statement.{statement}
+use Rattle.sheet.proofs.open.Tie as tie
+
+-- what `inspect` granted
+seen : (c : tie.After-entry-count) → Inspected (c .before .before .before .before .before .before .args .sheet .now) (c .before .before .settings .given .0 .0)
+seen c =
+    inspected (c .before .before .before .before .before .before .args .sheet .now) (c .before .before .settings .given .0 .0)
+    (sym (c .before .before .before .before .inspect .ensures) ∙ ap openedAs (c .before .before .settings .given .1))
+
+inspect-requires : tie.Need-inspect-requires
+inspect-requires c κs = search needs
+
+enum-known-r : tie.Need-enum-known-r
+enum-known-r c = search needs
+
+enum-known-settings : tie.Need-enum-known-settings
+enum-known-settings c = search needs
+
+entry-count-requires : tie.Need-entry-count-requires
+entry-count-requires c κs = search needs
+
+returns : tie.Need-returns
+returns c =
+    short-marks (c .before .before .before .before .before .before .before .args .sheet .now) (c .before .before .before .before .before .before .before .args .marks) (c .before .before .before .before .before .before .before .args .readings) (c .before .before .before .settings .given .0 .0) (seen (c .before))
+    (c .before .entry-count .result) (c .before .entry-count .ensures) (c .if1 .taken)
+
+returns-2 : tie.Need-returns-2
+returns-2 c =
+    short-readings (c .before .before .before .before .before .before .before .before .args .sheet .now) (c .before .before .before .before .before .before .before .before .args .marks) (c .before .before .before .before .before .before .before .before .args .readings) (c .before .before .before .before .settings .given .0 .0) (seen (c .before .before))
+    (c .before .before .entry-count .result) (c .before .before .entry-count .ensures) (c .before .if1 .left) (c .if2 .taken)
+
+validate-requires : tie.Need-validate-requires
+validate-requires c κs = search needs
+
+returns-3 : tie.Need-returns-3
+returns-3 c =
+    opening-refused (c .before .before .before .before .before .args .sheet .now) (c .before .before .before .before .before .args .marks) (c .before .before .before .before .before .args .readings) (c .before .r .given .0 .0)
+    (refused-some (firstOf (sheetChecks (c .before .before .before .before .before .args .sheet .now))) (settingsAt (c .before .before .before .before .before .args .sheet .now)) (c .before .r .given .0 .0)
+    (sym (c .before .before .before .inspect .ensures) ∙ ap openedAs (c .before .r .given .1)))
+
+returns-4 : tie.Need-returns-4
+returns-4 c =
+    c .validate .ensures
+    ∙ opening-validated (c .before .before .before .before .before .before .before .before .before .args .sheet .now) (c .before .before .before .before .before .before .before .before .before .args .marks) (c .before .before .before .before .before .before .before .before .before .args .readings) (c .before .before .before .before .before .settings .given .0 .0) (seen (c .before .before .before))
+    (c .before .before .before .entry-count .result) (c .before .before .before .entry-count .ensures) (c .before .before .if1 .left) (c .before .if2 .left)
+
+pub open-spec : {M : Type 1} → statement M
+open-spec =
+    tie.close
+    (tie.spec
+    inspect-requires
+    enum-known-r
+    enum-known-settings
+    entry-count-requires
+    returns
+    returns-2
+    validate-requires
+    returns-3
+    returns-4)

@@ -1,0 +1,76 @@
+-- `sheet_writer::check_arrays` meets its contract: what the two searches find says whether check 8 or check 9 refuses.
+-- Assumes nothing.
+use borrow.Author.Needs.{needs}
+use mathlib.Core.Path.{sym, ap, _∙_}
+use native.Mathlib.Omega.{arith}
+use lib.Dec.{ltb}
+use lib.IntN.{pos}
+use lib.ListN.{length, getD}
+use mir.Syntax.{w32}
+use mir.Val.{ofZ}
+use Rattle.arithmetic.proofs.Counting.{lowest-found}
+use Rattle.model.specs.RoundSheet.{byte}
+use Rattle.inspection.specs.Answers.{foundAs}
+use Rattle.sheets.specs.Entries.{notZero}
+use Rattle.sheets.proofs.Filling.{array-mark-refused, array-missing-refused, arrays-pass}
+use Rattle.sheet_writer.proofs.check_arrays.Statement.{statement}
+use Rattle.sheet_writer.proofs.check_arrays.Tie as tie
+
+bad-mark-requires : tie.Need-bad-mark-requires
+bad-mark-requires c κs = search needs
+
+enum-known-e : tie.Need-enum-known-e
+enum-known-e c = search needs
+
+cast-t7 : tie.Need-cast-t7
+cast-t7 c =
+    let small = lowest-found (λ i. ltb 1 (byte (c .before .before .before .before .before .args .marks .now) i)) (length (c .before .before .before .before .before .args .marks .now)) (c .before .e .given .0 .0) (sym (c .before .before .before .bad-mark .ensures) ∙ ap foundAs (c .before .e .given .1)) .inRange in
+    omega arith
+
+enum-told : tie.Need-enum-told
+enum-told c = search needs
+
+bad-missing-requires : tie.Need-bad-missing-requires
+bad-missing-requires c κs = search needs
+
+enum-known-e-2 : tie.Need-enum-known-e-2
+enum-known-e-2 c = search needs
+
+cast-t11 : tie.Need-cast-t11
+cast-t11 c =
+    let small = lowest-found (λ i. notZero (byte (c .before .before .before .before .before .before .before .before .args .marks .now) i) (ofZ w32 (getD (c .before .before .before .before .before .before .before .before .args .readings .now) i (pos 0)))) (length (c .before .before .before .before .before .before .before .before .args .marks .now)) (c .before .e2 .given .0 .0) (sym (c .before .before .before .bad-missing .ensures) ∙ ap foundAs (c .before .e2 .given .1)) .inRange in
+    omega arith
+
+enum-told-2 : tie.Need-enum-told-2
+enum-told-2 c = search needs
+
+returns : tie.Need-returns
+returns c =
+    array-mark-refused (c .before .before .before .before .before .args .marks .now) (c .before .before .before .before .before .args .readings .now) (length (c .before .before .before .before .before .args .marks .now)) (c .before .e .given .0 .0)
+    (sym (c .before .before .before .bad-mark .ensures) ∙ ap foundAs (c .before .e .given .1))
+
+returns-2 : tie.Need-returns-2
+returns-2 c =
+    array-missing-refused (c .before .before .before .before .before .before .before .before .args .marks .now) (c .before .before .before .before .before .before .before .before .args .readings .now) (length (c .before .before .before .before .before .before .before .before .args .marks .now)) (sym (c .before .before .before .before .before .before .bad-mark .ensures) ∙ ap foundAs (c .before .before .before .before .enum-told .given .1))
+    (c .before .e2 .given .0 .0) (sym (c .before .before .before .bad-missing .ensures) ∙ ap foundAs (c .before .e2 .given .1))
+
+returns-3 : tie.Need-returns-3
+returns-3 c =
+    arrays-pass (c .before .before .before .before .before .before .before .args .marks .now) (c .before .before .before .before .before .before .before .args .readings .now) (length (c .before .before .before .before .before .before .before .args .marks .now)) (sym (c .before .before .before .before .before .bad-mark .ensures) ∙ ap foundAs (c .before .before .before .enum-told .given .1))
+    (sym (c .before .before .bad-missing .ensures) ∙ ap foundAs (c .enum-told2 .given .1))
+
+pub check-arrays-spec : {M : Type 1} → statement M
+check-arrays-spec =
+    tie.close
+    (tie.spec
+    bad-mark-requires
+    enum-known-e
+    cast-t7
+    enum-told
+    bad-missing-requires
+    enum-known-e-2
+    cast-t11
+    enum-told-2
+    returns
+    returns-2
+    returns-3)

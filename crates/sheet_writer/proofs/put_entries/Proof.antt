@@ -1,0 +1,45 @@
+-- `sheet_writer::put_entries` meets its contract: the tail behind the marks is written with the readings.
+-- Assumes nothing.
+use borrow.Author.Needs.{needs}
+use mathlib.Core.Path.{sym, _∙_}
+use Rattle.model.specs.RoundSheet.{readingBytes}
+use Rattle.sheets.proofs.Storing.{tail-written, copy-overwrites}
+use Rattle.sheet_writer.proofs.put_entries.Statement.{statement}
+use Rattle.sheet_writer.proofs.put_entries.Tie as tie
+
+copy-requires : tie.Need-copy-requires
+copy-requires c κs = search needs
+
+sub-put-readings : tie.Need-sub-put-readings
+sub-put-readings c = search needs
+
+part-put-readings-start : tie.Need-part-put-readings-start
+part-put-readings-start c = search needs
+
+part-put-readings-end : tie.Need-part-put-readings-end
+part-put-readings-end c = search needs
+
+put-readings-requires : tie.Need-put-readings-requires
+put-readings-requires c κs = search needs
+
+same-length : tie.Need-same-length
+same-length c = search needs
+
+returns : tie.Need-returns
+returns c =
+    tail-written (c .before .before .before .before .before .before .before .before .before .before .args .marks .now) (readingBytes (c .before .before .before .before .before .before .before .before .before .before .args .readings .now)) (c .before .before .before .before .before .before .before .before .before .before .args .buffer .now) (c .before .before .before .before .before .before .copy .last .1 .0) (c .before .before .put-readings .last .1 .0)
+    (c .before .before .before .before .before .before .copy .result) (sym (c .before .before .before .before .before .before .copy .ensures .0))
+    (c .before .before .before .before .before .before .copy .ensures .1 ∙ copy-overwrites (c .before .before .before .before .before .before .before .before .before .before .args .marks .now) (c .before .before .before .before .before .before .before .before .before .before .args .buffer .now))
+    (c .before .before .put-readings .ensures)
+
+pub put-entries-spec : {M : Type 1} → statement M
+put-entries-spec =
+    tie.close
+    (tie.spec
+    copy-requires
+    sub-put-readings
+    part-put-readings-start
+    part-put-readings-end
+    put-readings-requires
+    same-length
+    returns)

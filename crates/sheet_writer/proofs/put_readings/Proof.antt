@@ -1,0 +1,81 @@
+-- `sheet_writer::put_readings` meets its contract. The loop's invariant: the readings passed are stored, and later bytes are as they were.
+-- The measure is the number of readings left. Assumes nothing.
+use mathlib.Core.Path.{_≡_, refl, ap, _∙_}
+use mir.Syntax.{w32}
+use mir.Val.{ofZ}
+use Prim.Native.Nat.{_-_, _≤_}
+use native.Mathlib.Omega.{arith}
+use lib.IntN.{pos}
+use lib.ListN.{length, getD, take}
+use Rattle.arithmetic.specs.Writing.{overwrite}
+use Rattle.model.specs.RoundSheet.{readingBytes}
+use Rattle.sheets.proofs.Readings.{bits-again}
+use Rattle.sheets.proofs.Storing.{put-none, put-next, put-ended}
+use Rattle.sheet_writer.proofs.put_readings.Statement.{statement}
+use Rattle.sheet_writer.proofs.put_readings.Tie as tie
+
+abbrev Inv-entries : tie.InvT-entries
+Inv-entries readings buffer₀ e₀ buffer e =
+    (e ≤ length readings) × (length buffer ≡ length buffer₀) × (buffer ≡ overwrite (readingBytes (take e readings)) buffer₀)
+
+abbrev μ-entries : tie.MeasureT-entries
+μ-entries readings buffer₀ e₀ buffer e = length readings - e
+
+entries-holds : tie.Need-entries-holds Inv-entries μ-entries
+entries-holds c = (omega arith, refl, put-none (c .before .args .readings .now) (c .before .args .buffer .now))
+
+mul-t5 : tie.Need-mul-t5 Inv-entries μ-entries
+mul-t5 c = omega arith
+
+shared-slice-copy-out-t8 : tie.Need-shared-slice-copy-out-t8 Inv-entries μ-entries
+shared-slice-copy-out-t8 c = omega arith
+
+mul-put-word : tie.Need-mul-put-word Inv-entries μ-entries
+mul-put-word c = omega arith
+
+to-bits-requires : tie.Need-to-bits-requires Inv-entries μ-entries
+to-bits-requires c κs = tt
+
+put-word-requires : tie.Need-put-word-requires Inv-entries μ-entries
+put-word-requires c κs = tt
+
+add-e : tie.Need-add-e Inv-entries μ-entries
+add-e c = omega arith
+
+entries-less : tie.Need-entries-less Inv-entries μ-entries
+entries-less c = omega arith
+
+entries-again : tie.Need-entries-again Inv-entries μ-entries
+entries-again c = (
+  omega arith,
+  c .before .before .put-word .kept .0 ∙ c .before .before .before .before .before .before .before .entries .inv .1,
+  c .before .before .put-word .ensures
+      ∙ put-next (c .before .before .before .before .before .before .before .before .before .args .readings .now) (c .before .before .before .before .before .before .before .entries .e) (c .before .before .before .before .before .before .before .before .before .args .buffer .now) (c .before .before .before .before .before .before .before .entries .buffer)
+      (c .before .before .before .to-bits .result) (c .before .before .before .before .before .before .before .entries .inv .2) (omega arith) (c .before .before .before .to-bits .ensures ∙ ap (ofZ w32) (bits-again (getD (c .before .before .before .before .before .before .before .before .before .args .readings .now) (c .before .before .before .before .before .before .before .entries .e) (pos 0)) (c .before .before .before .before .before .t8 .given))) (c .before .before .before .before .before .before .before .before .before .pre),
+)
+
+same-length : tie.Need-same-length Inv-entries μ-entries
+same-length c = c .before .entries .inv .1
+
+returns : tie.Need-returns Inv-entries μ-entries
+returns c =
+    put-ended (c .before .before .before .args .readings .now) (c .before .entries .e) (c .before .before .before .args .buffer .now) (c .before .entries .buffer) (c .entries-test .left)
+    (c .before .entries .inv .2)
+
+pub put-readings-spec : {M : Type 1} → statement M
+put-readings-spec =
+    tie.close
+    (tie.spec
+    Inv-entries
+    μ-entries
+    entries-holds
+    mul-t5
+    shared-slice-copy-out-t8
+    mul-put-word
+    to-bits-requires
+    put-word-requires
+    add-e
+    entries-less
+    entries-again
+    same-length
+    returns)

@@ -1,0 +1,42 @@
+-- `sheet_writer::put_sizes` meets its contract: the four bytes and the number stored are the sizes.
+-- Assumes nothing.
+use borrow.Author.Needs.{needs}
+use mathlib.Core.Path.{_∙_}
+use native.Mathlib.Omega.{arith}
+use lib.ListN.{length-set}
+use Rattle.sheets.proofs.Storing.{sizes-stored}
+use Rattle.sheet_writer.proofs.put_sizes.Statement.{statement}
+use Rattle.sheet_writer.proofs.put_sizes.Tie as tie
+
+slice-write-buffer : tie.Need-slice-write-buffer
+slice-write-buffer c = search needs
+
+slice-write-buffer-2 : tie.Need-slice-write-buffer-2
+slice-write-buffer-2 c = simp length-set (omega arith)
+
+slice-write-buffer-3 : tie.Need-slice-write-buffer-3
+slice-write-buffer-3 c = simp length-set (omega arith)
+
+slice-write-buffer-4 : tie.Need-slice-write-buffer-4
+slice-write-buffer-4 c = simp length-set (omega arith)
+
+put-word-requires : tie.Need-put-word-requires
+put-word-requires c κs = search needs
+
+same-length : tie.Need-same-length
+same-length c = c .before .before .put-word .kept .0 ∙ simp length-set
+
+returns : tie.Need-returns
+returns c = c .before .before .put-word .ensures ∙ sizes-stored (c .before .before .before .before .before .args .settings) (c .before .before .before .before .before .args .buffer .now) (c .before .before .before .before .before .pre)
+
+pub put-sizes-spec : {M : Type 1} → statement M
+put-sizes-spec =
+    tie.close
+    (tie.spec
+    slice-write-buffer
+    slice-write-buffer-2
+    slice-write-buffer-3
+    slice-write-buffer-4
+    put-word-requires
+    same-length
+    returns)

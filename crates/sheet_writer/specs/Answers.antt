@@ -1,0 +1,15 @@
+-- What the enum of this crate says in document 01's terms, and what the writer leaves.
+use mathlib.Core.List.{List}
+use Prim.Native.Nat.{ℕ}
+use Rattle.model.specs.Calls.{Verdict, granted, refused, Written}
+use Rattle.sheet_writer.specs.declared.Filled.{Filled}
+use Rattle.sheet_writer.specs.declared.Filled.the-variants.{Granted, Refused}
+
+-- the length of the sheet written, or the first refusal
+abbrev pub filledAs : Filled → Verdict ℕ
+filledAs (Granted size) = granted size
+filledAs (Refused r) = refused r
+
+-- the writer's answer, with the buffer as it leaves it
+abbrev pub writtenAs : Filled → List ℕ → Written
+writtenAs r buffer = record { verdict = filledAs r; buffer = buffer }

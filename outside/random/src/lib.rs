@@ -1,42 +1,45 @@
 //! Random numbers from a fixed seed (splitmix64): the same seed gives the same run everywhere.
 #![forbid(unsafe_code)]
 
-pub struct Random(u64);
+use std::cell::Cell;
+
+pub struct Random(Cell<u64>);
 
 impl Random {
     pub fn new(seed: u64) -> Random {
-        Random(seed)
+        Random(Cell::new(seed))
     }
 
-    pub fn next(&mut self) -> u64 {
-        self.0 = self.0.wrapping_add(0x9e37_79b9_7f4a_7c15);
-        let z = (self.0 ^ (self.0 >> 30)).wrapping_mul(0xbf58_476d_1ce4_e5b9);
+    pub fn draw(&self) -> u64 {
+        self.0.set(self.0.get().wrapping_add(0x9e37_79b9_7f4a_7c15));
+        let z = self.0.get();
+        let z = (z ^ (z >> 30)).wrapping_mul(0xbf58_476d_1ce4_e5b9);
         let z = (z ^ (z >> 27)).wrapping_mul(0x94d0_49bb_1331_11eb);
         z ^ (z >> 31)
     }
 
     /// 0 to n-1.
-    pub fn below(&mut self, n: usize) -> usize {
-        (self.next() % n as u64) as usize
+    pub fn below(&self, n: usize) -> usize {
+        (self.draw() % n as u64) as usize
     }
 
     /// low to high, both included.
-    pub fn between(&mut self, low: i64, high: i64) -> i64 {
+    pub fn between(&self, low: i64, high: i64) -> i64 {
         let width = (high - low) as u64 + 1;
-        low + (self.next() % width) as i64
+        low + (self.draw() % width) as i64
     }
 
     /// True in that many of a hundred cases.
-    pub fn percent(&mut self, hundredths: u64) -> bool {
-        self.next() % 100 < hundredths
+    pub fn percent(&self, hundredths: u64) -> bool {
+        self.draw() % 100 < hundredths
     }
 
-    pub fn pick<T: Copy>(&mut self, from: &[T]) -> T {
+    pub fn pick<T: Copy>(&self, from: &[T]) -> T {
         from[self.below(from.len())]
     }
 
-    pub fn bytes(&mut self, length: usize) -> Vec<u8> {
-        (0..length).map(|_| self.next() as u8).collect()
+    pub fn bytes(&self, length: usize) -> Vec<u8> {
+        (0..length).map(|_| self.draw() as u8).collect()
     }
 }
 
@@ -47,14 +50,14 @@ mod tests {
     /// The published first values of splitmix64 for seed 1234567.
     #[test]
     fn splitmix64() {
-        let mut random = Random::new(1234567);
-        assert_eq!(random.next(), 6457827717110365317);
-        assert_eq!(random.next(), 3203168211198807973);
+        let random = Random::new(1234567);
+        assert_eq!(random.draw(), 6457827717110365317);
+        assert_eq!(random.draw(), 3203168211198807973);
     }
 
     #[test]
     fn between_reaches_both_ends() {
-        let mut random = Random::new(1);
+        let random = Random::new(1);
         let drawn: Vec<i64> = (0..100).map(|_| random.between(-1, 1)).collect();
         assert!(drawn.contains(&-1) && drawn.contains(&0) && drawn.contains(&1));
         assert!(drawn.iter().all(|x| (-1..=1).contains(x)));

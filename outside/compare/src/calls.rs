@@ -113,7 +113,8 @@ impl<'a> Comparison<'a> {
         for (who, (answer, settings, marks, readings)) in [(self.a, &a), (self.b, &b)] {
             let granted = number(*answer) == 0;
             let filled = if granted { *answer as usize } else { 0 };
-            let (kept_marks, kept_readings) = (filled.min(marks_length), filled.min(readings_length));
+            let (kept_marks, kept_readings) =
+                (filled.min(marks_length), filled.min(readings_length));
             self.survived("read", who, &old_marks[kept_marks..], &marks[kept_marks..]);
             self.survived("read", who, &old_readings[kept_readings..], &readings[kept_readings..]);
             if !granted {

@@ -143,7 +143,10 @@ fn report(comparison: &Comparison, sheets: u64) -> usize {
     println!("row     {:>8} shown, {} empty", comparison.rows_shown, comparison.rows_empty);
     let granted = comparison.outcomes[0][0];
     println!("{} sheets had several faults at once.", comparison.several_faults);
-    println!("Of {granted} settled sheets, {} had every reading accepted.", comparison.all_accepted);
+    println!(
+        "Of {granted} settled sheets, {} had every reading accepted.",
+        comparison.all_accepted
+    );
     let by_kind = comparison.settled.iter().flatten().flat_map(|by_n| &by_n[1..]);
     let least = by_kind.clone().min().unwrap();
     println!("Each N from 1 to 64 settled with each rule and estimator at least {least} times.");

@@ -6,8 +6,7 @@ use std::io::Write;
 use std::process::{Command, ExitCode, Stdio};
 
 fn text(path: &str, sheet: &[u8]) -> std::io::Result<Vec<u8>> {
-    let mut child =
-        Command::new(path).stdin(Stdio::piped()).stdout(Stdio::piped()).spawn()?;
+    let mut child = Command::new(path).stdin(Stdio::piped()).stdout(Stdio::piped()).spawn()?;
     // A program that has read enough may close its input early.
     let _ = child.stdin.take().unwrap().write_all(sheet);
     Ok(child.wait_with_output()?.stdout)

@@ -76,9 +76,7 @@ impl Engine for Linked {
     }
 
     fn settle(&self, sheet: &[u8], answer: &mut [u8]) -> u64 {
-        unsafe {
-            tohiranga_settle(sheet.as_ptr(), sheet.len(), answer.as_mut_ptr(), answer.len())
-        }
+        unsafe { tohiranga_settle(sheet.as_ptr(), sheet.len(), answer.as_mut_ptr(), answer.len()) }
     }
 
     fn read(

@@ -55,7 +55,9 @@ pub fn settle(sheet: &[u8], answer: &mut [u8]) -> u64 {
     let mut values = [0i64; MOST];
     for r in 0..n {
         if rule == 1 {
-            if let Some(value) = decide(&marks[r * n..], &readings[4 * r * n..], n, need) {
+            let row = r * n..(r + 1) * n;
+            let row_readings = &readings[4 * row.start..4 * row.end];
+            if let Some(value) = decide(&marks[row], row_readings, need) {
                 present[r] = true;
                 values[r] = value as i64;
             }
@@ -68,7 +70,7 @@ pub fn settle(sheet: &[u8], answer: &mut [u8]) -> u64 {
     let mut accepted = [false; MOST];
     let mut count = 0;
     for r in 0..n {
-        if present[r] && accept(&present, &values, n, need, window as i64, values[r]) {
+        if present[r] && accept(&present[..n], &values[..n], need, window as i64, values[r]) {
             accepted[r] = true;
             count += 1;
         }
@@ -110,8 +112,10 @@ fn reading(readings: &[u8], entry: usize) -> i32 {
 }
 
 /// The value that at least `need` present copies of a row equal.
-fn decide(marks: &[u8], readings: &[u8], n: usize, need: usize) -> Option<i32> {
+fn decide(marks: &[u8], readings: &[u8], need: usize) -> Option<i32> {
+    let n = marks.len();
     let mut copies = [0i32; MOST];
+    let copies = &mut copies[..n];
     for s in 0..n {
         copies[s] = reading(readings, s);
     }
@@ -132,14 +136,8 @@ fn decide(marks: &[u8], readings: &[u8], n: usize, need: usize) -> Option<i32> {
 }
 
 /// Whether some span that starts at a present reading holds v and N-m readings.
-fn accept(
-    present: &[bool; MOST],
-    values: &[i64; MOST],
-    n: usize,
-    need: usize,
-    window: i64,
-    v: i64,
-) -> bool {
+fn accept(present: &[bool], values: &[i64], need: usize, window: i64, v: i64) -> bool {
+    let n = present.len().min(values.len());
     let mut found = false;
     'test: for start in 0..n {
         if present[start] && values[start] <= v && v - values[start] <= window {

@@ -6,7 +6,9 @@ use crate::sheet::{entries_of, settings_of};
 /// The value that at least `need` present copies equal, if there is one.
 pub fn decide(copies: &[Option<i32>], need: usize) -> Option<i32> {
     let present = copies.iter().flatten();
-    present.copied().find(|value| copies.iter().filter(|&&copy| copy == Some(*value)).count() >= need)
+    present
+        .copied()
+        .find(|value| copies.iter().filter(|&&copy| copy == Some(*value)).count() >= need)
 }
 
 /// Which readings are accepted: every span that starts at a present reading is tried.

@@ -51,12 +51,15 @@ impl<'a> Liars<'a> {
         self.held.len()
     }
 
-    fn is_faulty(&self, cabinet: &usize) -> bool {
-        self.faulty[*cabinet]
+    fn number_of_faulty(&self) -> usize {
+        self.faulty.iter().filter(|&&faulty| faulty).count()
     }
 
-    fn number_of_faulty(&self) -> usize {
-        (0..self.n()).filter(|c| self.is_faulty(c)).count()
+    /// The lowest and the highest sound reading.
+    fn ends(&self) -> (i64, i64) {
+        let lowest = self.sound.iter().copied().min().unwrap_or(0);
+        let highest = self.sound.iter().copied().max().unwrap_or(0);
+        (lowest, highest)
     }
 
     /// The outermost reading that is accepted when so many cabinets agree on it.
@@ -69,8 +72,7 @@ impl<'a> Liars<'a> {
         let random = self.random;
         let out = if low { -1 } else { 1 };
         let edge = self.edge(low, helpers);
-        let lowest = self.sound.iter().copied().min().unwrap_or(0);
-        let highest = self.sound.iter().copied().max().unwrap_or(0);
+        let (lowest, highest) = self.ends();
         let outermost = if low { lowest } else { highest };
         let w = self.window;
         let value = match random.below(20) {
@@ -156,7 +158,7 @@ impl<'a> Liars<'a> {
             };
             let rest = random.pick(&[None, None, low, high, Some(random.draw() as i32)]);
             let first = random.below(n);
-            let relays = (0..n).map(|i| (first + i) % n).filter(|s| !self.is_faulty(s));
+            let relays = (0..n).map(|i| (first + i) % n).filter(|&s| !self.faulty[s]);
             for (relay, s) in relays.enumerate() {
                 told.sent[r * n + s] = match relay {
                     i if i < tell_low => low,
@@ -172,7 +174,7 @@ impl<'a> Liars<'a> {
     /// they were told; faulty ones help some rows to a decision and hinder others.
     pub fn relayed(&self, told: &Told, aim: Aim) -> Vec<Reading> {
         let (random, n) = (self.random, self.n());
-        let middle = self.edge(true, self.need) / 2 + self.edge(false, self.need) / 2;
+        let (lowest, highest) = self.ends();
         let of_sound_rows = random.below(4);
         let steady = random.percent(70);
         let mut entries = told.sent.clone();
@@ -184,12 +186,12 @@ impl<'a> Liars<'a> {
                 (false, truth) => match of_sound_rows {
                     0 => truth,
                     1 => None,
-                    2 if truth.is_some_and(|v| (v as i64 <= middle) == low) => truth,
+                    2 if truth.is_some_and(|v| (2 * v as i64 <= lowest + highest) == low) => truth,
                     2 => None,
                     _ => random.pick(&[truth, None, self.lie(low, 1)]),
                 },
             };
-            for s in (0..n).filter(|s| self.is_faulty(s)) {
+            for s in (0..n).filter(|&s| self.faulty[s]) {
                 let astray = !steady && random.percent(20);
                 entries[r * n + s] =
                     if astray { random.pick(&[None, self.lie(low, 1)]) } else { support };

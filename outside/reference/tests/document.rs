@@ -315,3 +315,34 @@ fn planner_limits() {
     let cca = settings(7, 2, CCA, MEDIAN, 10);
     assert_eq!((next_window(&cca), next_accuracy(&cca, 5)), (3, 8));
 }
+
+/// Spans that start at present readings are enough: any whole span gives the same.
+#[test]
+fn any_span() {
+    let values = [None, Some(-2), Some(-1), Some(0), Some(1), Some(2), Some(3)];
+    for code in 0..7usize.pow(4) {
+        let readings = [1, 7, 49, 343].map(|power| values[code / power % 7]);
+        for (need, window) in [(3, 0), (3, 1), (3, 2), (3, 3), (4, 2), (4, 3)] {
+            let any_span = |v: i32| {
+                (v - window..=v).any(|start| {
+                    let held = |&&other: &&i32| start <= other && other <= start + window;
+                    readings.iter().flatten().filter(held).count() >= need
+                })
+            };
+            let right = readings.map(|reading| reading.is_some_and(any_span));
+            assert_eq!(accepted(&readings, need, window as u32), right, "{readings:?}");
+        }
+    }
+}
+
+#[test]
+fn nearest_with_a_half_going_up() {
+    for n in 1..=8 {
+        for sum in -50..=50 {
+            let mut values = vec![0; n as usize];
+            values[0] = sum;
+            let past = 2 * (sum - n * mean(&values));
+            assert!(-n <= past && past < n, "{sum}/{n}");
+        }
+    }
+}

@@ -33,7 +33,7 @@ use Rattle.arithmetic.proofs.Bools.{and-intro}
 use Rattle.model.specs.Refusals.{refusal, firstOf, sheetChecks, tooManyFaults}
 use Rattle.model.specs.AnswerSheet.{answerBytes}
 use Rattle.model.specs.Calls.{Written, granted, refused}
-use Rattle.sheets.proofs.Limits.{Limits, limits}
+use Rattle.refusals.proofs.Limits.{Limits, limits}
 use Rattle.sheets.proofs.Checks.{settings-passed, sheet-length-passed}
 use Rattle.reception.specs.Standing.{Received, fitting, Filled}
 use Rattle.round.specs.Rounds.{markIn, usedIn, roundIn, settledAfter}

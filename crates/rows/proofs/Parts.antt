@@ -6,11 +6,14 @@ use mathlib.Core.Path.{_≡_, refl, sym, ap, _∙_}
 use Prim.Native.Nat.{ℕ, _+_, _*_, _-_, _≤_, _<_}
 use native.Mathlib.Nat.{mul-le-mul, le-of-lt, le-trans}
 use native.Mathlib.Omega.{arith}
-use borrow.Author.Tests.{lt-ltb, le-ltb, le-leb, lt-leb}
-use lib.Dec.{eqb}
+use borrow.Author.Tests.{lt-ltb, le-ltb, ltb-true, ltb-false, le-leb, lt-leb}
+use lib.Dec.{eqb, ltb, leb}
 use lib.ListN.{length, take, drop}
 use Rattle.model.specs.declared.Settings.{Settings}
 use Rattle.model.specs.RoundSheet.{cca, entryCount, rowEntries, rowPart}
+use Rattle.model.specs.Calls.{row}
+use Rattle.sheets.proofs.Inspection.{Validated}
+use Rattle.sheets.proofs.Shown.{row-within, row-part, row-empty}
 use Rattle.rows.specs.Parts.{rowEnd, partAt}
 
 module _ (c : Settings) (small : c .n ≤ 255) where
@@ -46,3 +49,20 @@ module _ (s : List ℕ) (c : Settings) (r : ℕ) where
     pub row-lies : rowEnd c r ≤ length s → take (4 * rowEntries c) (drop (8 + entryCount c + 4 * (r * rowEntries c)) s) ≡ partAt s c r
     unfolding partAt rowPart
     row-lies h = rw (lt-ltb r (c .n) here, le-leb (rowEnd c r) (length s) h)
+
+-- of a sheet that passes checks 1 to 6, 8 and 9 the part is what the row accessor shows
+pub part-shown : (s : List ℕ) (c : Settings) → Validated s c → (r : ℕ) → partAt s c r ≡ row s r
+unfolding partAt
+part-shown s c v r = go (ltb r (c .n)) refl
+  where
+    inside : r < c .n → rowEnd c r ≤ length s
+    inside l =
+        let room = row-within c r l in
+        let size = v .sizes .long in
+        omega arith
+
+    go : (b : Bool) → ltb r (c .n) ≡ b → cond b (cond (leb (rowEnd c r) (length s)) (rowPart s c r) []) [] ≡ row s r
+    go true e =
+        let l = ltb-true r (c .n) e in
+        ap (λ (b : Bool). cond b (rowPart s c r) []) (le-leb (rowEnd c r) (length s) (inside l)) ∙ row-part s c v r l
+    go false e = row-empty s c v r (ltb-false r (c .n) e)

@@ -1,14 +1,13 @@
--- One cabinet's row: where its part lies in the sheet, and that this part is what the row accessor shows.
+-- One cabinet's row: it lies within the entries, and its part is what the row accessor shows.
 -- Assumes nothing.
 use mathlib.Core.Bool.{Bool, true, false, cond}
 use mathlib.Core.List.{List, []}
-use mathlib.Core.Path.{_≡_, sym, ap, ap₂, _∙_, subst⁻¹}
-use Prim.Native.Nat.{ℕ, _+_, _*_, _-_, _≤_, _<_}
-use native.Mathlib.Nat.{suc-mul, mul-le-mul-right, add-sub-cancel-left}
+use mathlib.Core.Path.{_≡_, sym, ap, _∙_, subst⁻¹}
+use Prim.Native.Nat.{ℕ, _+_, _*_, _≤_, _<_}
+use native.Mathlib.Nat.{suc-mul, mul-le-mul-right}
 use native.Mathlib.Omega.{arith}
 use borrow.Author.Tests.{lt-ltb, le-ltb}
 use lib.Dec.{eqb}
-use lib.ListN.{take, drop}
 use Rattle.model.specs.declared.Settings.{Settings}
 use Rattle.model.specs.RoundSheet.{settingsAt, entryCount, rowEntries, rowPart}
 use Rattle.model.specs.Calls.{row}
@@ -27,17 +26,11 @@ row-within c r h = go (eqb (c .rule) 1)
         omega arith
     go false = omega arith
 
-module _ (s : List ℕ) (c : Settings) (v : Validated s c) (r E w : ℕ) (entries : E ≡ entryCount c) (width : w ≡ rowEntries c) where
-  -- its part: w readings of four bytes, r × w readings on
-  pub row-room : r < c .n → r * w + w ≤ E
-  row-room h = rw (entries, width) (row-within c r h)
-
-  pub row-part : r < c .n → take (8 + E + 4 * (r * w) + 4 * w - (8 + E + 4 * (r * w))) (drop (8 + E + 4 * (r * w)) s) ≡ row s r
-  unfolding rowPart
+module _ (s : List ℕ) (c : Settings) (v : Validated s c) (r : ℕ) where
+  -- the part of a cabinet's row is what the row accessor shows
+  pub row-part : r < c .n → rowPart s c r ≡ row s r
   row-part h =
-      ap (λ (k : ℕ). take k (drop (8 + E + 4 * (r * w)) s)) (add-sub-cancel-left (8 + E + 4 * (r * w)) (4 * w))
-      ∙ ap₂ (λ (a b : ℕ). take (4 * b) (drop (8 + a + 4 * (r * b)) s)) entries width
-      ∙ ap (λ (d : Settings). rowPart s d r) (sym (v .sizes .settings))
+      ap (λ (d : Settings). rowPart s d r) (sym (v .sizes .settings))
       ∙ sym (row-shown s r (v .rows) (lt-ltb r (settingsAt s .n) (subst⁻¹ (λ (d : Settings). r < d .n) (v .sizes .settings) h)))
 
   pub row-empty : c .n ≤ r → [] ≡ row s r

@@ -6,30 +6,9 @@ use model::Refusal;
 use model::Settings;
 use sheet_writer::Filled;
 
-fn wide(x: u8) -> u64 {
-    x as u64
-}
-
 fn number(name: &[u8], value: u64) {
     io::write_all(1, name);
     io::print_decimal(1, value);
-}
-
-fn line() {
-    io::write_all(1, b"\n");
-}
-
-fn show_refusal(refusal: Refusal) {
-    number(b"refused ", wide(refusal.number));
-    number(b" ", refusal.place as u64);
-}
-
-fn show_settings(settings: Settings) {
-    number(b"granted ", wide(settings.n));
-    number(b" ", wide(settings.m));
-    number(b" ", wide(settings.rule));
-    number(b" ", wide(settings.estimator));
-    number(b" ", settings.window as u64);
 }
 
 fn show_byte(byte: u8) {
@@ -61,9 +40,22 @@ fn show_readings(readings: &[i32]) {
     }
 }
 
+fn show_refusal(refusal: Refusal) {
+    io::write_all(1, b"refused");
+    show_byte(refusal.number);
+    number(b" ", refusal.place as u64);
+}
+
 fn show_opened(opened: Opened) {
     match opened {
-        Opened::Granted(settings) => show_settings(settings),
+        Opened::Granted(settings) => {
+            io::write_all(1, b"granted");
+            show_byte(settings.n);
+            show_byte(settings.m);
+            show_byte(settings.rule);
+            show_byte(settings.estimator);
+            number(b" ", settings.window as u64);
+        }
         Opened::Refused(refusal) => show_refusal(refusal),
     }
 }
@@ -76,7 +68,7 @@ fn show_lent(sheet: &[u8], marks: &mut [u8], readings: &mut [i32]) {
     show_bytes(marks);
     io::write_all(1, b" readings");
     show_readings(readings);
-    line();
+    io::write_all(1, b"\n");
 }
 
 fn show_read(sheet: &[u8]) {
@@ -112,14 +104,11 @@ fn direct() -> [u8; 28] {
     *b"\x04\x01\x00\x01\x0a\x00\x00\x00\x01\x01\x00\x01\xfd\xff\xff\xff\xff\xff\xff\x7f\x00\x00\x00\x00\x00\x00\x00\x80"
 }
 
-// The same with one byte more.
-fn longer() -> [u8; 29] {
-    *b"\x04\x01\x00\x01\x0a\x00\x00\x00\x01\x01\x00\x01\xfd\xff\xff\xff\xff\xff\xff\x7f\x00\x00\x00\x00\x00\x00\x00\x80\x00"
-}
-
-// N 3, m 0, CCA, average, window 1,000,000; row 0 holds 1, 2, 3, row 1 -1, missing, -2, row 2 missing, missing, 65536.
-fn crusaders() -> [u8; 53] {
-    *b"\x03\x00\x01\x00\x40\x42\x0f\x00\x01\x01\x01\x01\x00\x01\x00\x00\x01\x01\x00\x00\x00\x02\x00\x00\x00\x03\x00\x00\x00\xff\xff\xff\xff\x00\x00\x00\x00\xfe\xff\xff\xff\x00\x00\x00\x00\x00\x00\x00\x00\x00\x00\x01\x00"
+// That sheet with one byte changed.
+fn show_with(at: usize, value: u8) {
+    let mut sheet = direct();
+    put_byte(&mut sheet, at, value);
+    show_read(&sheet);
 }
 
 fn put_byte(sheet: &mut [u8], at: usize, value: u8) {
@@ -128,20 +117,7 @@ fn put_byte(sheet: &mut [u8], at: usize, value: u8) {
     }
 }
 
-// The direct sheet with one byte, two bytes or the window changed.
-fn show_with(at: usize, value: u8) {
-    let mut sheet = direct();
-    put_byte(&mut sheet, at, value);
-    show_read(&sheet);
-}
-
-fn show_with_both(at: usize, value: u8, also: usize, other: u8) {
-    let mut sheet = direct();
-    put_byte(&mut sheet, at, value);
-    put_byte(&mut sheet, also, other);
-    show_read(&sheet);
-}
-
+// That sheet with another window.
 fn show_window(window: u32) {
     let mut sheet = direct();
     words::put_word(&mut sheet, 4, window);
@@ -172,101 +148,108 @@ fn count_answers(number: u8) -> u32 {
     count
 }
 
-fn show_faults() {
+fn sizes() {
+    // N 0, 65 and 255
+    show_with(0, 0);
+    show_with(0, 65);
+    show_with(0, 255);
+    // m 0, 2, 85 and 255
+    show_with(1, 0);
+    show_with(1, 2);
+    show_with(1, 85);
+    show_with(1, 255);
     number(b"N 64, m 0 to 255: granted ", count_answers(0) as u64);
     number(b" refused under 3 ", count_answers(3) as u64);
-    line();
+    io::write_all(1, b"\n");
+    // rules and estimators
+    show_with(2, 2);
+    show_with(2, 255);
+    show_with(3, 3);
+    show_with(3, 255);
+    show_window(0);
+    show_window(1_000_000);
+    show_window(1_000_001);
+    show_window(4_294_967_295);
 }
 
-// Everything wrong from a check on: the first that applies is named.
+// A mark of 2, a mark of 255, a missing reading with its lowest and with its highest byte set; then readings at fault at entries 2 and 3,
+// and with them marks at fault at entries 1 and 3.
+fn entries() {
+    show_with(8, 2);
+    show_with(11, 255);
+    show_with(20, 1);
+    show_with(23, 128);
+    show_read(
+        b"\x04\x01\x00\x01\x0a\x00\x00\x00\x01\x01\x00\x00\xfd\xff\xff\xff\xff\xff\xff\x7f\x00\x00\x00\x80\x00\x00\x00\x01",
+    );
+    show_read(
+        b"\x04\x01\x00\x01\x0a\x00\x00\x00\x01\x02\x00\xff\xfd\xff\xff\xff\xff\xff\xff\x7f\x00\x00\x00\x80\x00\x00\x00\x01",
+    );
+    show_few_marks(
+        b"\x04\x01\x00\x01\x0a\x00\x00\x00\x01\x02\x00\xff\xfd\xff\xff\xff\xff\xff\xff\x7f\x00\x00\x00\x80\x00\x00\x00\x01",
+    );
+    show_few_readings(
+        b"\x04\x01\x00\x01\x0a\x00\x00\x00\x01\x02\x00\xff\xfd\xff\xff\xff\xff\xff\xff\x7f\x00\x00\x00\x80\x00\x00\x00\x01",
+    );
+}
+
+// Everything wrong from check 6 on, from 5, 4, 3, 2 and 1 on: the first that applies is named.
 fn several_at_once() {
-    let mut sheet = longer();
-    sheet[8] = 2;
-    sheet[10] = 9;
-    show_few_marks(&sheet);
-    words::put_word(&mut sheet, 4, 4_294_967_295);
-    show_few_marks(&sheet);
-    sheet[2] = 2;
-    sheet[3] = 3;
-    show_few_marks(&sheet);
-    sheet[1] = 255;
-    show_few_marks(&sheet);
-    sheet[0] = 0;
-    show_few_marks(&sheet);
+    show_few_marks(
+        b"\x04\x01\x00\x01\x0a\x00\x00\x00\x02\x01\x09\x01\xfd\xff\xff\xff\xff\xff\xff\x7f\x00\x00\x00\x00\x00\x00\x00\x80\x00",
+    );
+    show_few_marks(
+        b"\x04\x01\x00\x01\xff\xff\xff\xff\x02\x01\x09\x01\xfd\xff\xff\xff\xff\xff\xff\x7f\x00\x00\x00\x00\x00\x00\x00\x80\x00",
+    );
+    show_few_marks(
+        b"\x04\x01\x02\x03\xff\xff\xff\xff\x02\x01\x09\x01\xfd\xff\xff\xff\xff\xff\xff\x7f\x00\x00\x00\x00\x00\x00\x00\x80\x00",
+    );
+    show_few_marks(
+        b"\x04\xff\x02\x03\xff\xff\xff\xff\x02\x01\x09\x01\xfd\xff\xff\xff\xff\xff\xff\x7f\x00\x00\x00\x00\x00\x00\x00\x80\x00",
+    );
+    show_few_marks(
+        b"\x00\xff\x02\x03\xff\xff\xff\xff\x02\x01\x09\x01\xfd\xff\xff\xff\xff\xff\xff\x7f\x00\x00\x00\x00\x00\x00\x00\x80\x00",
+    );
     show_few_marks(b"\x00\xff\x02\x03\xff\xff\xff");
-}
-
-// Check 7 before 8, 8 before 9, each at its lowest entry.
-fn entries_at_fault() {
-    let mut sheet = direct();
-    sheet[27] = 1;
-    sheet[11] = 0;
-    sheet[23] = 128;
-    show_read(&sheet);
-    sheet[9] = 2;
-    sheet[11] = 255;
-    show_read(&sheet);
-    show_few_marks(&sheet);
-    show_few_readings(&sheet);
 }
 
 fn show_row(sheet: &[u8], r: usize) {
     number(b"row ", r as u64);
     io::write_all(1, b":");
     show_bytes(sheet::row(sheet, r));
-    line();
+    io::write_all(1, b"\n");
 }
 
-fn rows() {
-    show_row(&direct(), 0);
-    show_row(&direct(), 1);
-    show_row(&direct(), 2);
-    show_row(&direct(), 3);
-    show_row(&direct(), 4);
-    show_row(&crusaders(), 0);
-    show_row(&crusaders(), 1);
-    show_row(&crusaders(), 2);
-    show_row(&crusaders(), 3);
-    show_row(&crusaders(), 18_446_744_073_709_551_615);
-    show_row(&longer(), 0);
-    show_row(b"", 0);
-    let mut sheet = direct();
-    sheet[11] = 2;
-    show_row(&sheet, 0);
-    sheet[11] = 0;
-    show_row(&sheet, 0);
-}
-
-fn show_filled(filled: Filled) {
-    match filled {
-        Filled::Granted(size) => number(b"granted ", size as u64),
-        Filled::Refused(refusal) => show_refusal(refusal),
-    }
+fn show_rows(sheet: &[u8]) {
+    show_row(sheet, 0);
+    show_row(sheet, 1);
+    show_row(sheet, 2);
+    show_row(sheet, 3);
+    show_row(sheet, 4);
+    show_row(sheet, 18_446_744_073_709_551_615);
 }
 
 fn show_lent_buffer(settings: Settings, marks: &[u8], readings: &[i32], buffer: &mut [u8]) {
     number(b"write ", marks.len() as u64);
     number(b" ", readings.len() as u64);
     io::write_all(1, b": ");
-    show_filled(sheet_writer::write(settings, marks, readings, buffer));
+    match sheet_writer::write(settings, marks, readings, buffer) {
+        Filled::Granted(size) => number(b"granted ", size as u64),
+        Filled::Refused(refusal) => show_refusal(refusal),
+    }
     io::write_all(1, b" bytes");
     show_bytes(buffer);
-    line();
+    io::write_all(1, b"\n");
 }
 
+// Buffers of 36, 28 and 27 bytes: the sheet is 28 bytes long.
 fn show_write(settings: Settings, marks: &[u8], readings: &[i32]) {
-    let mut buffer = [7u8; 36];
-    show_lent_buffer(settings, marks, readings, &mut buffer);
-}
-
-fn show_exact_write(settings: Settings, marks: &[u8], readings: &[i32]) {
-    let mut buffer = [7u8; 28];
-    show_lent_buffer(settings, marks, readings, &mut buffer);
-}
-
-fn show_short_write(settings: Settings, marks: &[u8], readings: &[i32]) {
-    let mut buffer = [7u8; 27];
-    show_lent_buffer(settings, marks, readings, &mut buffer);
+    let mut long = [7u8; 36];
+    let mut exact = [7u8; 28];
+    let mut short = [7u8; 27];
+    show_lent_buffer(settings, marks, readings, &mut long);
+    show_lent_buffer(settings, marks, readings, &mut exact);
+    show_lent_buffer(settings, marks, readings, &mut short);
 }
 
 fn settings(n: u8, m: u8, rule: u8, estimator: u8, window: u32) -> Settings {
@@ -279,63 +262,79 @@ fn settings(n: u8, m: u8, rule: u8, estimator: u8, window: u32) -> Settings {
     }
 }
 
+// Four marks with four readings, and with five; readings at fault, with and without marks at fault.
 fn writes() {
-    let marks = [1u8, 1, 0, 1];
     let readings = [-3i32, 2_147_483_647, 0, -2_147_483_648];
     let more = [1i32, 2, 3, 4, 5];
-    show_write(settings(4, 1, 0, 1, 10), &marks, &readings);
-    show_exact_write(settings(4, 1, 0, 1, 10), &marks, &readings);
-    show_short_write(settings(4, 1, 0, 1, 10), &marks, &readings);
-    show_short_write(settings(4, 1, 0, 1, 10), &marks, &more);
-    show_short_write(settings(5, 1, 0, 1, 10), &marks, &more);
-    show_write(settings(5, 1, 0, 1, 1_000_001), &marks, &more);
-    show_write(settings(5, 1, 2, 1, 1_000_001), &marks, &more);
-    show_write(settings(5, 85, 2, 1, 1_000_001), &marks, &more);
-    show_write(settings(65, 85, 2, 1, 1_000_001), &marks, &more);
-    show_write(settings(2, 0, 1, 2, 1_000_000), &marks, &readings);
+    let stray = [-2_147_483_648i32, 1, 2, 3];
+    show_write(settings(4, 1, 0, 1, 10), b"\x01\x01\x00\x01", &readings);
+    show_write(
+        settings(2, 0, 1, 2, 1_000_000),
+        b"\x01\x01\x00\x01",
+        &readings,
+    );
+    show_write(settings(4, 1, 0, 1, 10), b"\x01\x01\x00\x01", &more);
+    show_write(settings(5, 1, 0, 1, 1_000_001), b"\x01\x01\x00\x01", &more);
+    show_write(settings(5, 1, 2, 1, 1_000_001), b"\x01\x01\x00\x01", &more);
+    show_write(settings(5, 85, 2, 1, 1_000_001), b"\x01\x01\x00\x01", &more);
+    show_write(
+        settings(65, 85, 2, 1, 1_000_001),
+        b"\x01\x01\x00\x01",
+        &more,
+    );
+    show_write(settings(4, 1, 0, 1, 10), b"\x00\x02\x00\x03", &stray);
+    show_write(settings(4, 1, 0, 1, 10), b"\x00\x01\x00\x01", &stray);
+    show_write(settings(4, 1, 0, 1, 10), b"\x01\x01\x00\x01", &stray);
 }
 
-fn writes_at_fault() {
-    let readings = [-2_147_483_648i32, 1, 2, 3];
-    show_write(settings(4, 1, 0, 1, 10), b"\x00\x02\x00\x03", &readings);
-    show_write(settings(4, 1, 0, 1, 10), b"\x00\x01\x00\x01", &readings);
-    show_write(settings(4, 1, 0, 1, 10), b"\x01\x01\x00\x01", &readings);
-    show_short_write(settings(4, 1, 0, 1, 10), b"\x00\x02\x00\x03", &readings);
+fn damaged_rows() {
+    show_row(
+        b"\x04\x01\x00\x01\x0a\x00\x00\x00\x01\x01\x00\x01\xfd\xff\xff\xff\xff\xff\xff\x7f\x00\x00\x00\x00\x00\x00\x00\x80\x00",
+        0,
+    );
+    show_row(b"", 0);
+    show_row(
+        b"\x04\x01\x00\x01\x0a\x00\x00\x00\x01\x01\x00\x02\xfd\xff\xff\xff\xff\xff\xff\x7f\x00\x00\x00\x00\x00\x00\x00\x80",
+        0,
+    );
+    show_row(
+        b"\x04\x01\x00\x01\x0a\x00\x00\x00\x01\x01\x00\x00\xfd\xff\xff\xff\xff\xff\xff\x7f\x00\x00\x00\x00\x00\x00\x00\x80",
+        0,
+    );
+}
+
+fn truncations() {
+    show_truncations(
+        b"\x04\x01\x00\x01\x0a\x00\x00\x00\x01\x01\x00\x01\xfd\xff\xff\xff\xff\xff\xff\x7f\x00\x00\x00\x00\x00\x00\x00\x80",
+    );
+    show_read(
+        b"\x04\x01\x00\x01\x0a\x00\x00\x00\x01\x01\x00\x01\xfd\xff\xff\xff\xff\xff\xff\x7f\x00\x00\x00\x00\x00\x00\x00\x80\x00",
+    );
+}
+
+// N 3, m 0, CCA, average, window 1,000,000; row 0 holds 1, 2, 3, row 1 -1, missing, -2, row 2 missing, missing, 65536.
+fn crusaders_truncations() {
+    show_truncations(
+        b"\x03\x00\x01\x00\x40\x42\x0f\x00\x01\x01\x01\x01\x00\x01\x00\x00\x01\x01\x00\x00\x00\x02\x00\x00\x00\x03\x00\x00\x00\xff\xff\xff\xff\x00\x00\x00\x00\xfe\xff\xff\xff\x00\x00\x00\x00\x00\x00\x00\x00\x00\x00\x01\x00",
+    );
+}
+
+fn rows() {
+    show_rows(
+        b"\x04\x01\x00\x01\x0a\x00\x00\x00\x01\x01\x00\x01\xfd\xff\xff\xff\xff\xff\xff\x7f\x00\x00\x00\x00\x00\x00\x00\x80",
+    );
+    show_rows(
+        b"\x03\x00\x01\x00\x40\x42\x0f\x00\x01\x01\x01\x01\x00\x01\x00\x00\x01\x01\x00\x00\x00\x02\x00\x00\x00\x03\x00\x00\x00\xff\xff\xff\xff\x00\x00\x00\x00\xfe\xff\xff\xff\x00\x00\x00\x00\x00\x00\x00\x00\x00\x00\x01\x00",
+    );
 }
 
 fn main() {
-    show_truncations(&direct());
-    show_read(&longer());
-    show_truncations(&crusaders());
-    // N 0, 65 and 255
-    show_with(0, 0);
-    show_with(0, 65);
-    show_with(0, 255);
-    // m 0, 2, 85 and 255
-    show_with(1, 0);
-    show_with(1, 2);
-    show_with(1, 85);
-    show_with(1, 255);
-    show_faults();
-    // rules and estimators
-    show_with(2, 2);
-    show_with(2, 255);
-    show_with(3, 3);
-    show_with(3, 255);
-    show_with_both(2, 2, 3, 3);
-    // windows
-    show_window(0);
-    show_window(1_000_000);
-    show_window(1_000_001);
-    show_window(4_294_967_295);
-    // marks and missing readings
-    show_with(8, 2);
-    show_with(11, 255);
-    show_with(20, 1);
-    show_with(23, 128);
-    entries_at_fault();
+    truncations();
+    crusaders_truncations();
+    sizes();
+    entries();
     several_at_once();
     rows();
+    damaged_rows();
     writes();
-    writes_at_fault();
 }

@@ -70,7 +70,9 @@ module _ (n : ℕ) (r : Round) (old : List ℕ) where
       ∙ byte-append-left (table (r .mark) n) (readingBytes (table (r .used) n) ++ drop (length (answerBytes n r)) old) i (rw (length-table (r .mark) n) h)
       ∙ getD-table (r .mark) n i 0 h
 
-  pub answer-used-bits : (i : ℕ) → i < n → SFits w32 (r .used i) → word (overwrite (answerBytes n r) old) (10 + n + 4 * i) ≡ ofZ w32 (r .used i)
+  pub answer-used-bits :
+      (i : ℕ) → i < n → SFits w32 (r .used i)
+      → word (overwrite (answerBytes n r) old) (10 + n + 4 * i) ≡ ofZ w32 (r .used i)
   unfolding overwrite answerBytes
   answer-used-bits i h fits =
       ap (λ (l : List ℕ). word l (10 + n + 4 * i))
@@ -82,5 +84,7 @@ module _ (n : ℕ) (r : Round) (old : List ℕ) where
       ∙ word-readings (table (r .used) n) (drop (length (answerBytes n r)) old) i (rw (length-table (r .used) n) h) (rw (getD-table (r .used) n i (pos 0) h) fits)
       ∙ ap (ofZ w32) (getD-table (r .used) n i (pos 0) h)
 
-  pub answer-used : (i : ℕ) → i < n → SFits w32 (r .used i) → toZ w32 (word (overwrite (answerBytes n r) old) (10 + n + 4 * i)) ≡ r .used i
+  pub answer-used :
+      (i : ℕ) → i < n → SFits w32 (r .used i)
+      → toZ w32 (word (overwrite (answerBytes n r) old) (10 + n + 4 * i)) ≡ r .used i
   answer-used i h fits = ap (toZ w32) (answer-used-bits i h fits) ∙ toZ-ofZ fits

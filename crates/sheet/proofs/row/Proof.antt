@@ -14,17 +14,30 @@ use Rattle.sheet.proofs.row.Statement.{statement}
 use Rattle.sheet.proofs.row.Tie as tie
 
 -- what `validate` granted
-seen : (c : tie.After-entry-count) → Validated (c .before .before .before .before .before .before .before .before .before .args .sheet .now) (c .before .before .before .before .before .settings .given .0 .0)
+seen :
+    (c : tie.After-entry-count)
+    → Validated (c .before .before .before .before .before .before .before .before .before .args .sheet .now)
+    (c .before .before .before .before .before .settings .given .0 .0)
 seen c =
-    validated (c .before .before .before .before .before .before .before .before .before .args .sheet .now) (c .before .before .before .before .before .settings .given .0 .0)
-    (sym (c .before .before .before .before .before .before .before .validate .ensures) ∙ ap openedAs (c .before .before .before .before .before .settings .given .1))
+    let a = c .before .before .before .before .before .before .before .before .before .args in
+    let settings = c .before .before .before .before .before .settings in
+    let validate = c .before .before .before .before .before .before .before .validate in
+    validated (a .sheet .now) (settings .given .0 .0)
+    (sym (validate .ensures) ∙ ap openedAs (settings .given .1))
 
 -- the row lies within the entries
-fits : (c : tie.After-entry-count) → c .before .before .before .before .before .before .before .before .before .args .r * c .before .row-entries .result + c .before .row-entries .result ≤ c .entry-count .result
+fits :
+    (c : tie.After-entry-count)
+    → c .before .before .before .before .before .before .before .before .before .args .r *
+    c .before .row-entries .result + c .before .row-entries .result ≤ c .entry-count .result
 fits c =
-    row-room (c .before .before .before .before .before .before .before .before .before .args .sheet .now) (c .before .before .before .before .before .settings .given .0 .0) (seen c) (c .before .before .before .before .before .before .before .before .before .args .r)
-    (c .entry-count .result) (c .before .row-entries .result) (c .entry-count .ensures) (c .before .row-entries .ensures)
-    (c .before .before .if1 .left)
+    let a = c .before .before .before .before .before .before .before .before .before .args in
+    let settings = c .before .before .before .before .before .settings in
+    let if1 = c .before .before .if1 in
+    row-room (a .sheet .now) (settings .given .0 .0) (seen c) (a .r)
+    (c .entry-count .result) (c .before .row-entries .result) (c .entry-count .ensures)
+    (c .before .row-entries .ensures)
+    (if1 .left)
 
 validate-requires : tie.Need-validate-requires
 validate-requires c κs = search needs
@@ -40,10 +53,13 @@ slice-aggregate-result c = search needs
 
 returns : tie.Need-returns
 returns c =
+    let a = c .before .before .before .before .before .args in
+    let validate = c .before .before .before .validate in
     sym
-    (row-refused (c .before .before .before .before .before .args .sheet .now) (c .before .before .before .before .before .args .r) (c .before .enum-told .given .0 .0)
-    (refused-some (firstOf (rowChecks (c .before .before .before .before .before .args .sheet .now))) (settingsAt (c .before .before .before .before .before .args .sheet .now)) (c .before .enum-told .given .0 .0)
-    (sym (c .before .before .before .validate .ensures) ∙ ap openedAs (c .before .enum-told .given .1))))
+    (row-refused (a .sheet .now) (a .r) (c .before .enum-told .given .0 .0)
+    (refused-some (firstOf (rowChecks (a .sheet .now))) (settingsAt (a .sheet .now))
+    (c .before .enum-told .given .0 .0)
+    (sym (validate .ensures) ∙ ap openedAs (c .before .enum-told .given .1))))
 
 cast-n : tie.Need-cast-n
 cast-n c = search needs
@@ -53,9 +69,12 @@ slice-aggregate-result-2 c = search needs
 
 returns-2 : tie.Need-returns-2
 returns-2 c =
-    row-empty (c .before .before .before .before .before .before .before .before .args .sheet .now) (c .before .before .before .before .settings .given .0 .0)
-    (validated (c .before .before .before .before .before .before .before .before .args .sheet .now) (c .before .before .before .before .settings .given .0 .0) (sym (c .before .before .before .before .before .before .validate .ensures) ∙ ap openedAs (c .before .before .before .before .settings .given .1)))
-    (c .before .before .before .before .before .before .before .before .args .r) (entryCount (c .before .before .before .before .settings .given .0 .0)) (rowEntries (c .before .before .before .before .settings .given .0 .0)) refl refl
+    let a = c .before .before .before .before .before .before .before .before .args in
+    let settings = c .before .before .before .before .settings in
+    let validate = c .before .before .before .before .before .before .validate in
+    row-empty (a .sheet .now) (settings .given .0 .0)
+    (validated (a .sheet .now) (settings .given .0 .0) (sym (validate .ensures) ∙ ap openedAs (settings .given .1)))
+    (a .r) (entryCount (settings .given .0 .0)) (rowEntries (settings .given .0 .0)) refl refl
     (c .before .if1 .taken)
 
 row-entries-requires : tie.Need-row-entries-requires
@@ -114,9 +133,13 @@ part-result-end c =
 
 returns-3 : tie.Need-returns-3
 returns-3 c =
-    row-part (c .before .before .before .before .before .before .before .before .before .before .args .sheet .now) (c .before .before .before .before .before .before .settings .given .0 .0) (seen (c .before)) (c .before .before .before .before .before .before .before .before .before .before .args .r)
-    (c .before .entry-count .result) (c .before .before .row-entries .result) (c .before .entry-count .ensures) (c .before .before .row-entries .ensures)
-    (c .before .before .before .if1 .left)
+    let a = c .before .before .before .before .before .before .before .before .before .before .args in
+    let settings = c .before .before .before .before .before .before .settings in
+    let row-entries = c .before .before .row-entries in
+    let if1 = c .before .before .before .if1 in
+    row-part (a .sheet .now) (settings .given .0 .0) (seen (c .before)) (a .r)
+    (c .before .entry-count .result) (row-entries .result) (c .before .entry-count .ensures) (row-entries .ensures)
+    (if1 .left)
 
 pub row-spec : {M : Type 1} → statement M
 row-spec =

@@ -1,5 +1,5 @@
-// Prints what the reader, the row accessor and the writer answer at the limits of each check, and what they leave in what they are lent.
-// Lent arrays and buffers hold 7 everywhere before each call.
+// Prints what the reader, the row accessor and the writer answer at the limits of each check, and what they leave in
+// what they are lent. Lent arrays and buffers hold 7 everywhere before each call.
 use ensemble::Tick;
 use inspection::Opened;
 use model::Refusal;
@@ -172,8 +172,8 @@ fn sizes() {
     show_window(4_294_967_295);
 }
 
-// A mark of 2, a mark of 255, a missing reading with its lowest and with its highest byte set; then readings at fault at entries 2 and 3,
-// and with them marks at fault at entries 1 and 3.
+// A mark of 2, a mark of 255, a missing reading with its lowest and with its highest byte set; then readings at
+// fault at entries 2 and 3, and with them marks at fault at entries 1 and 3.
 fn entries() {
     show_with(8, 2);
     show_with(11, 255);
@@ -312,7 +312,8 @@ fn truncations() {
     );
 }
 
-// N 3, m 0, CCA, average, window 1,000,000; row 0 holds 1, 2, 3, row 1 -1, missing, -2, row 2 missing, missing, 65536.
+// N 3, m 0, CCA, average, window 1,000,000; row 0 holds 1, 2, 3, row 1 -1, missing, -2, row 2 missing, missing,
+// 65536.
 fn crusaders_truncations() {
     show_truncations(
         b"\x03\x00\x01\x00\x40\x42\x0f\x00\x01\x01\x01\x01\x00\x01\x00\x00\x01\x01\x00\x00\x00\x02\x00\x00\x00\x03\x00\x00\x00\xff\xff\xff\xff\x00\x00\x00\x00\xfe\xff\xff\xff\x00\x00\x00\x00\x00\x00\x00\x00\x00\x00\x01\x00",

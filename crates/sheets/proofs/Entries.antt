@@ -36,7 +36,9 @@ bit-same : (r : Reading) → entryOf (bit (isPresent r)) (ticks r) ≡ r
 bit-same missing = refl
 bit-same (present z) = refl
 
-module _ (c : Settings) (entry : Readings) (pass : firstOf (settingsChecks c) ≡ none) (fits : (e : ℕ) → e < entryCount c → SFits w32 (ticks (entry e))) where
+module _
+    (c : Settings) (entry : Readings) (pass : firstOf (settingsChecks c) ≡ none)
+    (fits : (e : ℕ) → e < entryCount c → SFits w32 (ticks (entry e))) where
   mark-at : (e : ℕ) → e < entryCount c → getD (marksFrom c entry) e 0 ≡ bit (isPresent (entry e))
   mark-at e h = getD-table (λ i. bit (isPresent (entry i))) (entryCount c) e 0 h
 

@@ -100,7 +100,10 @@ write-fills c marks readings buffer w long =
 
 -- ---- what is written reads back
 
-module _ (c : Settings) (marks : List ℕ) (readings : List ℤ) (buffer : List ℕ) (size : ℕ) (fits : (e : ℕ) → e < entryCount c → SFits w32 (getD readings e (pos 0))) (g : write c marks readings buffer .verdict ≡ granted size) where
+module _
+    (c : Settings) (marks : List ℕ) (readings : List ℤ) (buffer : List ℕ) (size : ℕ)
+    (fits : (e : ℕ) → e < entryCount c → SFits w32 (getD readings e (pos 0)))
+    (g : write c marks readings buffer .verdict ≡ granted size) where
   passed : firstOf (writeChecks c marks readings buffer) ≡ none
   unfolding write
   passed = granted-none (firstOf (writeChecks c marks readings buffer)) (sheetLength c) size g
@@ -141,7 +144,9 @@ module _ (c : Settings) (marks : List ℕ) (readings : List ℤ) (buffer : List 
 
 -- ---- what is read writes back
 
-module _ (s : List ℕ) (lentMarks : List ℕ) (lentReadings : List ℤ) (c : Settings) (small : (i : ℕ) → byte s i < 256) (g : read s lentMarks lentReadings .verdict ≡ granted c) where
+module _
+    (s : List ℕ) (lentMarks : List ℕ) (lentReadings : List ℤ) (c : Settings) (small : (i : ℕ) → byte s i < 256)
+    (g : read s lentMarks lentReadings .verdict ≡ granted c) where
   read-none : firstOf (readChecks s lentMarks lentReadings) ≡ none
   unfolding read
   read-none = granted-none (firstOf (readChecks s lentMarks lentReadings)) (settingsAt s) c g

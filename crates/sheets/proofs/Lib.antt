@@ -7,6 +7,7 @@ pub mod Inspection
 pub mod Shown
 pub mod Opening
 pub mod Filling
+pub mod Settling
 pub mod Words
 pub mod Parts
 pub mod Readings

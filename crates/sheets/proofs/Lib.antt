@@ -1,5 +1,3 @@
-pub mod Rows
-pub mod Limits
 pub mod Checks
 pub mod Searching
 pub mod Outcomes
@@ -7,7 +5,6 @@ pub mod Inspection
 pub mod Shown
 pub mod Opening
 pub mod Filling
-pub mod Settling
 pub mod Words
 pub mod Parts
 pub mod Readings

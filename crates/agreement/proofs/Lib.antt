@@ -1,0 +1,4 @@
+pub mod Spans
+pub mod Kept
+pub mod Agreeing
+pub mod Rounds

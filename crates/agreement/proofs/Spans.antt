@@ -1,0 +1,228 @@
+-- Spans on a list of naturals: the tests that the code makes are those of document 01's acceptance, and a count that has reached what
+-- is needed stays there.
+-- Assumes nothing.
+use mathlib.Core.Bool.{Bool, true, false, not, _&&_}
+use mathlib.Core.List.{List}
+use mathlib.Core.Logic.{_⊎_, inr, ⊎-elim}
+use mathlib.Core.Path.{_≡_, refl, sym, ap, ap₂, _∙_}
+use Prim.Native.Nat.{ℕ, zero, suc, _+_, _-_, _%_, _^_, _≤_, _<_, min, zero-le, suc-le-suc}
+use native.Mathlib.Nat.{le-refl, not-suc-le-zero}
+use native.Mathlib.Omega.{arith}
+use borrow.Author.Count.{below-more}
+use borrow.Author.Tests.{lt-ltb, le-leb, lt-leb, ltb-true, leb-true, eqb-true, eqb-false}
+use lib.Dec.{leb, ltb, eqb}
+use lib.ListN.{length, getD, set, length-set}
+use lib.Seq.{getD-set-same, getD-set-other}
+use Rattle.arithmetic.specs.Counting.{bit, count}
+use Rattle.arithmetic.proofs.Bools.{iff-eq, and-left, and-right, and-intro, clash}
+use Rattle.arithmetic.proofs.Counting.{split-last, bit-le-one, count-le, any-true, any-false}
+use Rattle.rounds.proofs.Shifted.{within-nat, spans, accepted-nat}
+use Rattle.arithmetic.proofs.Bools.{and-false}
+use Rattle.loops.proofs.Loops.{count-next}
+use Rattle.estimates.specs.Values.{valueAt, presentAt}
+use Rattle.agreement.specs.Values.{spansAt, acceptedAt, enoughAt, Remembered}
+
+pub held-small : (a b far h : ℕ) → h ≡ bit (leb a b && leb b (a + far)) → h ≤ 1
+held-small a b far h e = let l = bit-le-one (leb a b && leb b (a + far)) in omega arith
+
+-- a difference that wraps lies within w just where b is no less than a and no more than a + w
+pub wrapped : (a b d w : ℕ) → a < 4294967296 → w < 4294967296 → d < 2 ^ 64 → (d + a) % 2 ^ 64 ≡ b → leb d w ≡ (leb a b && leb b (a + w))
+wrapped a b d w ha hw hd e =
+    iff-eq (leb d w) (leb a b && leb b (a + w))
+    (λ t. let l : d ≤ w = leb-true d w t in and-intro (le-leb a b (omega arith)) (le-leb b (a + w) (omega arith)))
+    (λ t.
+    let l : a ≤ b = leb-true a b (and-left (leb a b) (leb b (a + w)) t) in
+    let m : b ≤ a + w = leb-true b (a + w) (and-right (leb a b) (leb b (a + w)) t) in
+    le-leb d w (omega arith))
+
+-- the same of a span that is known to start at or below b
+pub wrapped-above : (a b d w : ℕ) → a ≤ b → b < 2 ^ 64 → d < 2 ^ 64 → (d + a) % 2 ^ 64 ≡ b → leb d w ≡ leb b (a + w)
+wrapped-above a b d w h hb hd e =
+    iff-eq (leb d w) (leb b (a + w))
+    (λ t. let l : d ≤ w = leb-true d w t in le-leb b (a + w) (omega arith))
+    (λ t. let m : b ≤ a + w = leb-true b (a + w) t in le-leb d w (omega arith))
+
+-- the same where the start may lie above b
+pub wrapped-from : (a b d w : ℕ) → b < 2 ^ 64 → d < 2 ^ 64 → (d + a) % 2 ^ 64 ≡ b → (leb a b && leb d w) ≡ (leb a b && leb b (a + w))
+wrapped-from a b d w hb hd e = go (leb a b) refl
+  where
+    go : (t : Bool) → leb a b ≡ t → (t && leb d w) ≡ (t && leb b (a + w))
+    go true h = wrapped-above a b d w (leb-true a b h) hb hd e
+    go false h = refl
+
+-- a start at or below a present reading is present
+pub tries-within : (w a b : ℕ) → (ltb b 4294967296 && (leb a b && leb b (a + w))) ≡ within-nat w (ltb a 4294967296) a (ltb b 4294967296) b
+tries-within w a b =
+    iff-eq (ltb b 4294967296 && (leb a b && leb b (a + w))) (within-nat w (ltb a 4294967296) a (ltb b 4294967296) b)
+    (λ t.
+    let l = ltb-true b 4294967296 (and-left (ltb b 4294967296) _ t) in
+    let m = leb-true a b (and-left (leb a b) _ (and-right (ltb b 4294967296) _ t)) in
+    and-intro (lt-ltb a 4294967296 (omega arith)) t)
+    (λ t. and-right (ltb a 4294967296) _ t)
+
+-- a span cut at the last reading holds the present readings of the whole span
+pub cut-within : (w a b : ℕ) → a < 4294967296 → (leb a b && leb b (a + min w (4294967295 - a))) ≡ within-nat w (ltb a 4294967296) a (ltb b 4294967296) b
+cut-within w a b h =
+    iff-eq (leb a b && leb b (a + min w (4294967295 - a))) (within-nat w (ltb a 4294967296) a (ltb b 4294967296) b)
+    (λ t.
+    let l = leb-true a b (and-left (leb a b) _ t) in
+    let m = leb-true b (a + min w (4294967295 - a)) (and-right (leb a b) _ t) in
+    and-intro (lt-ltb a 4294967296 h)
+    (and-intro (lt-ltb b 4294967296 (omega arith)) (and-intro (le-leb a b l) (le-leb b (a + w) (omega arith)))))
+    (λ t.
+    let u = and-right (ltb a 4294967296) _ t in
+    let v = and-right (ltb b 4294967296) _ u in
+    let l = ltb-true b 4294967296 (and-left (ltb b 4294967296) _ u) in
+    let m = leb-true a b (and-left (leb a b) _ v) in
+    let k = leb-true b (a + w) (and-right (leb a b) _ v) in
+    and-intro (le-leb a b m) (le-leb b (a + min w (4294967295 - a)) (omega arith)))
+
+-- ---- counting
+
+pub count-grows : (p : ℕ → Bool) (m n : ℕ) → m ≤ n → count p m ≤ count p n
+unfolding count
+count-grows p m zero h = let e : m ≡ 0 = omega arith in rw e (le-refl 0)
+count-grows p m (suc n) h =
+    ⊎-elim
+    (λ l. let ih = count-grows p m n (native.Mathlib.Nat.le-of-suc-le-suc l) in omega arith)
+    (λ e. rw e (le-refl (count p n + bit (p n))))
+    (split-last m (suc n) (suc-le-suc h))
+
+-- ---- acceptance, start by start
+
+module _ (w : ℕ) (values : List ℕ) where
+  -- a span that is tried holds the reading
+  pub tried-holds : (mark s r : ℕ) {b : Bool} → b ≡ (not (eqb mark 1) && spansAt w values s r) → b ≡ true → spansAt w values s r ≡ true
+  tried-holds mark s r e t = and-right (not (eqb mark 1)) (spansAt w values s r) (sym e ∙ t)
+
+  -- a start whose span holds a reading is present
+  pub start-present : (s r : ℕ) → spansAt w values s r ≡ true → getD values s 0 < 4294967296
+  unfolding spansAt
+  start-present s r e = ltb-true (getD values s 0) 4294967296 (and-left (ltb (getD values s 0) 4294967296) _ e)
+
+  -- what the code counts for t is t's place in the span
+  pub held-spans : (s t far h : ℕ) → getD values s 0 < 4294967296 → far ≡ min w (4294967295 - getD values s 0) → h ≡ bit (leb (getD values s 0) (getD values t 0) && leb (getD values t 0) (getD values s 0 + far)) → h ≡ bit (spansAt w values s t)
+  unfolding spansAt
+  held-spans s t far h p e q = q ∙ rw e (ap bit (cut-within w (getD values s 0) (getD values t 0) p))
+
+module _ (w need : ℕ) (values : List ℕ) where
+  -- the start a accepts r
+  abbrev pub admits : ℕ → ℕ → Bool
+  admits r a = spansAt w values a r && enoughAt w need values a
+
+  pub admitted : (r a : ℕ) → a < length values → admits r a ≡ true → acceptedAt w need values r ≡ true
+  unfolding acceptedAt accepted-nat spansAt enoughAt
+  admitted r a h e = any-true (λ s. spans w (presentAt values) (valueAt values) s r && leb need (count (spans w (presentAt values) (valueAt values) s) (length values))) (length values) a h e
+
+  pub not-admitted : (r : ℕ) → ((a : ℕ) → a < length values → admits r a ≡ false) → acceptedAt w need values r ≡ false
+  unfolding acceptedAt accepted-nat spansAt enoughAt
+  not-admitted r f = any-false (λ s. spans w (presentAt values) (valueAt values) s r && leb need (count (spans w (presentAt values) (valueAt values) s) (length values))) (length values) f
+
+  -- the start a is stored as what it is
+  pub remember : (known : List ℕ) (a v : ℕ) → a < length known → v ≡ 1 + bit (enoughAt w need values a) → Remembered w need values known → Remembered w need values (set known a v)
+  remember known a v h e f b l = go (eqb b a) refl
+    where
+      go : (t : Bool) → eqb b a ≡ t → (getD (set known a v) b 0 ≡ 0) ⊎ (getD (set known a v) b 0 ≡ 1 + bit (enoughAt w need values b))
+      go true q = let s = eqb-true b a q in rw s (inr (getD-set-same known a v 0 h ∙ e))
+      go false q = rw (getD-set-other known a b v 0 (eqb-false b a q)) (f b l)
+
+  -- where the starts below s are tried, and the memory is sound
+  pub record Tried (r : ℕ) (known : List ℕ) (found : Bool) (s : ℕ) : Type 0 where
+    pub upTo : s ≤ length values
+    pub few : length values ≤ 64
+    pub long : length known ≡ 64
+    pub yet : found ≡ false
+    pub none : (a : ℕ) → a < s → admits r a ≡ false
+    pub memory : Remembered w need values known
+
+  -- where the span from s is counted up to t, and is short so far
+  pub record Counted (r : ℕ) (known : List ℕ) (found : Bool) (s counted t : ℕ) : Type 0 where
+    pub tried : Tried r known found s
+    pub upTo : t ≤ length values
+    pub exact : counted ≡ count (spansAt w values s) t
+    pub short : 0 < t → counted < need
+
+  -- the loop over starts begins
+  pub untried : (r : ℕ) (known : List ℕ) → length values ≤ 64 → length known ≡ 64 → Remembered w need values known → Tried r known false 0
+  untried r known f l m =
+      record { upTo = zero-le; few = f; long = l; yet = refl; none = λ a h. absurd (not-suc-le-zero h); memory = m }
+
+  module _ (r : ℕ) (known : List ℕ) (found : Bool) (s : ℕ) (below : s < length values) (tried : Tried r known found s) where
+    -- a start that does not accept r is passed
+    pub pass : (known′ : List ℕ) → length known′ ≡ 64 → Remembered w need values known′ → admits r s ≡ false → Tried r known′ found (s + 1)
+    pass known′ l m e =
+        record {
+          upTo = omega arith;
+          few = tried .few;
+          long = l;
+          yet = tried .yet;
+          none = below-more (λ (a : ℕ). admits r a ≡ false) s (tried .none) e;
+          memory = m;
+        }
+
+    -- a start that is remembered as short, or whose span does not hold r's reading
+    pub pass-untried : {b : Bool} → b ≡ (not (eqb (getD known s 0) 1) && spansAt w values s r) → b ≡ false → Tried r known found (s + 1)
+    pass-untried e f =
+        pass known (tried .long) (tried .memory)
+        (go (spansAt w values s r) (enoughAt w need values s) (tried .memory s below) (sym e ∙ f))
+      where
+        go : (a b : Bool) → (getD known s 0 ≡ 0) ⊎ (getD known s 0 ≡ 1 + bit b) → (not (eqb (getD known s 0) 1) && a) ≡ false → (a && b) ≡ false
+        go false b m q = refl
+        go true false m q = refl
+        go true true m q = absurd (⊎-elim (λ z. differ 0 z refl) (λ z. differ 2 z refl) m)
+          where
+            differ : (k : ℕ) → getD known s 0 ≡ k → eqb k 1 ≡ false → ⊥
+            differ k z f = clash (ap (λ (v : ℕ). not (eqb v 1) && true) z ∙ ap (λ (t : Bool). not t && true) f) q
+
+    -- a start that is remembered as holding enough
+    pub known-enough : getD known s 0 ≡ 2 → enoughAt w need values s ≡ true
+    known-enough e = ⊎-elim (λ z. absurd (impossible z)) (λ z. go (enoughAt w need values s) z) (tried .memory s below)
+      where
+        impossible : getD known s 0 ≡ 0 → ⊥
+        impossible z = omega arith
+
+        go : (b : Bool) → getD known s 0 ≡ 1 + bit b → b ≡ true
+        go true z = refl
+        go false z = absurd (omega arith)
+
+    pub begin : Counted r known found s 0 0
+    unfolding count
+    begin = record { tried = tried; upTo = zero-le; exact = refl; short = λ h. absurd (not-suc-le-zero h) }
+
+    module _ (c t : ℕ) (so-far : Counted r known found s c t) where
+      pub count-small : c ≤ 64
+      count-small =
+          let l = count-le (spansAt w values s) t in
+          let e = so-far .exact in
+          let u = so-far .upTo in
+          let f = tried .few in
+          omega arith
+
+      -- the count reached n: the start is short, and is stored so
+      pub count-short : length values ≤ t → enoughAt w need values s ≡ false
+      unfolding enoughAt
+      count-short h =
+          let e : t ≡ length values = omega (arith, so-far .upTo) in
+          let l = so-far .short (omega arith) in
+          lt-leb need (count (spansAt w values s) (length values)) (rw (← e, ← so-far .exact) l)
+
+      pub pass-counted : length values ≤ t → Tried r (set known s 1) found (s + 1)
+      pass-counted h =
+          let e = count-short h in
+          pass (set known s 1) (length-set known s 1 ∙ tried .long)
+          (remember known s 1 (omega (arith, tried .few, tried .long)) (ap (λ (b : Bool). 1 + bit b) (sym e)) (tried .memory))
+          (and-false (spansAt w values s r) e)
+
+      module _ (room : t < length values) (h : ℕ) (one : h ≡ bit (spansAt w values s t)) where
+        pub next-exact : c + h ≡ count (spansAt w values s) (t + 1)
+        next-exact = ap₂ (λ (a b : ℕ). a + b) (so-far .exact) one ∙ sym (count-next (spansAt w values s) t)
+
+        pub count-on : c + h < need → Counted r known found s (c + h) (t + 1)
+        count-on l = record { tried = tried; upTo = omega arith; exact = next-exact; short = λ _. l }
+
+        pub count-enough : need ≤ c + h → enoughAt w need values s ≡ true
+        unfolding enoughAt
+        count-enough l =
+            let g = count-grows (spansAt w values s) (t + 1) (length values) (omega arith) in
+            let e = next-exact in
+            le-leb need (count (spansAt w values s) (length values)) (omega arith)

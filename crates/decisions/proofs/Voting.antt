@@ -1,0 +1,121 @@
+-- The majority vote over the copies of a row, copy by copy, and the decision by one count of its candidate.
+-- Assumes nothing.
+use mathlib.Core.Bool.{Bool, true, false, cond, not, _&&_, _||_}
+use mathlib.Core.List.{List}
+use mathlib.Core.Path.{_≡_, sym, ap, _∙_}
+use Prim.Native.Nat.{ℕ, _+_, _*_, _-_, _/_, _≤_, _<_, zero-le}
+use native.Mathlib.Omega.{arith}
+use borrow.Author.Tests.{lt-ltb, le-ltb, le-leb, lt-leb, eq-eqb, ne-eqb, leb-false, eqb-true, not-false}
+use lib.Dec.{leb, eqb}
+use lib.ListN.{length, getD}
+use mir.Syntax.{w32}
+use mir.Val.{toZ}
+use Rattle.arithmetic.specs.Counting.{count}
+use Rattle.arithmetic.proofs.Bools.{and-left, and-right}
+use Rattle.model.specs.RoundSheet.{word}
+use Rattle.model.specs.Steps.{decided, knownFaulty, decide}
+use Rattle.crusaders.proofs.Majority.{Candidate, lower}
+use Rattle.crusaders.proofs.Candidates.{holds-bits, bits-begin, bits-agree, bits-replace, bits-missing, bits-decide, toZ-one}
+use Rattle.arithmetic.proofs.Bools.{or-left, or-right}
+use Rattle.decisions.specs.Rows.{presentAt, bitsAt, copyAt, Elected, rowDecision}
+
+module _ (marks row : List ℕ) where
+  -- the copy t is present and holds v
+  abbrev pub holds : ℕ → ℕ → Bool
+  holds = holds-bits (presentAt marks) (bitsAt row)
+
+  -- the test that the code makes of the copy t
+  pub holds-test : (c v t : ℕ) {b : Bool} → v ≡ bitsAt row t → b ≡ (eqb (getD marks t 0) 1 && eqb c v) → b ≡ holds c t
+  holds-test c v t e f = f ∙ ap (λ (x : ℕ). eqb (getD marks t 0) 1 && eqb c x) e
+
+  pub record Voted (c k t : ℕ) : Type 0 where
+    pub upTo : t ≤ length marks
+    pub vote : Candidate holds c k t
+
+  pub vote-none : Voted 0 0 0
+  vote-none = record { upTo = zero-le; vote = bits-begin (presentAt marks) (bitsAt row) 0 }
+
+  module _ (c k t : ℕ) (so-far : Voted c k t) (room : t < length marks) (v : ℕ) {b : Bool} (read : v ≡ bitsAt row t) (test : b ≡ (eqb (getD marks t 0) 1 && eqb c v)) where
+    pub vote-agree : b ≡ true → Voted c (k + 1) (t + 1)
+    vote-agree e =
+        let both = sym (holds-test c v t read test) ∙ e in
+        record {
+          upTo = omega arith;
+          vote =
+              bits-agree (presentAt marks) (bitsAt row) c k t (so-far .vote)
+              (and-left (presentAt marks t) (eqb c (bitsAt row t)) both)
+              (sym (eqb-true c (bitsAt row t) (and-right (presentAt marks t) (eqb c (bitsAt row t)) both)));
+        }
+
+    pub vote-differ : b ≡ false → 0 < k → Voted c (k - 1) (t + 1)
+    vote-differ e l =
+        record { upTo = omega arith; vote = lower holds c k t (so-far .vote) l (sym (holds-test c v t read test) ∙ e) }
+
+    module _ (zero : k ≤ 0) where
+      none : k ≡ 0
+      none = omega arith
+
+      pub vote-replace : getD marks t 0 ≡ 1 → Voted v 1 (t + 1)
+      vote-replace e =
+          record {
+            upTo = omega arith;
+            vote = rw read (bits-replace (presentAt marks) (bitsAt row) c k t (so-far .vote) none (eq-eqb (getD marks t 0) 1 e));
+          }
+
+      pub vote-missing : (getD marks t 0 ≡ 1 → ⊥) → Voted c k (t + 1)
+      vote-missing d =
+          record {
+            upTo = omega arith;
+            vote = bits-missing (presentAt marks) (bitsAt row) c k t (so-far .vote) none (ne-eqb (getD marks t 0) 1 d);
+          }
+
+  pub vote-all : (c k t : ℕ) → Voted c k t → length marks ≤ t → Elected marks row c
+  vote-all c k t w l =
+      let e : t ≡ length marks = omega (arith, w .upTo) in
+      record { lead = k; vote = rw e at (w .vote) }
+
+  -- ---- the answers
+
+  pub decision-long : (need : ℕ) → 64 < length marks → knownFaulty ≡ rowDecision need marks row
+  unfolding rowDecision
+  decision-long need l = rw (lt-ltb 64 (length marks) l)
+
+  module _ (need : ℕ) (few : length marks ≤ 64) {b : Bool} (test : b ≡ (not (eqb (length row) (4 * length marks)) || leb need (length marks / 2))) where
+    pub decision-unfit : b ≡ true → knownFaulty ≡ rowDecision need marks row
+    unfolding rowDecision
+    decision-unfit e = rw (le-ltb 64 (length marks) few, sym test ∙ e)
+
+    module _ (f : b ≡ false) where
+      rest : (not (eqb (length row) (4 * length marks)) || leb need (length marks / 2)) ≡ false
+      rest = sym test ∙ f
+
+      pub fit-row : length row ≡ 4 * length marks
+      fit-row = eqb-true (length row) (4 * length marks) (not-false (eqb (length row) (4 * length marks)) (or-left (not (eqb (length row) (4 * length marks))) (leb need (length marks / 2)) rest))
+
+      fit-most : length marks < need + need
+      fit-most = omega (arith, leb-false need (length marks / 2) (or-right (not (eqb (length row) (4 * length marks))) (leb need (length marks / 2)) rest))
+
+      module _ (c : ℕ) (elected : Elected marks row c) (low : (t : ℕ) → bitsAt row t < 4294967296) (n : ℕ) (counted : n ≡ count (holds c) (length marks)) where
+        candidate-decides : cond (leb need n) (decided (toZ w32 c)) knownFaulty ≡ rowDecision need marks row
+        unfolding rowDecision
+        candidate-decides =
+            rw (le-ltb 64 (length marks) few, rest, counted)
+            (sym
+            (bits-decide (toZ w32) 4294967296 toZ-one (presentAt marks) (bitsAt row) (length marks) (λ t _. low t) c (elected .lead) (elected .vote) need fit-most))
+
+        pub decision-short : n < need → knownFaulty ≡ rowDecision need marks row
+        decision-short l = rw (lt-leb need n l) at candidate-decides
+
+        pub decision-bits : need ≤ n → decided (toZ w32 c) ≡ rowDecision need marks row
+        decision-bits l = rw (le-leb need n l) at candidate-decides
+
+-- four bytes make a number of 32 bits
+pub bits-low : (row : List ℕ) → ((i : ℕ) → getD row i 0 < 256) → (t : ℕ) → bitsAt row t < 4294967296
+unfolding word
+bits-low row f t = omega (arith, f (4 * t), f (4 * t + 1), f (4 * t + 2), f (4 * t + 3))
+
+-- a row of at most 64 copies, four bytes each, of which need are more than half, is decided by document 01's definition
+pub decision-fit : (need : ℕ) (marks row : List ℕ) → length marks ≤ 64 → length row ≡ 4 * length marks → length marks < need + need → rowDecision need marks row ≡ decide need (length marks) (copyAt marks row)
+unfolding rowDecision
+decision-fit need marks row few size most =
+    rw (le-ltb 64 (length marks) few, eq-eqb (length row) (4 * length marks) size, lt-leb need (length marks / 2) (omega arith))

@@ -1,0 +1,44 @@
+-- A row's copies as bytes: a mark for each copy, and four bytes of each.
+--   presentAt, bitsAt   a copy's mark is 1; its number
+--   copyAt              the copy
+--   Elected             the candidate of the majority vote
+--   decisionOf          what this crate's enum says in document 01's terms
+--   rowDecision         document 01's decision of a row of at most 64 copies, of which need are more than half
+use mathlib.Core.Bool.{Bool, cond, not, _||_}
+use mathlib.Core.List.{List}
+use Prim.Native.Nat.{ℕ, _*_, _/_}
+use lib.Dec.{leb, ltb, eqb}
+use lib.ListN.{length, getD}
+use mir.Syntax.{w32}
+use mir.Val.{toZ}
+use Rattle.model.specs.Ensemble.{Readings, missing, present}
+use Rattle.model.specs.RoundSheet.{word}
+use Rattle.model.specs.Steps.{Decision, decided, knownFaulty, decide}
+use Rattle.crusaders.proofs.Majority.{Candidate}
+use Rattle.crusaders.proofs.Candidates.{holds-bits}
+use Rattle.decisions.specs.declared.Decided.{Decided}
+use Rattle.decisions.specs.declared.Decided.the-variants.{Bits, KnownFaulty}
+
+abbrev pub presentAt : List ℕ → ℕ → Bool
+presentAt marks t = eqb (getD marks t 0) 1
+
+abbrev pub bitsAt : List ℕ → ℕ → ℕ
+bitsAt row t = word row (4 * t)
+
+abbrev pub copyAt : List ℕ → List ℕ → Readings
+copyAt marks row t = cond (presentAt marks t) (present (toZ w32 (bitsAt row t))) missing
+
+-- the vote's candidate, with a counter that we do not name
+pub record Elected (marks row : List ℕ) (c : ℕ) : Type 0 where
+  pub lead : ℕ
+  pub vote : Candidate (holds-bits (presentAt marks) (bitsAt row)) c lead (length marks)
+
+abbrev pub decisionOf : Decided → Decision
+decisionOf (Bits b) = decided (toZ w32 b)
+decisionOf KnownFaulty = knownFaulty
+
+abbrev pub unfit : ℕ → List ℕ → List ℕ → Bool
+unfit need marks row = ltb 64 (length marks) || (not (eqb (length row) (4 * length marks)) || leb need (length marks / 2))
+
+unfoldable pub rowDecision : ℕ → List ℕ → List ℕ → Decision
+rowDecision need marks row = cond (unfit need marks row) knownFaulty (decide need (length marks) (copyAt marks row))

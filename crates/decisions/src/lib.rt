@@ -1,0 +1,93 @@
+// The crusaders decision of a row: a majority vote finds the one value that can have enough copies, and one count decides.
+ghost use mathlib.Core.Path.{_≡_};
+ghost use mathlib.Core.Bool.{not, _&&_, _||_};
+ghost use Prim.Native.Nat.{_+_, _*_, _/_, _≤_, _<_};
+ghost use lib.Dec.{leb, eqb};
+ghost use lib.ListN.{length};
+ghost use Rattle.arithmetic.specs.Counting.{count};
+ghost use Rattle.crusaders.proofs.Candidates.{holds-bits};
+ghost use Rattle.decisions.specs.Rows.{presentAt, bitsAt, Elected, decisionOf, rowDecision};
+
+// The bits of the decided value, or "known faulty".
+pub enum Decided {
+    Bits(u32),
+    KnownFaulty,
+}
+
+// The number of the copy t.
+fn copy_bits(row: &[u8], t: usize) -> u32
+    requires { ⌜ (4 * t + 3 < length (now row)) × (t < 64) ⌝ }
+    ensures { λ r. ⌜ r ≡ bitsAt (now (row .entry)) t ⌝ }
+{
+    let at = 4 * t;
+    words::join(row[at], row[at + 1], row[at + 2], row[at + 3])
+}
+
+// Whether a copy is present and holds a value.
+fn holds(mark: u8, value: u32, bits: u32) -> bool
+    ensures { λ r. ⌜ r ≡ (eqb mark 1 && eqb value bits) ⌝ }
+{
+    (mark == 1) & (value == bits)
+}
+
+// The candidate of the majority vote: the value that more than half of the copies hold, if there is one.
+fn vote(marks: &[u8], row: &[u8]) -> u32
+    requires { ⌜ (length (now marks) ≤ 64) × (length (now row) ≡ 4 * length (now marks)) ⌝ }
+    ensures { λ r. ⌜ Elected (now (marks .entry)) (now (row .entry)) r ⌝ }
+{
+    let mut candidate: u32 = 0;
+    let mut lead: u32 = 0;
+    let mut t = 0;
+    'copies: while t < marks.len() {
+        let mark = marks[t];
+        let bits = copy_bits(row, t);
+        if holds(mark, candidate, bits) {
+            lead += 1;
+        } else if 0 < lead {
+            lead -= 1;
+        } else if mark == 1 {
+            candidate = bits;
+            lead = 1;
+        }
+        t += 1;
+    }
+    candidate
+}
+
+// How many present copies hold a value.
+fn count_copies(marks: &[u8], row: &[u8], value: u32) -> u32
+    requires { ⌜ (length (now marks) ≤ 64) × (length (now row) ≡ 4 * length (now marks)) ⌝ }
+    ensures { λ r. ⌜ r ≡ count (holds-bits (presentAt (now (marks .entry))) (bitsAt (now (row .entry))) value) (length (now (marks .entry))) ⌝ }
+{
+    let mut copies: u32 = 0;
+    let mut t = 0;
+    'copies: while t < marks.len() {
+        copies += holds(marks[t], value, copy_bits(row, t)) as u32;
+        t += 1;
+    }
+    copies
+}
+
+fn misfit(need: u32, marks: usize, row: usize) -> bool
+    requires { ⌜ marks ≤ 64 ⌝ }
+    ensures { λ r. ⌜ r ≡ (not (eqb row (4 * marks)) || leb need (marks / 2)) ⌝ }
+{
+    (row != 4 * marks) | (need as usize <= marks / 2)
+}
+
+// The decision of a row of at most 64 copies, with four bytes for each, where need are more than half; any other is known faulty.
+pub fn decide(marks: &[u8], row: &[u8], need: u32) -> Decided
+    ensures { λ r. ⌜ decisionOf r ≡ rowDecision need (now (marks .entry)) (now (row .entry)) ⌝ }
+{
+    if 64 < marks.len() {
+        return Decided::KnownFaulty;
+    }
+    if misfit(need, marks.len(), row.len()) {
+        return Decided::KnownFaulty;
+    }
+    let candidate = vote(marks, row);
+    if count_copies(marks, row, candidate) < need {
+        return Decided::KnownFaulty;
+    }
+    Decided::Bits(candidate)
+}

@@ -1,0 +1,97 @@
+-- Loops that count or add up the indices below n, or store a table, one at a time.
+--   Counts p n c t   c counts those below t that pass p
+--   Adds f n s t     s is the sum of f below t, where f is below 2^32
+-- Assumes nothing.
+use mathlib.Core.Bool.{Bool, true, false}
+use mathlib.Core.List.{List, [], _∷_, _++_}
+use mathlib.Core.Path.{_≡_, refl, sym, ap, ap₂, _∙_}
+use Prim.Native.Nat.{ℕ, _+_, _*_, _≤_, _<_, zero-le}
+use native.Mathlib.Nat.{le-refl, le-antisymm}
+use native.Mathlib.Numerals.{add-one}
+use native.Mathlib.Omega.{arith}
+use lib.ListN.{length, set}
+use mir.Val.{boolByte}
+use Rattle.arithmetic.specs.Counting.{bit, count}
+use Rattle.arithmetic.specs.Writing.{table, overwrite}
+use Rattle.arithmetic.proofs.Writing.{length-table, overwrite-snoc}
+use Rattle.arithmetic.proofs.Counting.{count-le}
+use Rattle.arithmetic.proofs.Sums.{total}
+
+-- a flag as a number
+pub flag : (b : Bool) → boolByte b ≡ bit b
+flag true = refl
+flag false = refl
+
+pub flag-small : (b : Bool) → boolByte b ≤ 1
+flag-small true = le-refl 1
+flag-small false = zero-le
+
+pub count-next : (p : ℕ → Bool) (n : ℕ) → count p (n + 1) ≡ count p n + bit (p n)
+unfolding count
+count-next p n = rw (add-one n)
+
+pub total-next : (f : ℕ → ℕ) (n : ℕ) → total f (n + 1) ≡ total f n + f n
+unfolding total
+total-next f n = rw (add-one n)
+
+pub record Counts (p : ℕ → Bool) (n c t : ℕ) : Type 0 where
+  pub upTo : t ≤ n
+  pub exact : c ≡ count p t
+
+module _ (p : ℕ → Bool) (n : ℕ) where
+  pub count-none : Counts p n 0 0
+  unfolding count
+  count-none = record { upTo = zero-le; exact = refl }
+
+  module _ {c t : ℕ} (so-far : Counts p n c t) where
+    pub count-small : c ≤ t
+    count-small = let l = count-le p t in omega (arith, so-far .exact)
+
+    pub count-one : t < n → Counts p n (c + boolByte (p t)) (t + 1)
+    count-one h =
+        record {
+          upTo = omega arith;
+          exact = ap₂ (λ (a b : ℕ). a + b) (so-far .exact) (flag (p t)) ∙ sym (count-next p t);
+        }
+
+    pub count-all : n ≤ t → c ≡ count p n
+    count-all h = let e : t ≡ n = omega (arith, so-far .upTo) in rw (← e) (so-far .exact)
+
+pub record Adds (f : ℕ → ℕ) (n s t : ℕ) : Type 0 where
+  pub upTo : t ≤ n
+  pub exact : s ≡ total f t
+  pub small : s ≤ 4294967295 * t
+
+module _ (f : ℕ → ℕ) (n : ℕ) where
+  pub add-none : Adds f n 0 0
+  unfolding total
+  add-none = record { upTo = zero-le; exact = refl; small = zero-le }
+
+  module _ {s t : ℕ} (so-far : Adds f n s t) where
+    pub add-on : t < n → (v : ℕ) → v ≡ f t → v < 4294967296 → Adds f n (s + v) (t + 1)
+    add-on h v e l =
+        record {
+          upTo = omega arith;
+          exact = ap₂ (λ (a b : ℕ). a + b) (so-far .exact) e ∙ sym (total-next f t);
+          small = omega (arith, so-far .small);
+        }
+
+    pub add-all : n ≤ t → s ≡ total f n
+    add-all h = let e : t ≡ n = omega (arith, so-far .upTo) in rw (← e) (so-far .exact)
+
+module _ {A : Type 0} where
+  -- a table stored entry by entry: nothing yet, the next entry, all of them
+  pub store-none : (f : ℕ → A) (old : List A) → old ≡ overwrite (table f 0) old
+  unfolding table overwrite
+  store-none f old = refl
+
+  pub store-next : (f : ℕ → A) (n : ℕ) (old now : List A) (x : A) → now ≡ overwrite (table f n) old → x ≡ f n → n < length old → set now n x ≡ overwrite (table f (n + 1)) old
+  unfolding table
+  store-next f n old now x s e h =
+      ap₂ (λ (l : List A) (k : ℕ). set l k x) s (sym (length-table f n))
+      ∙ overwrite-snoc (table f n) old x (rw (length-table f n) h)
+      ∙ ap (λ (y : A). overwrite (table f n ++ (y ∷ [])) old) e
+      ∙ ap (λ (k : ℕ). overwrite (table f k) old) (sym (add-one n))
+
+  pub store-ended : (f : ℕ → A) (n e : ℕ) (old now : List A) → e ≤ n → n ≤ e → now ≡ overwrite (table f e) old → now ≡ overwrite (table f n) old
+  store-ended f n e old now a b s = s ∙ ap (λ (k : ℕ). overwrite (table f k) old) (le-antisymm a b)

@@ -1,0 +1,1 @@
+// Laws of loops that count and add up. No function.

@@ -1,0 +1,121 @@
+-- `reception::receive_relayed` meets its contract. The loop's invariant: the first r values stand for the first r decisions. The measure is what is
+-- left of the rows.
+-- Assumes nothing.
+use borrow.Author.Needs.{needs}
+use mathlib.Core.List.{List}
+use mathlib.Core.Path.{_≡_, refl, sym, ap₂, _∙_}
+use native.Mathlib.Omega.{arith}
+use Prim.Native.Nat.{ℕ, _+_, _*_, _-_, _≤_}
+use lib.ListN.{length, take, drop, length-set}
+use Rattle.model.specs.Steps.{decidedReading}
+use Rattle.decisions.specs.Rows.{rowDecision}
+use Rattle.reception.specs.Standing.{Stands, rowReading}
+use Rattle.reception.proofs.Standing.{stands-none, stands-next, stands-ended, row-room, square-most}
+use Rattle.reception.proofs.receive_relayed.Statement.{statement}
+use Rattle.reception.proofs.receive_relayed.Tie as tie
+
+abbrev Inv-rows : tie.InvT-rows
+Inv-rows sheet settings need values₀ n r₀ values r = (n ≡ settings .n) × (r ≤ n) × Stands (rowReading sheet settings need) values r × (length values ≡ length values₀)
+
+abbrev μ-rows : tie.MeasureT-rows
+μ-rows sheet settings need values₀ n r₀ values r = n - r
+
+cast-n : tie.Need-cast-n Inv-rows μ-rows
+cast-n c = search needs
+
+rows-holds : tie.Need-rows-holds Inv-rows μ-rows
+rows-holds c = (refl, search needs, stands-none (rowReading (c .before .before .before .args .sheet .now) (c .before .before .before .args .settings) (c .before .before .before .args .need)) (c .before .before .before .args .values .now), refl)
+
+-- the row lies within the marks
+within : (c : tie.In-rows Inv-rows μ-rows) → (c .before .rows .r * c .before .before .before .before .before .args .settings .n + c .before .before .before .before .before .args .settings .n ≤ 4096) × (8 + (c .before .rows .r * c .before .before .before .before .before .args .settings .n + c .before .before .before .before .before .args .settings .n) ≤ length (c .before .before .before .before .before .args .sheet .now))
+within c =
+    let room = row-room (c .before .rows .r) (c .before .before .before .before .before .args .settings .n) (c .rows-test .taken) in
+    let most = square-most (c .before .before .before .before .before .args .settings .n) (c .before .before .before .before .before .pre .0) in
+    (omega arith, omega (arith, c .before .before .before .before .before .pre .1))
+
+mul-start : tie.Need-mul-start Inv-rows μ-rows
+mul-start c = let w = within c in omega arith
+
+add-start : tie.Need-add-start Inv-rows μ-rows
+add-start c = let w = within c in omega arith
+
+add-receive-row : tie.Need-add-receive-row Inv-rows μ-rows
+add-receive-row c = let w = within c in omega arith
+
+sub-receive-row : tie.Need-sub-receive-row Inv-rows μ-rows
+sub-receive-row c = let w = within c in omega arith
+
+part-receive-row-start : tie.Need-part-receive-row-start Inv-rows μ-rows
+part-receive-row-start c = let w = within c in omega arith
+
+part-receive-row-end : tie.Need-part-receive-row-end Inv-rows μ-rows
+part-receive-row-end c = let w = within c in omega arith
+
+row-part-requires : tie.Need-row-part-requires Inv-rows μ-rows
+row-part-requires c κs = search needs
+
+receive-row-requires : tie.Need-receive-row-requires Inv-rows μ-rows
+receive-row-requires c κs = search needs
+
+mul-values : tie.Need-mul-values Inv-rows μ-rows
+mul-values c = search needs
+
+slice-write-values : tie.Need-slice-write-values Inv-rows μ-rows
+slice-write-values c = search needs
+
+add-r : tie.Need-add-r Inv-rows μ-rows
+add-r c = search needs
+
+rows-less : tie.Need-rows-less Inv-rows μ-rows
+rows-less c = search needs
+
+rows-again : tie.Need-rows-again Inv-rows μ-rows
+rows-again c = (
+  refl,
+  search needs,
+  stands-next (rowReading (c .before .before .before .before .before .before .before .before .args .sheet .now) (c .before .before .before .before .before .before .before .before .args .settings) (c .before .before .before .before .before .before .before .before .args .need)) (c .before .before .before .before .rows .values) (c .before .before .before .before .rows .r) (c .receive-row .result)
+      (c .before .before .before .before .rows .inv .2)
+      (omega (arith, c .before .before .before .rows-test .taken, c .before .before .before .before .before .before .before .before .pre .2, c .before .before .before .before .rows .inv .3))
+      (ap₂ (λ (k : ℕ) (part : List ℕ). decidedReading (rowDecision (c .before .before .before .before .before .before .before .before .args .need) (take k (drop (8 + c .before .before .before .before .rows .r * c .before .before .before .before .before .before .before .before .args .settings .n) (c .before .before .before .before .before .before .before .before .args .sheet .now))) part))
+      (sym (width-back (8 + c .before .before .before .before .rows .r * c .before .before .before .before .before .before .before .before .args .settings .n) (c .before .before .before .before .before .before .before .before .args .settings .n)))
+      (sym (c .before .row-part .ensures))
+      ∙ c .receive-row .ensures),
+  length-set (c .before .before .before .before .rows .values) (c .before .before .before .before .rows .r) (c .receive-row .result) ∙ c .before .before .before .before .rows .inv .3,
+)
+  where
+    width-back : (a w : ℕ) → a + w - a ≡ w
+    width-back a w = omega arith
+
+same-length : tie.Need-same-length Inv-rows μ-rows
+same-length c = search needs
+
+returns : tie.Need-returns Inv-rows μ-rows
+returns c =
+    stands-ended (rowReading (c .before .before .before .before .before .args .sheet .now) (c .before .before .before .before .before .args .settings) (c .before .before .before .before .before .args .need)) (c .before .rows .values) (c .before .before .before .before .before .args .settings .n) (c .before .rows .r)
+    (c .before .rows .inv .1)
+    (c .rows-test .left)
+    (c .before .rows .inv .2)
+
+pub receive-relayed-spec : {M : Type 1} → statement M
+receive-relayed-spec =
+    tie.close
+    (tie.spec
+    Inv-rows
+    μ-rows
+    cast-n
+    rows-holds
+    mul-start
+    add-start
+    add-receive-row
+    sub-receive-row
+    part-receive-row-start
+    part-receive-row-end
+    row-part-requires
+    receive-row-requires
+    mul-values
+    slice-write-values
+    add-r
+    rows-less
+    rows-again
+    same-length
+    returns)

@@ -1,0 +1,80 @@
+// What a cabinet reads of the others: the readings of a sheet as naturals, by FCA as sent, by CCA as decided.
+ghost use mathlib.Core.Path.{_≡_};
+ghost use Prim.Native.Nat.{_+_, _*_, _≤_, _<_};
+ghost use lib.Dec.{ltb};
+ghost use lib.ListN.{length};
+ghost use Rattle.model.specs.Steps.{decidedReading};
+ghost use Rattle.rounds.proofs.Shifted.{shift};
+ghost use Rattle.decisions.specs.Rows.{copyAt, rowDecision};
+ghost use Rattle.reception.specs.Standing.{Stands, rowReading, fitting, Filled};
+use decisions::Decided;
+use model::Settings;
+
+// The readings as sent: their marks, and four bytes each.
+fn receive_direct(marks: &[u8], row: &[u8], values: &mut [u64])
+    requires { ⌜ (length (now marks) ≤ length (now values)) × (length (now marks) ≤ 64) ⌝ }
+    ensures { λ _. ⌜ Stands (copyAt (now (marks .entry)) (now (row .entry))) (now (values .exit)) (length (now (marks .entry))) ⌝ }
+{
+    let mut t: usize = 0;
+    'readings: while t < marks.len() {
+        values[t] = agreement::entry_value(marks[t], words::word_at(row, 4 * t));
+        t += 1;
+    }
+}
+
+// The reading that a row of copies decides.
+fn receive_row(marks: &[u8], row: &[u8], need: u32) -> u64
+    ensures { λ r. ⌜ decidedReading (rowDecision need (now (marks .entry)) (now (row .entry))) ≡ shift 2147483648 (ltb r 4294967296) r ⌝ }
+{
+    match decisions::decide(marks, row, need) {
+        Decided::Bits(bits) => agreement::entry_value(1, bits),
+        Decided::KnownFaulty => agreement::entry_value(0, 0),
+    }
+}
+
+// The readings as decided, a row for each cabinet.
+fn receive_relayed(sheet: &[u8], settings: Settings, need: u32, values: &mut [u64])
+    requires { ⌜ (settings .n ≤ 64) × (8 + settings .n * settings .n ≤ length (now sheet)) × (settings .n ≤ length (now values)) ⌝ }
+    ensures { λ _. ⌜ Stands (rowReading (now (sheet .entry)) settings need) (now (values .exit)) (settings .n) ⌝ }
+{
+    let n = settings.n as usize;
+    let mut r: usize = 0;
+    'rows: while r < n {
+        let start = 8 + r * n;
+        values[r] = receive_row(
+            &sheet[start..start + n],
+            rows::row_part(sheet, settings, r),
+            need,
+        );
+        r += 1;
+    }
+}
+
+// Whether a sheet and a lent list fit settings with at most 64 cabinets, of which more than half must agree.
+fn fits(settings: Settings, sheet: usize, values: usize) -> bool
+    ensures { λ r. ⌜ r ≡ fitting settings sheet values ⌝ }
+{
+    let n = settings.n as usize;
+    let m = settings.m as usize;
+    ((n <= 64) & (2 * m < n))
+        & ((sheet == 8 + 5 * inspection::entry_count(settings)) & (values == n))
+}
+
+// Fills the list with the sheet's readings. Where the sizes do not fit it changes nothing, and answers false.
+pub fn receive(sheet: &[u8], settings: Settings, values: &mut [u64]) -> bool
+    ensures { λ r. ⌜ r ≡ fitting settings (length (now (sheet .entry))) (length (now (values .entry))) ⌝ }
+    ensures { λ r. ⌜ Filled (now (sheet .entry)) settings (now (values .entry)) r (now (values .exit)) ⌝ }
+{
+    let n = settings.n as usize;
+    if !fits(settings, sheet.len(), values.len()) {
+        return false;
+    }
+    if settings.rule == 1 {
+        let need = settings.n - settings.m;
+        receive_relayed(sheet, settings, need as u32, values);
+    } else {
+        let end = 8 + n;
+        receive_direct(&sheet[8..end], &sheet[end..end + 4 * n], values);
+    }
+    true
+}

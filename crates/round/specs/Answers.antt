@@ -1,0 +1,15 @@
+-- What the enum of settling says in document 01's terms.
+use mathlib.Core.List.{List}
+use Prim.Native.Nat.{ℕ}
+use Rattle.model.specs.Calls.{Verdict, granted, refused, Written}
+use Rattle.round.specs.declared.Settled.{Settled}
+use Rattle.round.specs.declared.Settled.the-variants.{Granted, Refused}
+
+-- the answer sheet's length, or the first refusal
+abbrev pub verdictOf : Settled → Verdict ℕ
+verdictOf (Granted size) = granted size
+verdictOf (Refused r) = refused r
+
+-- the answer, with the buffer as it is left
+abbrev pub settledAs : Settled → List ℕ → Written
+settledAs r buffer = record { verdict = verdictOf r; buffer = buffer }

@@ -1,0 +1,41 @@
+-- A settled round held as naturals, in document 01's terms: readings and values moved up by 2^31; a number from 2^32 on is a missing reading in
+-- the list of readings, and one that is not accepted in the list of those kept.
+--   markIn, usedIn    the mark of a cabinet, and the value used for it
+--   roundIn           the round
+use mathlib.Core.Bool.{cond}
+use mathlib.Core.List.{List, [], _∷_, _++_}
+use Prim.Native.Nat.{ℕ}
+use lib.IntN.{ℤ}
+use Rattle.arithmetic.proofs.Shift.{down}
+use Rattle.model.specs.RoundSheet.{bytes4, settingsAt}
+use Rattle.model.specs.AnswerSheet.{answerLength, answerBytes}
+use Rattle.model.specs.Refusals.{tooManyFaults}
+use Rattle.model.specs.Calls.{Written, writtenAfter}
+use Rattle.model.specs.Steps.{Round, roundAt}
+use Rattle.estimates.specs.Values.{valueAt, presentAt}
+
+-- "0 missing or known faulty, 1 accepted, 2 present and not accepted"
+abbrev pub markIn : List ℕ → List ℕ → ℕ → ℕ
+markIn values kept r = cond (presentAt kept r) 1 (cond (presentAt values r) 2 0)
+
+abbrev pub usedIn : List ℕ → ℕ → ℕ → ℤ
+usedIn kept e r = down 2147483648 (cond (presentAt kept r) (valueAt kept r) e)
+
+abbrev pub roundIn : ℕ → ℕ → ℕ → List ℕ → List ℕ → Round
+roundIn count e v values kept =
+    record {
+      count = count;
+      estimate = down 2147483648 e;
+      value = down 2147483648 v;
+      mark = markIn values kept;
+      used = usedIn kept e;
+    }
+
+-- bytes 0 to 9, from bits
+abbrev pub headerBytes : ℕ → ℕ → ℕ → ℕ → List ℕ
+headerBytes n count estimate value = (n ∷ count ∷ []) ++ (bytes4 estimate ++ bytes4 value)
+
+-- what settling gives for a sheet that passes checks 1 to 9: refusal 10, or the answer sheet
+abbrev pub settledAfter : List ℕ → List ℕ → Written
+settledAfter s old =
+    writtenAfter (tooManyFaults (roundAt s .count)) (answerLength (settingsAt s .n)) (answerBytes (settingsAt s .n) (roundAt s)) old

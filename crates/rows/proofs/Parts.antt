@@ -1,0 +1,48 @@
+-- Where a row lies: bounds on its bytes, and the part by the tests that the code makes.
+-- Assumes nothing.
+use mathlib.Core.Bool.{Bool, true, false, cond}
+use mathlib.Core.List.{List, []}
+use mathlib.Core.Path.{_≡_, refl, sym, ap, _∙_}
+use Prim.Native.Nat.{ℕ, _+_, _*_, _-_, _≤_, _<_}
+use native.Mathlib.Nat.{mul-le-mul, le-of-lt, le-trans}
+use native.Mathlib.Omega.{arith}
+use borrow.Author.Tests.{lt-ltb, le-ltb, le-leb, lt-leb}
+use lib.Dec.{eqb}
+use lib.ListN.{length, take, drop}
+use Rattle.model.specs.declared.Settings.{Settings}
+use Rattle.model.specs.RoundSheet.{cca, entryCount, rowEntries, rowPart}
+use Rattle.rows.specs.Parts.{rowEnd, partAt}
+
+module _ (c : Settings) (small : c .n ≤ 255) where
+  pub entries-most : entryCount c ≤ 65025
+  unfolding entryCount
+  entries-most = go (eqb (c .rule) cca)
+    where
+      go : (b : Bool) → cond b (c .n * c .n) (c .n) ≤ 65025
+      go true = mul-le-mul small small
+      go false = omega arith
+
+  pub row-entries-most : rowEntries c ≤ 255
+  unfolding rowEntries
+  row-entries-most = go (eqb (c .rule) cca)
+    where
+      go : (b : Bool) → cond b (c .n) 1 ≤ 255
+      go true = small
+      go false = omega arith
+
+  pub row-most : (r : ℕ) → r < c .n → r * rowEntries c ≤ 65025
+  row-most r l = mul-le-mul (le-trans (le-of-lt l) small) row-entries-most
+
+module _ (s : List ℕ) (c : Settings) (r : ℕ) where
+  pub past-last : c .n ≤ r → [] ≡ partAt s c r
+  unfolding partAt
+  past-last h = rw (le-ltb r (c .n) h)
+
+  module _ (here : r < c .n) where
+    pub past-end : length s < rowEnd c r → [] ≡ partAt s c r
+    unfolding partAt
+    past-end h = rw (lt-ltb r (c .n) here, lt-leb (rowEnd c r) (length s) h)
+
+    pub row-lies : rowEnd c r ≤ length s → take (4 * rowEntries c) (drop (8 + entryCount c + 4 * (r * rowEntries c)) s) ≡ partAt s c r
+    unfolding partAt rowPart
+    row-lies h = rw (lt-ltb r (c .n) here, le-leb (rowEnd c r) (length s) h)

@@ -1,0 +1,33 @@
+// Document 01, "One cabinet's row of readings is shown as the part of the sheet that holds it": the part, of any sheet.
+ghost use mathlib.Core.Path.{_≡_};
+ghost use Rattle.model.specs.RoundSheet.{rowEntries};
+ghost use Rattle.rows.specs.Parts.{partAt};
+use model::Settings;
+
+// The readings in a row: one for FCA, N for CCA.
+pub fn row_entries(settings: Settings) -> usize
+    ensures { λ r. ⌜ r ≡ rowEntries settings ⌝ }
+{
+    if settings.rule == 1 {
+        settings.n as usize
+    } else {
+        1
+    }
+}
+
+// The part of the sheet that holds cabinet r's readings: a part of the caller's own slice.
+pub fn row_part(sheet: &[u8], settings: Settings, r: usize) -> &[u8]
+    ensures { λ part. ⌜ now part ≡ partAt (now (sheet .entry)) settings r ⌝ }
+{
+    let n = settings.n as usize;
+    if n <= r {
+        return &sheet[..0];
+    }
+    let width = row_entries(settings);
+    let start = 8 + inspection::entry_count(settings) + 4 * (r * width);
+    let end = start + 4 * width;
+    if sheet.len() < end {
+        return &sheet[..0];
+    }
+    &sheet[start..end]
+}

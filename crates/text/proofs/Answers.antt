@@ -1,0 +1,96 @@
+-- The text of an answer sheet's bytes: a cabinet's line of what the bytes say, how long the text is, and the text of
+-- a settled round.
+-- Assumes nothing.
+use mathlib.Core.List.{List, _++_}
+use mathlib.Core.Path.{_≡_, refl, ap}
+use Prim.Native.Nat.{ℕ, zero, suc, _+_, _*_, _≤_, _<_}
+use native.Mathlib.Omega.{arith}
+use lib.ListN.{length, length-append}
+use mir.Syntax.{w32}
+use mir.Val.{SFits}
+use Rattle.arithmetic.specs.Writing.{overwrite}
+use Rattle.arithmetic.proofs.Counting.{below, last}
+use Rattle.model.specs.RoundSheet.{byte, word}
+use Rattle.model.specs.AnswerSheet.{answerBytes}
+use Rattle.model.specs.Steps.{Round}
+use Rattle.model.specs.Listing.{cabinetLines, roundText}
+use Rattle.sheets.proofs.Answer.{answer-cabinets, answer-count, answer-estimate, answer-value, answer-mark, answer-used}
+use Rattle.text.specs.Putting.{Puts}
+use Rattle.text.specs.Text.{roundIn, roundLine, cabinetLine, roundCapacity, textIn, roundWritten}
+use Rattle.text.proofs.Putting.{puts-then}
+use Rattle.text.proofs.Lines.{length-round-line, cabinets-more, cabinets-grow, length-cabinets}
+
+-- ---- the lines of an answer sheet's bytes
+
+module _ (s : List ℕ) where
+  module _ (n r mark used : ℕ) (cabinets : n ≡ byte s 0) (m : mark ≡ byte s (10 + r)) (u : used ≡ word s (10 + n + 4 * r)) where
+    pub cabinet-next : cabinetLines (roundIn s) (r + 1) ≡ cabinetLines (roundIn s) r ++ cabinetLine r mark used
+    unfolding roundIn
+    cabinet-next = rw (m, u, cabinets) (cabinets-more (roundIn s) r)
+
+    pub cabinet-room : r < n
+        → length (cabinetLines (roundIn s) r) + length (cabinetLine r mark used) ≤ length (cabinetLines (roundIn s) n)
+    cabinet-room h =
+        let grown = cabinets-grow (roundIn s) (r + 1) n (omega arith) in
+        let next = ap length cabinet-next in
+        let whole = length-append (cabinetLines (roundIn s) r) (cabinetLine r mark used) in
+        omega arith
+
+    pub cabinet-put : {old text new : List ℕ} {at next end : ℕ} → Puts old at (cabinetLines (roundIn s) r) text next
+        → Puts text next (cabinetLine r mark used) new end → Puts old at (cabinetLines (roundIn s) (r + 1)) new end
+    cabinet-put before here = rw cabinet-next (puts-then before here)
+
+  pub round-lines : (n count estimate value : ℕ) → n ≡ byte s 0 → count ≡ byte s 1 → estimate ≡ word s 2
+      → value ≡ word s 6
+      → roundText (byte s 0) (roundIn s) ≡ roundLine n count estimate value ++ cabinetLines (roundIn s) n
+  unfolding roundText roundIn
+  round-lines n count estimate value cabinets accepted e v = rw (accepted, e, v, cabinets)
+
+  -- no answer sheet has a longer text
+  pub length-round : ((j : ℕ) → byte s j < 256) → length (roundText (byte s 0) (roundIn s)) ≤ roundCapacity
+  unfolding roundText roundIn
+  length-round small =
+      let few = small 0 in
+      let first = length-round-line (byte s 0) (byte s 1) (word s 2) (word s 6) few (small 1) in
+      let rest = length-cabinets (roundIn s) (byte s 0) (omega arith) (λ r l. small (10 + r)) in
+      let whole = length-append (roundLine (byte s 0) (byte s 1) (word s 2) (word s 6)) (cabinetLines (roundIn s) (byte s 0)) in
+      omega arith
+
+-- ---- a settled round
+
+-- a round's text depends on what it shows: of the marks and used values, those of cabinets 0 to n-1
+module _ (a b : Round) where
+  cabinets-alike : (n : ℕ) → ((r : ℕ) → r < n → a .mark r ≡ b .mark r) → ((r : ℕ) → r < n → a .used r ≡ b .used r)
+      → cabinetLines a n ≡ cabinetLines b n
+  unfolding cabinetLines
+  cabinets-alike zero marks used = refl
+  cabinets-alike (suc n) marks used = rw (cabinets-alike n (below marks) (below used), last marks, last used)
+
+  pub text-alike : (n : ℕ) → a .count ≡ b .count → a .estimate ≡ b .estimate → a .value ≡ b .value
+      → ((r : ℕ) → r < n → a .mark r ≡ b .mark r)
+      → ((r : ℕ) → r < n → a .used r ≡ b .used r)
+      → roundText n a ≡ roundText n b
+  unfolding roundText
+  text-alike n count estimate value marks used = rw (cabinets-alike n marks used, count, estimate, value)
+
+module _ (n : ℕ) (round : Round) (old : List ℕ)
+    (estimate-fits : SFits w32 (round .estimate)) (value-fits : SFits w32 (round .value))
+    (used-fit : (r : ℕ) → r < n → SFits w32 (round .used r)) where
+  abbrev answer : List ℕ
+  answer = overwrite (answerBytes n round) old
+
+  -- the round that the answer sheet of a settled round says has that round's text
+  pub settled-text : roundText n (roundIn answer) ≡ roundText n round
+  unfolding roundIn
+  settled-text =
+      text-alike (roundIn answer) round n
+      (answer-count n round old)
+      (answer-estimate n round old estimate-fits)
+      (answer-value n round old value-fits)
+      (answer-mark n round old)
+      (λ r h. rw (answer-cabinets n round old) (answer-used n round old r h (used-fit r h)))
+
+  pub settled-written : (buffer : List ℕ)
+      → roundWritten answer buffer ≡ textIn roundCapacity (roundText n round) buffer
+  unfolding roundWritten
+  settled-written buffer = rw (answer-cabinets n round old, settled-text)

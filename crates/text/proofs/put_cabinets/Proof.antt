@@ -1,0 +1,116 @@
+-- `text::put_cabinets` meets its contract. The loop's invariant: the lines of the cabinets passed are put. The
+-- measure is how many are left.
+-- Assumes nothing.
+use mathlib.Core.Path.{_≡_}
+use Prim.Native.Nat.{_-_, _≤_}
+use native.Mathlib.Omega.{arith}
+use Rattle.model.specs.Listing.{cabinetLines}
+use Rattle.text.specs.Putting.{Puts}
+use Rattle.text.specs.Text.{roundIn}
+use Rattle.text.proofs.Putting.{puts-length, puts-none}
+use Rattle.text.proofs.Lines.{cabinets-none}
+use Rattle.text.proofs.Answers.{cabinet-room, cabinet-put}
+use Rattle.text.proofs.put_cabinets.Statement.{statement}
+use Rattle.text.proofs.put_cabinets.Tie as tie
+
+abbrev Inv-cabinets : tie.InvT-cabinets
+Inv-cabinets text₀ at answer n next₀ passed₀ text next passed =
+    (passed ≤ n) × Puts text₀ at (cabinetLines (roundIn answer) passed) text next
+
+abbrev μ-cabinets : tie.MeasureT-cabinets
+μ-cabinets text₀ at answer n next₀ passed₀ text next passed = n - passed
+
+cabinets-holds : tie.Need-cabinets-holds Inv-cabinets μ-cabinets
+cabinets-holds c =
+    let args = c .before .before .args in
+    (omega arith, rw (cabinets-none (roundIn (args .answer .now))) (puts-none (args .text .now) (args .at)))
+
+add-passed : tie.Need-add-passed Inv-cabinets μ-cabinets
+add-passed c = omega arith
+
+cast-i : tie.Need-cast-i Inv-cabinets μ-cabinets
+cast-i c = omega arith
+
+add-byte-at : tie.Need-add-byte-at Inv-cabinets μ-cabinets
+add-byte-at c = omega arith
+
+byte-at-requires : tie.Need-byte-at-requires Inv-cabinets μ-cabinets
+byte-at-requires c κs = tt
+
+cast-mark : tie.Need-cast-mark Inv-cabinets μ-cabinets
+cast-mark c = omega arith
+
+add-word-at : tie.Need-add-word-at Inv-cabinets μ-cabinets
+add-word-at c = omega arith
+
+mul-word-at : tie.Need-mul-word-at Inv-cabinets μ-cabinets
+mul-word-at c = omega arith
+
+add-word-at-2 : tie.Need-add-word-at-2 Inv-cabinets μ-cabinets
+add-word-at-2 c = omega arith
+
+word-at-requires : tie.Need-word-at-requires Inv-cabinets μ-cabinets
+word-at-requires c κs = tt
+
+put-cabinet-requires : tie.Need-put-cabinet-requires Inv-cabinets μ-cabinets
+put-cabinet-requires c κs =
+    let head = c .before .before .before .before in
+    let start = head .before .before .before in
+    let room = cabinet-room (start .args .answer .now) (start .args .n) (head .cabinets .passed)
+    (c .before .before .byte-at .result)
+    (c .before .word-at .result)
+    (start .pre .0)
+    (c .before .before .byte-at .ensures)
+    (c .before .word-at .ensures)
+    (c .before .before .before .cabinets-test .taken) in
+    omega (arith, puts-length (head .cabinets .inv .1))
+
+cabinets-less : tie.Need-cabinets-less Inv-cabinets μ-cabinets
+cabinets-less c = omega arith
+
+cabinets-again : tie.Need-cabinets-again Inv-cabinets μ-cabinets
+cabinets-again c =
+    let read = c .before .before .before .before in
+    let head = read .before .before .before in
+    let start = head .before .before .before in (
+      omega arith,
+      cabinet-put (start .args .answer .now) (start .args .n) (head .cabinets .passed)
+          (read .before .byte-at .result)
+          (read .word-at .result)
+          (start .pre .0)
+          (read .before .byte-at .ensures)
+          (read .word-at .ensures)
+          (head .cabinets .inv .1)
+          (c .before .before .put-cabinet .ensures),
+    )
+
+same-length : tie.Need-same-length Inv-cabinets μ-cabinets
+same-length c = puts-length (c .before .cabinets .inv .1)
+
+returns : tie.Need-returns Inv-cabinets μ-cabinets
+returns c = rw whole at (c .before .cabinets .inv .1)
+  where
+    whole : c .before .cabinets .passed ≡ c .before .before .before .before .args .n
+    whole = omega arith
+
+pub put-cabinets-spec : {M : Type 1} → statement M
+put-cabinets-spec =
+    tie.close
+    (tie.spec
+    Inv-cabinets
+    μ-cabinets
+    cabinets-holds
+    add-passed
+    cast-i
+    add-byte-at
+    byte-at-requires
+    cast-mark
+    add-word-at
+    mul-word-at
+    add-word-at-2
+    word-at-requires
+    put-cabinet-requires
+    cabinets-less
+    cabinets-again
+    same-length
+    returns)

@@ -1,0 +1,77 @@
+-- `text::put_round` meets its contract: five fields and a line feed, one after the other.
+-- Assumes nothing.
+use borrow.Author.Needs.{needs}
+use native.Mathlib.Omega.{arith}
+use Rattle.model.specs.Listing.{line}
+use Rattle.text.proofs.Putting.{puts-then}
+use Rattle.text.proofs.Lines.{round-size}
+use Rattle.text.proofs.put_round.Statement.{statement}
+use Rattle.text.proofs.put_round.Tie as tie
+
+slice-aggregate-put-bytes : tie.Need-slice-aggregate-put-bytes
+slice-aggregate-put-bytes c = search needs
+
+put-bytes-requires : tie.Need-put-bytes-requires
+put-bytes-requires c κs =
+    let start = c .before .before .before in
+    omega (arith, round-size (start .args .n) (start .args .count) (start .args .estimate) (start .args .value))
+
+put-field-requires : tie.Need-put-field-requires
+put-field-requires c κs =
+    let start = c .before .before .before .before .before .before .before in
+    omega (arith, round-size (start .args .n) (start .args .count) (start .args .estimate) (start .args .value))
+
+put-field-requires-2 : tie.Need-put-field-requires-2
+put-field-requires-2 c κs =
+    let start = c .before .before .before .before .before .before .before .before .before .before .before in
+    omega (arith, round-size (start .args .n) (start .args .count) (start .args .estimate) (start .args .value))
+
+put-signed-field-requires : tie.Need-put-signed-field-requires
+put-signed-field-requires c κs =
+    let middle = c .before .before .before .before .before .before .before in
+    let start = middle .before .before .before .before .before .before .before .before in
+    omega (arith, round-size (start .args .n) (start .args .count) (start .args .estimate) (start .args .value))
+
+put-signed-field-requires-2 : tie.Need-put-signed-field-requires-2
+put-signed-field-requires-2 c κs =
+    let middle = c .before .before .before .before .before .before .before .before .before in
+    let start = middle .before .before .before .before .before .before .before .before .before .before in
+    omega (arith, round-size (start .args .n) (start .args .count) (start .args .estimate) (start .args .value))
+
+put-byte-requires : tie.Need-put-byte-requires
+put-byte-requires c κs =
+    let middle = c .before .before .before .before .before .before .before .before .before .before .before in
+    let start = middle .before .before .before .before .before .before .before .before .before .before .before .before in
+    omega (arith, round-size (start .args .n) (start .args .count) (start .args .estimate) (start .args .value))
+
+same-length : tie.Need-same-length
+same-length c = search needs
+
+returns : tie.Need-returns
+unfolding line
+returns c =
+    let sixth = c .before .before in
+    let fifth = sixth .before .before .before .before in
+    let fourth = fifth .before .before .before .before in
+    let third = fourth .before .before .before .before in
+    let second = third .before .before .before .before in
+    let first = second .before .before .before .before in
+    puts-then (first .put-bytes .ensures)
+    (puts-then (second .put-field .ensures)
+    (puts-then (third .put-field2 .ensures)
+    (puts-then (fourth .put-signed-field .ensures)
+    (puts-then (fifth .put-signed-field2 .ensures) (sixth .put-byte .ensures)))))
+
+pub put-round-spec : {M : Type 1} → statement M
+put-round-spec =
+    tie.close
+    (tie.spec
+    slice-aggregate-put-bytes
+    put-bytes-requires
+    put-field-requires
+    put-field-requires-2
+    put-signed-field-requires
+    put-signed-field-requires-2
+    put-byte-requires
+    same-length
+    returns)

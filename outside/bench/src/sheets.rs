@@ -1,0 +1,90 @@
+//! The sheets that are timed.
+
+use engine::Settings;
+use random::Random;
+use reference::{sheet_bytes, CCA, FCA};
+
+pub const SIZES: [u8; 5] = [4, 7, 16, 32, 64];
+pub const RULES: [(u8, &str); 2] = [(FCA, "FCA"), (CCA, "CCA")];
+pub const KINDS: [Kind; 3] = [Kind::AllAccepted, Kind::SomeLiars, Kind::WorstRefusal];
+
+const WINDOW: i64 = 1000;
+
+#[derive(Clone, Copy, PartialEq, Eq)]
+pub enum Kind {
+    AllAccepted,
+    SomeLiars,
+    WorstRefusal,
+}
+
+impl Kind {
+    pub fn name(self) -> &'static str {
+        match self {
+            Kind::AllAccepted => "all accepted",
+            Kind::SomeLiars => "some liars",
+            Kind::WorstRefusal => "worst refusal",
+        }
+    }
+}
+
+/// Sheets of one size, rule and kind, over all estimators.
+pub fn sheets(n: u8, rule: u8, kind: Kind) -> Vec<Vec<u8>> {
+    let random = Random::new(n as u64);
+    (0..6).map(|i| sheet(&random, n, rule, kind, i % 3)).collect()
+}
+
+fn sheet(random: &Random, n: u8, rule: u8, kind: Kind, estimator: u8) -> Vec<u8> {
+    let m = (n - 1) / 3;
+    let settings = Settings { n, m, rule, estimator, window: WINDOW as u32 };
+    let (n, m) = (n as usize, m as usize);
+    let inside = || Some(random.between(0, WINDOW) as i32);
+    let entries: Vec<Option<i32>> = match (kind, rule) {
+        (Kind::AllAccepted, FCA) => (0..n).map(|_| inside()).collect(),
+        (Kind::AllAccepted, _) => (0..n).flat_map(|_| vec![inside(); n]).collect(),
+        (Kind::SomeLiars, FCA) => {
+            let lie = || random.pick(&[None, Some(random.between(-50_000, 50_000) as i32)]);
+            mixed(random, n, m, inside, lie)
+        }
+        (Kind::SomeLiars, _) => {
+            // The last m rows are two-faced; in every row m relays lie.
+            let row = |r: usize| {
+                let (value, other) = (inside(), inside());
+                let halves = (0..n).map(|s| if s % 2 == 0 { value } else { other }).collect();
+                let lie = || Some(random.draw() as i32);
+                if r < n - m {
+                    mixed(random, n, m, || value, lie)
+                } else {
+                    halves
+                }
+            };
+            (0..n).flat_map(row).collect()
+        }
+        // One reading short of enough in every span, and most spans start at the same place.
+        (Kind::WorstRefusal, FCA) => {
+            (0..n).map(|i| Some(if i < n - m - 1 { 0 } else { 5000 * (i as i32 + 1) })).collect()
+        }
+        // One copy short of enough in every row.
+        (Kind::WorstRefusal, _) => {
+            let row = |_| (0..n).map(|s| Some(if s < n - m - 1 { 7 } else { 8 + s as i32 }));
+            (0..n).flat_map(row).collect()
+        }
+    };
+    let marks: Vec<u8> = entries.iter().map(|e| e.is_some() as u8).collect();
+    let readings: Vec<i32> = entries.iter().map(|e| e.unwrap_or(0)).collect();
+    sheet_bytes(&settings, &marks, &readings)
+}
+
+/// N readings in any order, m of them lies.
+fn mixed(
+    random: &Random,
+    n: usize,
+    m: usize,
+    truth: impl Fn() -> Option<i32>,
+    lie: impl Fn() -> Option<i32>,
+) -> Vec<Option<i32>> {
+    let mut drawn: Vec<_> = (0..n).map(|i| if i < m { lie() } else { truth() }).collect();
+    for i in 0..n {
+        drawn.swap(i, random.below(n));
+    }
+    drawn
+}

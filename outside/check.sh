@@ -1,0 +1,12 @@
+#!/bin/sh
+# All outside checks in turn; stops at the first that fails.
+set -e
+cd "$(dirname "$0")"
+cargo build --release -j1 -q
+cargo test -j1 -q
+target/release/compare
+./sabotage.sh
+target/release/compare --program target/release/reference-settle
+target/release/hostile
+target/release/bench
+echo "PASSED: all outside checks"

@@ -1,0 +1,271 @@
+//! Each call to both engines: answers and every lent byte are compared with each other, and
+//! each with what document 01 says of bytes that must survive.
+
+use crate::draw;
+use engine::{number, words, Engine, Plan, Settings};
+use random::Random;
+
+pub const CALLS: [&str; 7] = ["settle", "read", "write", "row", "plan", "step", "target"];
+
+pub struct Comparison<'a> {
+    pub a: &'a dyn Engine,
+    pub b: &'a dyn Engine,
+    /// How often each call was granted, or refused under each number.
+    pub outcomes: [[u64; 13]; 7],
+    /// How often a sheet settled, for each rule, estimator and N.
+    pub settled: [[[u64; 65]; 3]; 2],
+    pub all_accepted: u64,
+    pub several_faults: u64,
+    pub rows_shown: u64,
+    pub rows_empty: u64,
+    pub differences: u64,
+    /// The sheet that is compared now.
+    pub now: u64,
+}
+
+impl<'a> Comparison<'a> {
+    pub fn new(a: &'a dyn Engine, b: &'a dyn Engine) -> Comparison<'a> {
+        Comparison {
+            a,
+            b,
+            outcomes: [[0; 13]; 7],
+            settled: [[[0; 65]; 3]; 2],
+            all_accepted: 0,
+            several_faults: 0,
+            rows_shown: 0,
+            rows_empty: 0,
+            differences: 0,
+            now: 0,
+        }
+    }
+
+    /// All calls, on inputs from one seed.
+    pub fn all_calls(&mut self, random: &Random, now: u64) {
+        self.now = now;
+        let mut paper = draw::paper(random);
+        let faults = draw::damage_paper(random, &mut paper);
+        self.several_faults += (faults > 1) as u64;
+        let sheet = draw::sheet(random, &paper);
+        self.settle(random, &sheet);
+        self.read(random, &sheet);
+        self.rows(random, &sheet);
+        self.write(random, &paper);
+        self.plan(random);
+        self.step(random);
+        self.target(random);
+    }
+
+    /// Counts and shows a difference when something demanded does not hold.
+    fn demand(&mut self, holds: bool, call: &str, what: impl FnOnce() -> String) {
+        if !holds {
+            self.differences += 1;
+            println!("DIFFERENCE at sheet {}, {call}: {}", self.now, what());
+        }
+    }
+
+    fn answers(&mut self, call: usize, a: u64, b: u64, input: impl FnOnce() -> String) {
+        self.outcomes[call][number(a).min(12)] += 1;
+        self.demand(a == b, CALLS[call], || format!("{} / {}; {}", words(a), words(b), input()));
+    }
+
+    /// Bytes that must survive a call.
+    fn survived<T: PartialEq>(&mut self, call: &str, who: &dyn Engine, before: &[T], after: &[T]) {
+        self.demand(before == after, call, || format!("{} wrote where it must not", who.name()));
+    }
+
+    fn settle(&mut self, random: &Random, sheet: &[u8]) {
+        let n = sheet.first().map_or(4, |&n| n as usize % 65);
+        let length = draw::length(random, 10 + 5 * n);
+        let old = random.bytes(length);
+        let (mut tray_a, mut tray_b) = (old.clone(), old.clone());
+        let a = self.a.settle(sheet, &mut tray_a);
+        let b = self.b.settle(sheet, &mut tray_b);
+        self.answers(0, a, b, || in_words(sheet));
+        for (who, answer, tray) in [(self.a, a, &tray_a), (self.b, b, &tray_b)] {
+            let written = if number(answer) == 0 { (answer as usize).min(length) } else { 0 };
+            self.survived("settle", who, &old[written..], &tray[written..]);
+        }
+        self.demand(tray_a == tray_b, "settle", || {
+            let at = (0..length).find(|&i| tray_a[i] != tray_b[i]).unwrap();
+            format!("byte {at} is {} / {}; {}", tray_a[at], tray_b[at], in_words(sheet))
+        });
+        if number(a) == 0 {
+            self.settled[sheet[2] as usize][sheet[3] as usize][n] += 1;
+            self.all_accepted += (tray_a[0] == tray_a[1]) as u64;
+        }
+    }
+
+    fn read(&mut self, random: &Random, sheet: &[u8]) {
+        let entries = sheet.len().saturating_sub(8) / 5;
+        let marks_length = draw::length(random, entries);
+        let old_marks = random.bytes(marks_length);
+        let readings_length = draw::length(random, entries);
+        let old_readings = draw::readings_of_any_kind(random, readings_length);
+        let old_settings = draw::settings(random);
+        let read = |who: &dyn Engine| {
+            let mut settings = old_settings;
+            let (mut marks, mut readings) = (old_marks.clone(), old_readings.clone());
+            let answer = who.read(sheet, &mut settings, &mut marks, &mut readings);
+            (answer, settings, marks, readings)
+        };
+        let (a, b) = (read(self.a), read(self.b));
+        self.answers(1, a.0, b.0, || in_words(sheet));
+        for (who, (answer, settings, marks, readings)) in [(self.a, &a), (self.b, &b)] {
+            let granted = number(*answer) == 0;
+            let filled = if granted { *answer as usize } else { 0 };
+            let (kept_marks, kept_readings) =
+                (filled.min(marks_length), filled.min(readings_length));
+            self.survived("read", who, &old_marks[kept_marks..], &marks[kept_marks..]);
+            self.survived("read", who, &old_readings[kept_readings..], &readings[kept_readings..]);
+            if !granted {
+                self.survived("read", who, &[old_settings], &[*settings]);
+            } else if filled <= marks_length.min(readings_length) {
+                self.written_again(who, sheet, settings, &marks[..filled], &readings[..filled]);
+            }
+        }
+        self.demand(a == b, "read", || format!("settings or arrays differ; {}", in_words(sheet)));
+    }
+
+    /// A sheet read and written again has the same bytes.
+    fn written_again(
+        &mut self,
+        who: &dyn Engine,
+        sheet: &[u8],
+        settings: &Settings,
+        marks: &[u8],
+        readings: &[i32],
+    ) {
+        let mut again = vec![0; sheet.len()];
+        let length = who.write(settings, marks, readings, &mut again);
+        self.demand(length == sheet.len() as u64 && again == sheet, "read and write", || {
+            format!("{} does not write what it read; {}", who.name(), in_words(sheet))
+        });
+    }
+
+    fn write(&mut self, random: &Random, paper: &draw::Paper) {
+        let settings = paper.settings;
+        let mut marks = paper.marks.clone();
+        let mut readings = paper.readings.clone();
+        if random.percent(5) {
+            match random.below(4) {
+                0 => marks.push(1),
+                1 => readings.push(1),
+                2 => marks.truncate(marks.len() - 1),
+                _ => readings.truncate(random.below(readings.len())),
+            }
+        }
+        let length = draw::length(random, 8 + 5 * marks.len());
+        let old = random.bytes(length);
+        let (mut sheet_a, mut sheet_b) = (old.clone(), old.clone());
+        let a = self.a.write(&settings, &marks, &readings, &mut sheet_a);
+        let b = self.b.write(&settings, &marks, &readings, &mut sheet_b);
+        self.answers(2, a, b, || format!("{settings:?}"));
+        for (who, answer, sheet) in [(self.a, a, &sheet_a), (self.b, b, &sheet_b)] {
+            let written = if number(answer) == 0 { (answer as usize).min(length) } else { 0 };
+            self.survived("write", who, &old[written..], &sheet[written..]);
+            if number(answer) == 0 {
+                self.read_back(who, &sheet[..written], &settings, &marks, &readings);
+            }
+        }
+        self.demand(sheet_a == sheet_b, "write", || format!("sheets differ; {settings:?}"));
+    }
+
+    /// A sheet written reads back the same.
+    fn read_back(
+        &mut self,
+        who: &dyn Engine,
+        sheet: &[u8],
+        settings: &Settings,
+        marks: &[u8],
+        readings: &[i32],
+    ) {
+        let mut settings_back = Settings::default();
+        let (mut marks_back, mut readings_back) = (vec![9; marks.len()], vec![9; readings.len()]);
+        let entries = who.read(sheet, &mut settings_back, &mut marks_back, &mut readings_back);
+        let same = settings_back == *settings && marks_back == marks && readings_back == readings;
+        self.demand(entries == marks.len() as u64 && same, "write and read", || {
+            format!("{} does not read back what it wrote; {settings:?}", who.name())
+        });
+    }
+
+    fn rows(&mut self, random: &Random, sheet: &[u8]) {
+        let n = sheet.first().copied().unwrap_or(0) as u32;
+        let any = random.draw() as u32;
+        let some = random.below(n as usize + 1) as u32;
+        for cabinet in [0, some, n.wrapping_sub(1), n, random.pick(&[255, 256, u32::MAX, any])] {
+            let (a, b) = (self.a.row(sheet, cabinet), self.b.row(sheet, cabinet));
+            let counter = if a.is_empty() { &mut self.rows_empty } else { &mut self.rows_shown };
+            *counter += 1;
+            let same_part = a.len() == b.len() && (a.is_empty() || a.as_ptr() == b.as_ptr());
+            self.demand(same_part, "row", || {
+                format!("cabinet {cabinet}: {a:?} / {b:?}; {}", in_words(sheet))
+            });
+        }
+    }
+
+    fn plan(&mut self, random: &Random) {
+        let settings = draw::plan_settings(random);
+        let (accuracy, rounds) = (draw::accuracy(random), draw::rounds(random));
+        let old = draw::plan(random);
+        let (mut plan_a, mut plan_b) = (old, old);
+        let a = self.a.plan(&settings, accuracy, rounds, &mut plan_a);
+        let b = self.b.plan(&settings, accuracy, rounds, &mut plan_b);
+        let input = || format!("{settings:?}, accuracy {accuracy}, rounds {rounds}");
+        self.answers(4, a, b, input);
+        self.plans("plan", old, (a, plan_a), (b, plan_b), input);
+    }
+
+    fn step(&mut self, random: &Random) {
+        let plan = draw::plan(random);
+        let old = draw::plan(random);
+        let (mut next_a, mut next_b) = (old, old);
+        let a = self.a.step(&plan, &mut next_a);
+        let b = self.b.step(&plan, &mut next_b);
+        self.answers(5, a, b, || format!("{plan:?}"));
+        self.plans("step", old, (a, next_a), (b, next_b), || format!("{plan:?}"));
+    }
+
+    fn plans(
+        &mut self,
+        call: &str,
+        old: Plan,
+        a: (u64, Plan),
+        b: (u64, Plan),
+        input: impl Fn() -> String,
+    ) {
+        for (who, (answer, plan)) in [(self.a, a), (self.b, b)] {
+            if number(answer) != 0 {
+                self.survived(call, who, &[old], &[plan]);
+            } else {
+                let same = answer == plan.rounds as u64;
+                self.demand(same, call, || format!("{} miscounts; {}", who.name(), input()));
+            }
+        }
+        self.demand(a.1 == b.1, call, || format!("{:?} / {:?}; {}", a.1, b.1, input()));
+    }
+
+    /// The counts need not be equal; each must be one that fits.
+    fn target(&mut self, random: &Random) {
+        let settings = draw::plan_settings(random);
+        let accuracy = draw::accuracy(random);
+        let target = draw::target(random, &settings);
+        let a = self.a.target(&settings, accuracy, target);
+        let b = self.b.target(&settings, accuracy, target);
+        let granted = number(a) == 0 && number(b) == 0;
+        let input = || format!("{settings:?}, accuracy {accuracy}, target {target}");
+        self.answers(6, a, if granted { a } else { b }, input);
+        if granted {
+            let fit = reference::counts_that_fit(&settings, target);
+            for (who, answer) in [(self.a, a), (self.b, b)] {
+                self.demand(fit.contains(&(answer as u32)), "target", || {
+                    format!("{} says {answer}; {fit:?} fit; {}", who.name(), input())
+                });
+            }
+        }
+    }
+}
+
+/// The first bytes of a sheet and its length.
+fn in_words(sheet: &[u8]) -> String {
+    format!("{} bytes: {:?}..", sheet.len(), &sheet[..sheet.len().min(40)])
+}

@@ -1,0 +1,278 @@
+//! Inputs: settings, entries, sheets, and what is wrong with them.
+
+use random::Random;
+use reference::{sheet_bytes, Plan, Settings, CCA, FCA};
+
+/// What a sheet is written from.
+pub struct Paper {
+    pub settings: Settings,
+    pub marks: Vec<u8>,
+    pub readings: Vec<i32>,
+}
+
+pub fn settings(random: &Random) -> Settings {
+    let n = match random.below(100) {
+        0..=59 => random.between(1, 9),
+        60..=84 => random.between(10, 24),
+        _ => random.between(25, 64),
+    } as u8;
+    // The longest crusaders sheets take the longest, so there are fewer of them.
+    let crusaders = random.percent(if n <= 16 { 50 } else { 30 });
+    let most = (n - 1) / 3;
+    let window = match random.below(10) {
+        0 => 0,
+        1 => 1,
+        2 | 3 => random.between(2, 12),
+        4 | 5 => random.between(0, 1000),
+        6 => 1_000_000,
+        7 => 999_999,
+        _ => random.between(0, 1_000_000),
+    } as u32;
+    Settings {
+        n,
+        m: if random.percent(70) { most } else { random.between(0, most as i64) as u8 },
+        rule: if crusaders { CCA } else { FCA },
+        estimator: random.below(3) as u8,
+        window,
+    }
+}
+
+fn clamp(value: i64) -> i32 {
+    value.clamp(i32::MIN as i64, i32::MAX as i64) as i32
+}
+
+fn any(random: &Random) -> i32 {
+    random.draw() as i32
+}
+
+/// N readings, most of them around one window, so that acceptance is often close.
+fn readings(random: &Random, settings: &Settings) -> Vec<Option<i32>> {
+    let n = settings.n as usize;
+    let m = settings.m as usize;
+    let w = settings.window as i64;
+    let base = match random.below(7) {
+        0 => i32::MIN as i64,
+        1 => i32::MAX as i64,
+        2 => i32::MAX as i64 - w,
+        3 => random.between(-3, 3),
+        4 => random.between(-w - 3, w + 3),
+        _ => any(random) as i64,
+    };
+    let outside = match random.below(6) {
+        0 => 0,
+        1 | 2 => m,
+        3 => m + 1,
+        4 => m.saturating_sub(1),
+        _ => random.below(n + 1),
+    };
+    let missing = random.pick(&[0, 0, 0, 0, 5, 40]);
+    let far = random.pick(&[0, 20, 100]);
+    let few_values = random.percent(30);
+    let mut drawn = Vec::new();
+    for i in 0..n {
+        let inside = match random.below(4) {
+            0 => base,
+            1 => base + w,
+            _ if few_values => base + w / 2,
+            _ => base + random.between(0, w),
+        };
+        let near = match random.below(7) {
+            0 => base - 1,
+            1 => base + w + 1,
+            2 => base - w,
+            3 => base + 2 * w,
+            4 => base + w + w / 2,
+            _ => base + random.between(-w - 1, 2 * w + 1),
+        };
+        let value = if i >= outside {
+            inside
+        } else if random.percent(far) {
+            random.pick(&[i32::MIN, i32::MAX, 0, any(random)]) as i64
+        } else {
+            near
+        };
+        drawn.push(if random.percent(missing) { None } else { Some(clamp(value)) });
+    }
+    for i in 0..n {
+        drawn.swap(i, random.below(n));
+    }
+    drawn
+}
+
+/// N copies of a value, of which about m are not it.
+fn copies(random: &Random, settings: &Settings, value: Option<i32>) -> Vec<Option<i32>> {
+    let n = settings.n as usize;
+    let m = settings.m as usize;
+    let other = match random.below(4) {
+        0 => None,
+        1 => Some(value.unwrap_or(7).wrapping_add(1)),
+        2 => Some(value.unwrap_or(7).wrapping_sub(1)),
+        _ => Some(any(random)),
+    };
+    let others = match random.below(100) {
+        0..=39 => 0,
+        40..=69 => m,
+        70..=74 => m + 1,
+        75..=95 => random.below(m + 1),
+        _ => random.below(n + 1),
+    };
+    let mixed = random.percent(30);
+    let mut row: Vec<Option<i32>> = (0..n)
+        .map(|i| match i < others {
+            true if mixed && random.percent(50) => random.pick(&[None, Some(any(random))]),
+            true => other,
+            false => value,
+        })
+        .collect();
+    if others > 0 {
+        for i in 0..n {
+            row.swap(i, random.below(n));
+        }
+    }
+    row
+}
+
+pub fn paper(random: &Random) -> Paper {
+    let settings = settings(random);
+    let readings = readings(random, &settings);
+    let entries: Vec<Option<i32>> = if settings.rule == CCA {
+        readings.iter().flat_map(|&value| copies(random, &settings, value)).collect()
+    } else {
+        readings
+    };
+    Paper {
+        settings,
+        marks: entries.iter().map(|e| e.is_some() as u8).collect(),
+        readings: entries.iter().map(|e| e.unwrap_or(0)).collect(),
+    }
+}
+
+/// One thing wrong with the settings.
+pub fn damage_settings(random: &Random, settings: &mut Settings) {
+    let byte = random.draw() as u8;
+    match random.below(5) {
+        0 => settings.n = random.pick(&[0, 65, 255, 64, 1, byte]),
+        1 => settings.m = random.pick(&[settings.n.wrapping_sub(1) / 3 + 1, 85, 86, 255, byte]),
+        2 => settings.rule = random.pick(&[2, 255, byte, 1 - settings.rule.min(1)]),
+        3 => settings.estimator = random.pick(&[3, 255, byte]),
+        _ => settings.window = random.pick(&[1_000_001, 1 << 31, u32::MAX, random.draw() as u32]),
+    }
+}
+
+/// Bad marks or ghosts at one to three entries.
+fn damage_entries(random: &Random, paper: &mut Paper) {
+    let bad_mark = random.percent(50);
+    for _ in 0..random.between(1, 3) {
+        let entry = random.below(paper.marks.len());
+        if bad_mark {
+            paper.marks[entry] = random.pick(&[2, 128, 255, 2 + random.draw() as u8 % 254]);
+        } else {
+            paper.marks[entry] = 0;
+            paper.readings[entry] = random.pick(&[1, 1 << 8, 1 << 16, 1 << 24, -1, i32::MIN]);
+        }
+    }
+}
+
+/// None, one or several things wrong with a paper; answers how many.
+pub fn damage_paper(random: &Random, paper: &mut Paper) -> u64 {
+    let faults = random.pick(&[0, 0, 0, 0, 0, 0, 1, 2, 2, 3]);
+    for _ in 0..faults {
+        if random.percent(40) {
+            damage_settings(random, &mut paper.settings);
+        } else {
+            damage_entries(random, paper);
+        }
+    }
+    faults
+}
+
+/// A sheet, often damaged, sometimes of wrong length, sometimes of any bytes at all.
+pub fn sheet(random: &Random, paper: &Paper) -> Vec<u8> {
+    if random.percent(3) {
+        let length = random.below(60);
+        let mut bytes = random.bytes(length);
+        if length > 1 && random.percent(50) {
+            bytes[0] %= 65;
+            bytes[1] %= 3;
+        }
+        return bytes;
+    }
+    let mut bytes = sheet_bytes(&paper.settings, &paper.marks, &paper.readings);
+    if random.percent(5) {
+        match random.below(4) {
+            0 => bytes.push(random.draw() as u8),
+            1 => bytes.truncate(bytes.len() - 1),
+            2 => bytes.truncate(random.below(10)),
+            _ => bytes.truncate(random.below(bytes.len())),
+        }
+    }
+    bytes
+}
+
+/// The length of a lent buffer of which so much is needed: exact, longer, or too short.
+pub fn length(random: &Random, needed: usize) -> usize {
+    match random.below(20) {
+        0..=9 => needed,
+        10 | 11 => needed + 1,
+        12..=16 => needed + random.below(40),
+        17 | 18 => needed.saturating_sub(1),
+        _ => random.below(needed + 1),
+    }
+}
+
+pub fn readings_of_any_kind(random: &Random, length: usize) -> Vec<i32> {
+    (0..length).map(|_| any(random)).collect()
+}
+
+/// A starting accuracy.
+pub fn accuracy(random: &Random) -> u32 {
+    match random.below(8) {
+        0 => 0,
+        1 => 1_000_000_000,
+        2 => random.pick(&[1_000_000_001, u32::MAX, random.draw() as u32]),
+        3 => random.between(0, 100) as u32,
+        _ => random.between(0, 1_000_000_000) as u32,
+    }
+}
+
+pub fn rounds(random: &Random) -> u32 {
+    match random.below(12) {
+        0 => random.pick(&[33, 34, 64, 255, 256, u32::MAX, random.draw() as u32]),
+        1 => 32,
+        _ => random.between(0, 32) as u32,
+    }
+}
+
+/// Settings of which a quarter have something wrong.
+pub fn plan_settings(random: &Random) -> Settings {
+    let mut settings = settings(random);
+    if random.percent(25) {
+        for _ in 0..random.between(1, 3) {
+            damage_settings(random, &mut settings);
+        }
+    }
+    settings
+}
+
+/// A plan to step forward from, of any numbers.
+pub fn plan(random: &Random) -> Plan {
+    let near_the_limit = random.pick(&[1_100_000_000, 1_100_000_001, 1_099_999_999, u32::MAX]);
+    Plan {
+        settings: plan_settings(random),
+        accuracy: if random.percent(30) { near_the_limit } else { accuracy(random) },
+        rounds: random.pick(&[0, 1, 31, 32, rounds(random), rounds(random)]),
+    }
+}
+
+/// A target, often near a window that the plan has.
+pub fn target(random: &Random, settings: &Settings) -> u32 {
+    let rounds = random.pick(&[0, 1, 2, 32, 32, random.between(0, 32) as u32]);
+    let window = reference::plan(settings, 0, rounds).map_or(5, |plan| plan.settings.window);
+    match random.below(6) {
+        0 => 0,
+        1 => window.saturating_sub(1),
+        2 => window + 1,
+        3 => random.pick(&[u32::MAX, random.draw() as u32]),
+        _ => window,
+    }
+}

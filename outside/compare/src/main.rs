@@ -1,0 +1,162 @@
+//! Compares two engines on many inputs from fixed seeds, call by call and byte by byte.
+#![forbid(unsafe_code)]
+
+mod calls;
+mod draw;
+mod program;
+
+use calls::{Comparison, CALLS};
+use engine::sabotage::{Sabotaged, SABOTAGES};
+use engine::Engine;
+use random::Random;
+use std::process::ExitCode;
+use std::time::Instant;
+
+const USAGE: &str = "compare [--engines A,B] [--sheets COUNT] [--seed SEED] [--sabotage NAME]
+compare --program PATH [--sheets COUNT] [--seed SEED]
+compare --sabotages
+  --engines    reference, plain, linked (when built in)
+  --sabotage   makes the first engine wrong in a named way
+  --sabotages  lists the ways
+  --program    compares the text of a program `settle` with the reference's";
+
+/// The numbers under which each call can refuse. Rows refuse nothing.
+const REFUSALS: [&[usize]; 7] = [
+    &[1, 2, 3, 4, 5, 6, 7, 8, 9, 10],
+    &[1, 2, 3, 4, 5, 6, 7, 8, 9],
+    &[2, 3, 4, 5, 6, 7, 8, 9],
+    &[],
+    &[2, 3, 4, 5, 11],
+    &[2, 3, 4, 5, 11],
+    &[2, 3, 4, 5, 11, 12],
+];
+
+struct Options {
+    engines: String,
+    sheets: Option<u64>,
+    seed: u64,
+    sabotage: Option<String>,
+    program: Option<String>,
+}
+
+fn options() -> Option<Options> {
+    let mut options = Options {
+        engines: format!("{},reference", engine::CHECKED),
+        sheets: None,
+        seed: 1,
+        sabotage: None,
+        program: None,
+    };
+    let mut words = std::env::args().skip(1);
+    while let Some(word) = words.next() {
+        let value = words.next();
+        match word.as_str() {
+            "--engines" => options.engines = value?,
+            "--sheets" => options.sheets = Some(value?.parse().ok()?),
+            "--seed" => options.seed = value?.parse().ok()?,
+            "--sabotage" => options.sabotage = Some(value?),
+            "--program" => options.program = Some(value?),
+            _ => return None,
+        }
+    }
+    Some(options)
+}
+
+fn engines(options: &Options) -> Option<(Box<dyn Engine>, Box<dyn Engine>)> {
+    let (a, b) = options.engines.split_once(',')?;
+    let (a, b) = (engine::named(a)?, engine::named(b)?);
+    match &options.sabotage {
+        None => Some((a, b)),
+        Some(how) => Some((Box::new(Sabotaged::new(a, how)?), b)),
+    }
+}
+
+fn main() -> ExitCode {
+    if std::env::args().nth(1).as_deref() == Some("--sabotages") {
+        for (name, what) in SABOTAGES {
+            println!("{name:13} {what}");
+        }
+        return ExitCode::SUCCESS;
+    }
+    let Some(options) = options() else {
+        eprintln!("{USAGE}");
+        return ExitCode::from(2);
+    };
+    if let Some(path) = &options.program {
+        return program::compare(path, options.sheets.unwrap_or(1000), options.seed);
+    }
+    let Some((a, b)) = engines(&options) else {
+        eprintln!("no such engine or sabotage\n{USAGE}");
+        return ExitCode::from(2);
+    };
+    let sheets = options.sheets.unwrap_or(200_000);
+    println!("{} / {}: {sheets} sheets, seed {}", a.name(), b.name(), options.seed);
+    if options.engines.contains("plain") {
+        println!("plain settles by itself; its other calls are the reference's.");
+    }
+    let start = Instant::now();
+    let mut comparison = Comparison::new(&*a, &*b);
+    for now in 0..sheets {
+        let random = Random::new((options.seed << 32) + now);
+        comparison.all_calls(&random, now);
+        if comparison.differences >= 10 {
+            println!("FAILED: {} differences in {} sheets", comparison.differences, now + 1);
+            return ExitCode::FAILURE;
+        }
+    }
+    let unmet = report(&comparison, sheets);
+    println!("{:.1} s", start.elapsed().as_secs_f64());
+    if comparison.differences > 0 {
+        println!("FAILED: {} differences in {sheets} sheets", comparison.differences);
+        ExitCode::FAILURE
+    } else if unmet > 0 {
+        println!("FAILED: no difference, but {unmet} outcomes were not met");
+        ExitCode::FAILURE
+    } else {
+        println!("PASSED: no difference on {sheets} sheets, every outcome met");
+        ExitCode::SUCCESS
+    }
+}
+
+/// Prints how often each outcome was met; answers how many were not.
+fn report(comparison: &Comparison, sheets: u64) -> usize {
+    let mut unmet = 0;
+    print!("call     granted");
+    for number in 1..=12 {
+        print!("{:>8}", format!("no. {number}"));
+    }
+    println!();
+    for (call, name) in CALLS.iter().enumerate() {
+        if *name == "row" {
+            continue;
+        }
+        let outcomes = &comparison.outcomes[call];
+        print!("{name:8}{:>8}", outcomes[0]);
+        unmet += (outcomes[0] == 0) as usize;
+        for (number, &count) in outcomes.iter().enumerate().skip(1) {
+            if REFUSALS[call].contains(&number) {
+                print!("{count:>8}");
+                unmet += (count == 0) as usize;
+            } else {
+                print!("{:>8}", "-");
+            }
+        }
+        println!();
+    }
+    println!("row     {:>8} shown, {} empty", comparison.rows_shown, comparison.rows_empty);
+    let granted = comparison.outcomes[0][0];
+    println!("{} sheets had several faults at once.", comparison.several_faults);
+    println!(
+        "Of {granted} settled sheets, {} had every reading accepted.",
+        comparison.all_accepted
+    );
+    let by_kind = comparison.settled.iter().flatten().flat_map(|by_n| &by_n[1..]);
+    let least = by_kind.clone().min().unwrap();
+    println!("Each N from 1 to 64 settled with each rule and estimator at least {least} times.");
+    if sheets < 100_000 {
+        println!("This is asked of 100,000 sheets and more.");
+    } else {
+        unmet += by_kind.filter(|&&count| count == 0).count();
+    }
+    unmet
+}

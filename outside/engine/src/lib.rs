@@ -1,0 +1,175 @@
+//! The calls of an agreement engine, in the manner of the C interface: an answer below 2^32 is
+//! a grant, any other is number × 2^32 + place of a refusal.
+#![deny(unsafe_code)]
+
+#[cfg(feature = "linked")]
+#[allow(unsafe_code)]
+pub mod linked;
+pub mod sabotage;
+
+pub use reference::{Plan, Refusal, Settings};
+
+pub trait Engine {
+    fn name(&self) -> String;
+
+    /// The length of the answer sheet.
+    fn settle(&self, sheet: &[u8], answer: &mut [u8]) -> u64;
+
+    /// E, the number of entries filled.
+    fn read(
+        &self,
+        sheet: &[u8],
+        settings: &mut Settings,
+        marks: &mut [u8],
+        readings: &mut [i32],
+    ) -> u64;
+
+    /// The length of the sheet.
+    fn write(&self, settings: &Settings, marks: &[u8], readings: &[i32], sheet: &mut [u8]) -> u64;
+
+    /// The part of the sheet that holds a cabinet's readings, or an empty part.
+    fn row<'a>(&self, sheet: &'a [u8], cabinet: u32) -> &'a [u8];
+
+    /// The rounds done, which the plan holds too.
+    fn plan(&self, settings: &Settings, accuracy: u32, rounds: u32, plan: &mut Plan) -> u64;
+
+    /// The rounds done, which the next plan holds too.
+    fn step(&self, plan: &Plan, next: &mut Plan) -> u64;
+
+    /// A count of rounds that fits.
+    fn target(&self, settings: &Settings, accuracy: u32, target: u32) -> u64;
+}
+
+pub fn packed(refusal: Refusal) -> u64 {
+    ((refusal.number as u64) << 32) + refusal.place as u64
+}
+
+/// The number of refusal in an answer, 0 for a grant.
+pub fn number(answer: u64) -> usize {
+    (answer >> 32) as usize
+}
+
+/// An answer in words.
+pub fn words(answer: u64) -> String {
+    match answer >> 32 {
+        0 => format!("granted {answer}"),
+        number => format!("refused {number} {}", answer as u32),
+    }
+}
+
+/// The reference: document 01 in plain safe Rust.
+pub struct Reference;
+
+impl Engine for Reference {
+    fn name(&self) -> String {
+        "reference".into()
+    }
+
+    fn settle(&self, sheet: &[u8], answer: &mut [u8]) -> u64 {
+        reference::settle(sheet, answer).map_or_else(packed, |length| length as u64)
+    }
+
+    fn read(
+        &self,
+        sheet: &[u8],
+        settings: &mut Settings,
+        marks: &mut [u8],
+        readings: &mut [i32],
+    ) -> u64 {
+        match reference::read(sheet, marks, readings) {
+            Err(refusal) => packed(refusal),
+            Ok(given) => {
+                *settings = given;
+                given.entries() as u64
+            }
+        }
+    }
+
+    fn write(&self, settings: &Settings, marks: &[u8], readings: &[i32], sheet: &mut [u8]) -> u64 {
+        reference::write(settings, marks, readings, sheet)
+            .map_or_else(packed, |length| length as u64)
+    }
+
+    fn row<'a>(&self, sheet: &'a [u8], cabinet: u32) -> &'a [u8] {
+        reference::row(sheet, cabinet)
+    }
+
+    fn plan(&self, settings: &Settings, accuracy: u32, rounds: u32, plan: &mut Plan) -> u64 {
+        hand_back(reference::plan(settings, accuracy, rounds), plan)
+    }
+
+    fn step(&self, plan: &Plan, next: &mut Plan) -> u64 {
+        hand_back(reference::step(plan), next)
+    }
+
+    fn target(&self, settings: &Settings, accuracy: u32, target: u32) -> u64 {
+        reference::target(settings, accuracy, target).map_or_else(packed, |fit| fit[0] as u64)
+    }
+}
+
+fn hand_back(given: Result<Plan, Refusal>, plan: &mut Plan) -> u64 {
+    match given {
+        Err(refusal) => packed(refusal),
+        Ok(given) => {
+            *plan = given;
+            given.rounds as u64
+        }
+    }
+}
+
+/// The plain one settles by itself; its other calls are the reference's.
+pub struct Plain;
+
+impl Engine for Plain {
+    fn name(&self) -> String {
+        "plain".into()
+    }
+
+    fn settle(&self, sheet: &[u8], answer: &mut [u8]) -> u64 {
+        plain::settle(sheet, answer)
+    }
+
+    fn read(
+        &self,
+        sheet: &[u8],
+        settings: &mut Settings,
+        marks: &mut [u8],
+        readings: &mut [i32],
+    ) -> u64 {
+        Reference.read(sheet, settings, marks, readings)
+    }
+
+    fn write(&self, settings: &Settings, marks: &[u8], readings: &[i32], sheet: &mut [u8]) -> u64 {
+        Reference.write(settings, marks, readings, sheet)
+    }
+
+    fn row<'a>(&self, sheet: &'a [u8], cabinet: u32) -> &'a [u8] {
+        Reference.row(sheet, cabinet)
+    }
+
+    fn plan(&self, settings: &Settings, accuracy: u32, rounds: u32, plan: &mut Plan) -> u64 {
+        Reference.plan(settings, accuracy, rounds, plan)
+    }
+
+    fn step(&self, plan: &Plan, next: &mut Plan) -> u64 {
+        Reference.step(plan, next)
+    }
+
+    fn target(&self, settings: &Settings, accuracy: u32, target: u32) -> u64 {
+        Reference.target(settings, accuracy, target)
+    }
+}
+
+/// The engine of that name. `linked` is known when it was built in.
+pub fn named(name: &str) -> Option<Box<dyn Engine>> {
+    match name {
+        "reference" => Some(Box::new(Reference)),
+        "plain" => Some(Box::new(Plain)),
+        #[cfg(feature = "linked")]
+        "linked" => Some(Box::new(linked::Linked)),
+        _ => None,
+    }
+}
+
+/// The engine that is checked unless another is named.
+pub const CHECKED: &str = if cfg!(feature = "linked") { "linked" } else { "plain" };

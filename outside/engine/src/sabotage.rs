@@ -1,0 +1,229 @@
+//! Engines that are wrong in a named way, to show that the checks can fail.
+
+use crate::{number, packed, Engine, Plan, Refusal, Settings};
+use reference::Round;
+
+/// Names, and what is wrong. The first ten are about the round itself.
+pub const SABOTAGES: &[(&str, &str)] = &[
+    ("need-low", "N-m-1 readings in a span are enough"),
+    ("need-high", "N-m+1 readings in a span are needed"),
+    ("strict", "a span must be narrower than the window"),
+    ("pairwise", "N-m readings within the window of a reading are enough, without one common span"),
+    ("distinct", "equal readings are counted once"),
+    ("row-low", "N-m-1 equal copies decide a row"),
+    ("middle-two", "the median averages the middle two"),
+    ("all-readings", "the estimate is over all present readings"),
+    ("truncate", "the mean is rounded towards zero, not down"),
+    ("half-down", "a half goes down"),
+    ("order", "marks are checked before the tray"),
+    ("ghost-first", "a ghost before the first bad mark is refused as 9"),
+    ("place", "the highest entry at fault is given as the place"),
+    ("past", "one byte past the answer is touched"),
+    ("refused-tray", "a refusal touches the tray"),
+    ("read-past", "the reader touches an entry past E"),
+    ("write-past", "the writer touches a byte past the sheet"),
+    ("from-one", "rows are numbered from one"),
+    ("repeat", "the plan repeats the first window"),
+    ("step-late", "a step after 32 rounds is granted"),
+    ("target-short", "the target's count is one round too few"),
+];
+
+pub struct Sabotaged {
+    engine: Box<dyn Engine>,
+    how: &'static str,
+}
+
+impl Sabotaged {
+    /// The engine made wrong in the named way; None when there is no such way.
+    pub fn new(engine: Box<dyn Engine>, how: &str) -> Option<Sabotaged> {
+        let (how, _) = SABOTAGES.iter().find(|(name, _)| *name == how)?;
+        Some(Sabotaged { engine, how })
+    }
+}
+
+impl Engine for Sabotaged {
+    fn name(&self) -> String {
+        format!("{} with sabotage {}", self.engine.name(), self.how)
+    }
+
+    fn settle(&self, sheet: &[u8], answer: &mut [u8]) -> u64 {
+        let mut tray = answer.to_vec();
+        let given = self.engine.settle(sheet, &mut tray);
+        match (self.how, number(given)) {
+            ("order", 7) => {
+                let again = self.engine.settle(sheet, &mut [0; 330]);
+                return if number(again) == 8 { again } else { given };
+            }
+            ("ghost-first", 8) => {
+                let place = given as u32 as usize;
+                return match ghosts(sheet).find(|&ghost| ghost < place) {
+                    Some(ghost) => packed(Refusal::at(9, ghost)),
+                    None => given,
+                };
+            }
+            ("place", 8) => {
+                let bad = (0..entries(sheet)).rfind(|entry| sheet[8 + entry] > 1);
+                return packed(Refusal::at(8, bad.unwrap()));
+            }
+            ("place", 9) => return packed(Refusal::at(9, ghosts(sheet).last().unwrap())),
+            ("refused-tray", 1..) if !tray.is_empty() => tray[0] ^= 1,
+            ("past", 0) if tray.len() > given as usize => tray[given as usize] ^= 1,
+            (_, 0 | 10) => match wrong_round(self.how, sheet) {
+                None => {}
+                Some(Err(refusal)) => return packed(refusal),
+                Some(Ok(round)) => {
+                    answer[..round.len()].copy_from_slice(&round);
+                    return round.len() as u64;
+                }
+            },
+            _ => {}
+        }
+        answer.copy_from_slice(&tray);
+        given
+    }
+
+    fn read(
+        &self,
+        sheet: &[u8],
+        settings: &mut Settings,
+        marks: &mut [u8],
+        readings: &mut [i32],
+    ) -> u64 {
+        let given = self.engine.read(sheet, settings, marks, readings);
+        if self.how == "read-past" && number(given) == 0 && readings.len() > given as usize {
+            readings[given as usize] ^= 1;
+        }
+        given
+    }
+
+    fn write(&self, settings: &Settings, marks: &[u8], readings: &[i32], sheet: &mut [u8]) -> u64 {
+        let given = self.engine.write(settings, marks, readings, sheet);
+        if self.how == "write-past" && number(given) == 0 && sheet.len() > given as usize {
+            sheet[given as usize] ^= 1;
+        }
+        given
+    }
+
+    fn row<'a>(&self, sheet: &'a [u8], cabinet: u32) -> &'a [u8] {
+        if self.how == "from-one" {
+            return self.engine.row(sheet, cabinet.wrapping_sub(1));
+        }
+        self.engine.row(sheet, cabinet)
+    }
+
+    fn plan(&self, settings: &Settings, accuracy: u32, rounds: u32, plan: &mut Plan) -> u64 {
+        let given = self.engine.plan(settings, accuracy, rounds, plan);
+        if self.how == "repeat" && number(given) == 0 && rounds > 1 {
+            plan.settings.window = reference::next_window(settings);
+        }
+        given
+    }
+
+    fn step(&self, plan: &Plan, next: &mut Plan) -> u64 {
+        if self.how == "step-late" && plan.rounds == 32 {
+            return self.engine.step(&Plan { rounds: 31, ..*plan }, next);
+        }
+        self.engine.step(plan, next)
+    }
+
+    fn target(&self, settings: &Settings, accuracy: u32, target: u32) -> u64 {
+        if self.how == "target-short" {
+            if let Ok(fit) = reference::target(settings, accuracy, target) {
+                return fit[0].saturating_sub(1) as u64;
+            }
+        }
+        self.engine.target(settings, accuracy, target)
+    }
+}
+
+fn entries(sheet: &[u8]) -> usize {
+    (sheet.len() - 8) / 5
+}
+
+fn ghosts(sheet: &[u8]) -> impl Iterator<Item = usize> + '_ {
+    let entries = entries(sheet);
+    let readings = sheet[8 + entries..].chunks(4);
+    let ghost = move |(entry, bytes): (usize, &[u8])| {
+        (sheet[8 + entry] == 0 && bytes != [0; 4]).then_some(entry)
+    };
+    readings.enumerate().filter_map(ghost)
+}
+
+/// The round of a sheet that passed checks 1 to 9, wrong in the named way; None when the way
+/// is not about the round.
+fn wrong_round(how: &str, sheet: &[u8]) -> Option<Result<Vec<u8>, Refusal>> {
+    if !SABOTAGES[..10].iter().any(|(name, _)| *name == how) {
+        return None;
+    }
+    let settings = reference::settings_of(sheet).ok()?;
+    let entries = reference::entries_of(sheet, &settings).ok()?;
+    let n = settings.n as usize;
+    let copies = if how == "row-low" { settings.need() - 1 } else { settings.need() };
+    let readings: Vec<Option<i32>> = if settings.rule == reference::CCA {
+        entries.chunks(n).map(|row| reference::decide(row, copies)).collect()
+    } else {
+        entries
+    };
+    let present: Vec<i64> = readings.iter().flatten().map(|&v| v as i64).collect();
+    let is_accepted = |v: i32| wrong_acceptance(how, &settings, &present, v as i64);
+    let accepted: Vec<bool> = readings.iter().map(|v| v.is_some_and(is_accepted)).collect();
+    let values: Vec<i64> = readings
+        .iter()
+        .zip(&accepted)
+        .filter_map(|(v, &accepted)| if accepted { v.map(i64::from) } else { None })
+        .collect();
+    if values.is_empty() {
+        return Some(Err(Refusal::new(10)));
+    }
+    let estimate = match how {
+        "middle-two" if settings.estimator == reference::MEDIAN => middle_two(&values),
+        "all-readings" => reference::estimate(settings.estimator, &present),
+        _ => reference::estimate(settings.estimator, &values),
+    };
+    let mut marks = Vec::new();
+    let mut used = Vec::new();
+    for (v, &accepted) in readings.iter().zip(&accepted) {
+        let (mark, value) = match v {
+            None => (0, estimate),
+            Some(v) if accepted => (1, *v as i64),
+            Some(_) => (2, estimate),
+        };
+        marks.push(mark);
+        used.push(value);
+    }
+    let (sum, n) = (used.iter().sum::<i64>(), n as i64);
+    let new = match how {
+        "truncate" => (2 * sum + n) / (2 * n),
+        "half-down" => -(n - 2 * sum).div_euclid(2 * n),
+        _ => reference::mean(&used),
+    };
+    Some(Ok(Round { count: values.len(), estimate, new, marks, used }.bytes()))
+}
+
+fn wrong_acceptance(how: &str, settings: &Settings, present: &[i64], v: i64) -> bool {
+    let window = settings.window as i64 - (how == "strict") as i64;
+    let need = match how {
+        "need-low" => settings.need() - 1,
+        "need-high" => settings.need() + 1,
+        _ => settings.need(),
+    };
+    if how == "pairwise" {
+        return present.iter().filter(|&&other| (v - other).abs() <= window).count() >= need;
+    }
+    present.iter().any(|&start| {
+        let holds = |v: i64| start <= v && v <= start + window;
+        let mut held: Vec<i64> = present.iter().copied().filter(|&other| holds(other)).collect();
+        if how == "distinct" {
+            held.sort();
+            held.dedup();
+        }
+        holds(v) && held.len() >= need
+    })
+}
+
+fn middle_two(values: &[i64]) -> i64 {
+    let mut sorted = values.to_vec();
+    sorted.sort();
+    let count = sorted.len();
+    (sorted[(count - 1) / 2] + sorted[count / 2]).div_euclid(2)
+}

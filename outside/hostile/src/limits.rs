@@ -1,0 +1,101 @@
+//! The limits for sound cabinets, for every good set and every true value.
+
+use crate::run::Run;
+
+/// Good sets of one size, N-t. Their true values reach from the highest reading less κ to the
+/// lowest reading plus κ, so the lowest of the highest and the highest of the lowest readings
+/// give the strictest limits.
+#[derive(Clone, Copy, Debug)]
+pub struct GoodSets {
+    pub t: usize,
+    pub lowest_high: i64,
+    pub highest_low: i64,
+}
+
+impl GoodSets {
+    /// The largest error of a value against a true value of such a set.
+    pub fn error(&self, value: i64, accuracy: i64) -> i64 {
+        (value - (self.lowest_high - accuracy)).max((self.highest_low + accuracy) - value)
+    }
+}
+
+/// For each t below N-m, the good sets of N-t cabinets, if there are any. A set that leaves out
+/// a reading between two of its own has the limits of the larger set or wider ones, so
+/// neighbours in order are enough.
+pub fn good_sets(run: &Run) -> Vec<GoodSets> {
+    let sound = (0..run.n()).filter(|&c| !run.faulty[c]);
+    let mut first: Vec<i64> = sound.filter_map(|c| run.held[c]).map(i64::from).collect();
+    first.sort();
+    let widest = (run.settings.window as i64).min(2 * run.accuracy as i64);
+    let mut sets = Vec::new();
+    for t in 0..run.settings.need() {
+        let size = run.n() - t;
+        let near = || first.windows(size).filter(|set| set[size - 1] - set[0] <= widest);
+        if let Some(lowest_high) = near().map(|set| set[size - 1]).min() {
+            let highest_low = near().map(|set| set[0]).max().unwrap();
+            sets.push(GoodSets { t, lowest_high, highest_low });
+        }
+    }
+    sets
+}
+
+/// How close a limit was met.
+#[derive(Clone, Copy, Default)]
+pub struct Met {
+    /// How often something was held against it.
+    pub times: u64,
+    /// The largest share of it that was used.
+    pub share: f64,
+    /// The same for limits of 1000 ticks and more, where rounding plays no part.
+    pub share_of_large: f64,
+    /// How often it was reached exactly.
+    pub reached: u64,
+    /// The largest limit that was reached exactly.
+    pub largest: i64,
+}
+
+impl Met {
+    /// A use of a limit above zero. A limit of zero is checked, not counted.
+    pub fn count(&mut self, used: i64, limit: i64) {
+        if limit > 0 {
+            self.times += 1;
+            let share = used as f64 / limit as f64;
+            self.share = self.share.max(share);
+            if limit >= 1000 {
+                self.share_of_large = self.share_of_large.max(share);
+            }
+            if used == limit {
+                self.reached += 1;
+                self.largest = self.largest.max(limit);
+            }
+        }
+    }
+}
+
+#[cfg(test)]
+mod tests {
+    use super::*;
+    use engine::Settings;
+
+    fn run(accuracy: u32, held: &[Option<i32>]) -> Run {
+        let settings = Settings { n: 4, m: 1, rule: 0, estimator: 1, window: 10 };
+        Run { settings, accuracy, faulty: vec![false; 4], held: held.to_vec(), rounds: 1 }
+    }
+
+    #[test]
+    fn one_true_value() {
+        let sets = good_sets(&run(5, &[Some(0), Some(4), Some(10), None]));
+        assert_eq!((sets[0].t, sets[0].lowest_high, sets[0].highest_low), (1, 10, 0));
+        assert_eq!(sets[0].error(5, 5), 0, "5 is the only true value");
+        assert_eq!(sets[0].error(7, 5), 2);
+        assert_eq!((sets[1].t, sets[1].lowest_high, sets[1].highest_low), (2, 4, 4));
+        assert_eq!(sets.len(), 2, "t is below N-m");
+    }
+
+    #[test]
+    fn no_set_wider_than_twice_the_accuracy() {
+        let sets = good_sets(&run(2, &[Some(0), Some(4), Some(10), Some(30)]));
+        assert_eq!((sets[0].t, sets.len()), (2, 1));
+        assert_eq!(sets[0].error(2, 2), 0);
+    }
+}

@@ -1,0 +1,398 @@
+//! One run, as document 01 writes it out: a start, then rounds of sending, sheets and settling.
+
+use crate::liars::{clamp, outermost, Aim, Liars, Reading};
+use crate::limits::{good_sets, GoodSets, Met};
+use engine::{number, words, Engine, Plan, Settings};
+use random::Random;
+use reference::{CCA, FCA, MEDIAN};
+
+/// The limits, by name. Each is counted apart.
+pub const LIMITS: [&str; 14] = [
+    "t ≤ m    gap   round 1  FCA",
+    "t ≤ m    gap   round 1  CCA, median",
+    "t ≤ m    gap   round 1  CCA, others",
+    "t ≤ m    gap   later    FCA",
+    "t ≤ m    gap   later    CCA, median",
+    "t ≤ m    gap   later    CCA, others",
+    "t ≤ m    error round 1  FCA",
+    "t ≤ m    error round 1  CCA",
+    "t ≤ m    error later    FCA",
+    "t ≤ m    error later    CCA",
+    "m < t    gap   round 1  FCA",
+    "m < t    gap   round 1  CCA",
+    "m < t    error round 1  FCA",
+    "m < t    error round 1  CCA",
+];
+
+#[derive(Default)]
+pub struct Tally {
+    pub met: [Met; 14],
+    pub few_bad: u64,
+    pub many_bad: u64,
+    pub rounds: u64,
+    pub settled: u64,
+    pub refused: u64,
+}
+
+pub struct Run {
+    pub settings: Settings,
+    pub accuracy: u32,
+    pub faulty: Vec<bool>,
+    pub held: Vec<Reading>,
+    pub rounds: u32,
+}
+
+impl Run {
+    pub fn n(&self) -> usize {
+        self.settings.n as usize
+    }
+
+    /// Settings, faulty cabinets and first readings.
+    pub fn draw(random: &Random) -> Run {
+        let settings = draw_settings(random);
+        let (n, m) = (settings.n as usize, settings.m as usize);
+        let w = settings.window as i64;
+        let accuracy = match random.below(8) {
+            0 => 0,
+            1 => random.between(0, 5),
+            2 => w / 2,
+            3 => (w + 1) / 2,
+            4 => random.between(0, w),
+            5 => 1_000_000_000,
+            6 => random.between(0, 1_000_000_000),
+            _ => w,
+        };
+        let t = match random.below(10) {
+            0..=4 => m,
+            5 | 6 => random.below(m + 1),
+            _ if n == 1 => 0,
+            _ => random.between(m as i64 + 1, (n - m) as i64 - 1) as usize,
+        };
+        let f = if random.percent(60) { t } else { random.below(t + 1) };
+        let good = draw_good(random, &settings, accuracy, t);
+        let mut cabinets: Vec<(bool, Reading)> = Vec::new();
+        cabinets.extend(good.iter().map(|&v| (false, Some(clamp(v)))));
+        cabinets.extend((f..t).map(|_| (false, draw_bad(random, &settings, &good, t))));
+        cabinets.extend((0..f).map(|_| (true, None)));
+        for i in 0..n {
+            cabinets.swap(i, random.below(n));
+        }
+        let most_rounds = if settings.rule == CCA && n > 16 { 4 } else { 32 };
+        let rounds = random.pick(&[1, 2, 3, 8, 32, random.below(33) as u32]).min(most_rounds);
+        Run {
+            settings,
+            accuracy: accuracy as u32,
+            faulty: cabinets.iter().map(|c| c.0).collect(),
+            held: cabinets.iter().map(|c| c.1).collect(),
+            rounds,
+        }
+    }
+
+    /// Runs the rounds and holds every limit against them. The error tells which was broken.
+    pub fn run(
+        mut self,
+        random: &Random,
+        engine: &dyn Engine,
+        tally: &mut Tally,
+        show: bool,
+    ) -> Result<(), String> {
+        let sets = good_sets(&self);
+        let m = self.settings.m as usize;
+        let few: Vec<GoodSets> = sets.iter().copied().filter(|set| set.t <= m).collect();
+        let few_bad = !few.is_empty();
+        *(if few_bad { &mut tally.few_bad } else { &mut tally.many_bad }) += 1;
+        let start = self.accuracy;
+        let mut plan = Plan::default();
+        let answer = engine.plan(&self.settings, start, 0, &mut plan);
+        self.same_plan(answer, plan, reference::plan(&self.settings, start, 0).unwrap())?;
+        if show {
+            println!("{:?}, κ {start}, {} rounds", self.settings, self.rounds);
+            println!("faulty {:?}", (0..self.n()).filter(|&c| self.faulty[c]).collect::<Vec<_>>());
+            println!("first readings {:?}", self.held);
+            println!("good sets {sets:?}");
+        }
+        // With more than m bad ones, only the first round has limits.
+        let rounds = if few_bad { self.rounds } else { self.rounds.min(1) };
+        let steady = random.percent(40).then(|| random.pick(&[Aim::Low, Aim::High]));
+        for round in 1..=rounds {
+            let settings = plan.settings;
+            self.round(random, engine, &settings, steady, few_bad, tally, show)?;
+            let next_window = reference::next_window(&settings) as i64;
+            let next_accuracy = reference::next_accuracy(&settings, plan.accuracy) as i64;
+            let values = self.values();
+            let gap = gap(&values);
+            let kind = self.kind();
+            if few_bad {
+                let late = (round > 1) as usize;
+                self.hold(tally, 3 * late + kind, gap, next_window, 0)?;
+                for set in &few {
+                    for &value in &values {
+                        let error = set.error(value, start as i64);
+                        let limit = 6 + 2 * late + (kind > 0) as usize;
+                        self.hold(tally, limit, error, next_accuracy, start as i64)?;
+                    }
+                }
+            }
+            if round == 1 {
+                self.wide_limits(tally, &sets, &values)?;
+            }
+            let mut next = Plan::default();
+            let answer = engine.step(&plan, &mut next);
+            self.same_plan(answer, next, reference::step(&plan).unwrap())?;
+            plan = next;
+            tally.rounds += 1;
+        }
+        Ok(())
+    }
+
+    fn kind(&self) -> usize {
+        match (self.settings.rule, self.settings.estimator) {
+            (FCA, _) => 0,
+            (_, MEDIAN) => 1,
+            _ => 2,
+        }
+    }
+
+    /// The new values of sound cabinets that were not refused.
+    fn values(&self) -> Vec<i64> {
+        let sound = (0..self.n()).filter(|&c| !self.faulty[c]);
+        sound.filter_map(|c| self.held[c]).map(i64::from).collect()
+    }
+
+    /// Good sets with m < t < N-m, first round.
+    fn wide_limits(
+        &self,
+        tally: &mut Tally,
+        sets: &[GoodSets],
+        values: &[i64],
+    ) -> Result<(), String> {
+        let Settings { n, m, window, .. } = self.settings;
+        let (n, m, w, start) = (n as i64, m as i64, window as i64, self.accuracy as i64);
+        let crusaders = (self.kind() > 0) as usize;
+        for set in sets.iter().filter(|set| set.t as i64 > m) {
+            let t = set.t as i64;
+            let widest_gap = ceiling((n + 2 * t + 2 * m) * w, n);
+            self.hold(tally, 10 + crusaders, gap(values), widest_gap, 0)?;
+            let widest_error = start + ceiling((m + t) * w, n);
+            for &value in values {
+                let error = set.error(value, start);
+                self.hold(tally, 12 + crusaders, error, widest_error, start)?;
+            }
+        }
+        Ok(())
+    }
+
+    /// Holds a limit. What is counted is the part of it past `from`.
+    fn hold(
+        &self,
+        tally: &mut Tally,
+        limit: usize,
+        used: i64,
+        most: i64,
+        from: i64,
+    ) -> Result<(), String> {
+        tally.met[limit].count(used - from, most - from);
+        if used > most {
+            return Err(format!("{}: {used}, and the limit is {most}", LIMITS[limit]));
+        }
+        Ok(())
+    }
+
+    fn same_plan(&self, answer: u64, given: Plan, right: Plan) -> Result<(), String> {
+        if number(answer) != 0 {
+            return Err(format!("the planner: {}", words(answer)));
+        }
+        if given != right {
+            return Err(format!("the plan is {given:?}, not {right:?}"));
+        }
+        Ok(())
+    }
+
+    /// One round. Cabinets that the liars show the same face have the same sheet, byte for
+    /// byte, which is settled once for all of them.
+    #[allow(clippy::too_many_arguments)]
+    fn round(
+        &mut self,
+        random: &Random,
+        engine: &dyn Engine,
+        settings: &Settings,
+        steady: Option<Aim>,
+        few_bad: bool,
+        tally: &mut Tally,
+        show: bool,
+    ) -> Result<(), String> {
+        let (faces, face_of) = self.faces(random, steady);
+        let liars = Liars::new(random, settings, &self.faulty, &self.held);
+        let told = (settings.rule == CCA).then(|| liars.tell());
+        let mut next = self.held.clone();
+        for (face, &aim) in faces.iter().enumerate() {
+            let members: Vec<usize> =
+                (0..self.n()).filter(|&c| !self.faulty[c] && face_of[c] == face).collect();
+            if members.is_empty() {
+                continue;
+            }
+            // The liars try a few sheets and keep the one that leads furthest.
+            let mut kept: Option<(i64, Reading, Vec<Reading>)> = None;
+            for _ in 0..random.pick(&[1, 2, 4]) {
+                let entries = match &told {
+                    Some(told) => liars.relayed(told, aim),
+                    None => liars.direct(aim),
+                };
+                let answer = settle(random, engine, settings, &entries);
+                let (worth, new) = match answer {
+                    Ok(new) => {
+                        tally.settled += 1;
+                        (new as i64 * if aim == Aim::Low { -1 } else { 1 }, Some(new))
+                    }
+                    Err(answer) => {
+                        tally.refused += 1;
+                        if few_bad || number(answer) != 10 {
+                            return Err(format!("cabinet {} {}", members[0], words(answer)));
+                        }
+                        (i64::MIN, None)
+                    }
+                };
+                if kept.as_ref().is_none_or(|kept| worth > kept.0) {
+                    kept = Some((worth, new, entries));
+                }
+            }
+            let (_, new, entries) = kept.unwrap();
+            if show {
+                println!(
+                    "window {}: {members:?} aim {aim:?} {entries:?}: {new:?}",
+                    settings.window
+                );
+            }
+            for c in members {
+                next[c] = new;
+            }
+        }
+        self.held = next;
+        Ok(())
+    }
+
+    /// The faces that the liars show, and which one each cabinet sees.
+    fn faces(&self, random: &Random, steady: Option<Aim>) -> (Vec<Aim>, Vec<usize>) {
+        if let Some(aim) = steady {
+            if random.percent(80) {
+                return (vec![aim], vec![0; self.n()]);
+            }
+        }
+        let mut faces = vec![Aim::Low, Aim::High];
+        let all = [Aim::Low, Aim::High, Aim::Any];
+        for _ in 0..random.pick(&[0, 0, 0, 1, 2, self.n().min(6)]) {
+            faces.push(random.pick(&all));
+        }
+        let middle = gap(&self.values()) / 2 + self.values().iter().min().unwrap_or(&0);
+        let style = random.below(4);
+        let alone = random.below(self.n());
+        let face = |c: usize| {
+            let high = self.held[c].is_some_and(|v| v as i64 > middle);
+            match style {
+                0 => high as usize,
+                1 => !high as usize,
+                2 => (c == alone) as usize,
+                _ => random.below(faces.len()),
+            }
+        };
+        let face_of = (0..self.n()).map(face).collect();
+        (faces, face_of)
+    }
+}
+
+fn ceiling(number: i64, by: i64) -> i64 {
+    (number + by - 1).div_euclid(by)
+}
+
+/// The largest difference of two values.
+fn gap(values: &[i64]) -> i64 {
+    let lowest = values.iter().min().unwrap_or(&0);
+    let highest = values.iter().max().unwrap_or(&0);
+    highest - lowest
+}
+
+/// Settles a sheet over a tray with old contents. The new value, or the refusal.
+fn settle(
+    random: &Random,
+    engine: &dyn Engine,
+    settings: &Settings,
+    entries: &[Reading],
+) -> Result<i32, u64> {
+    let marks: Vec<u8> = entries.iter().map(|e| e.is_some() as u8).collect();
+    let readings: Vec<i32> = entries.iter().map(|e| e.unwrap_or(0)).collect();
+    let sheet = reference::sheet_bytes(settings, &marks, &readings);
+    let mut tray = [random.draw() as u8; 330];
+    let answer = engine.settle(&sheet, &mut tray);
+    match number(answer) {
+        0 => Ok(i32::from_le_bytes(tray[6..10].try_into().unwrap())),
+        _ => Err(answer),
+    }
+}
+
+fn draw_settings(random: &Random) -> Settings {
+    let n = match random.below(100) {
+        0..=79 => random.between(1, 13),
+        80..=95 => random.between(14, 25),
+        _ => random.between(26, 64),
+    } as u8;
+    let most = (n - 1) / 3;
+    let window = match random.below(10) {
+        0 => random.between(0, 3),
+        1..=3 => random.between(1, 30),
+        4 => n as i64 * random.between(1, 50),
+        5 | 6 => random.between(1, 2000),
+        7 => 1_000_000,
+        _ => random.between(0, 1_000_000),
+    } as u32;
+    Settings {
+        n,
+        m: if random.percent(80) { most } else { random.below(most as usize + 1) as u8 },
+        rule: random.pick(&[FCA, CCA]),
+        estimator: random.below(3) as u8,
+        window,
+    }
+}
+
+/// First readings of N-t cabinets, within the window of each other and twice κ.
+fn draw_good(random: &Random, settings: &Settings, accuracy: i64, t: usize) -> Vec<i64> {
+    let w = settings.window as i64;
+    let count = settings.n as usize - t;
+    let widest = w.min(2 * accuracy);
+    let span = random.pick(&[0, 1, widest, widest, widest, random.between(0, widest)]).min(widest);
+    let (lowest, highest) = (i32::MIN as i64, i32::MAX as i64 - span);
+    let base = match random.below(8) {
+        0 => highest,
+        1 => lowest,
+        2 => highest - w,
+        3 => lowest + w,
+        4 => random.between(lowest, highest),
+        _ => random.between(-20, 20),
+    };
+    let just = settings.need().saturating_sub(t);
+    let low = random.pick(&[1, count / 2, count - 1, just, just + 1, count - just.min(count)]);
+    let style = random.below(4);
+    let reading = |i: usize| match style {
+        0 => base,
+        1 => base + if i < low { 0 } else { span },
+        2 if i < just => base,
+        2 if i < 2 * just => base + span,
+        2 => base + random.pick(&[0, span / 2, span]),
+        _ => base + random.between(0, span),
+    };
+    (0..count).map(reading).collect()
+}
+
+/// The bad first reading of a sound cabinet.
+fn draw_bad(random: &Random, settings: &Settings, good: &[i64], t: usize) -> Reading {
+    let w = settings.window as i64;
+    let low = random.percent(50);
+    let edge = outermost(good, settings.need(), w, low, t);
+    let value = match random.below(10) {
+        0..=4 => edge,
+        5 => edge + if low { -1 } else { 1 },
+        6 => good[0] + random.between(-2 * w - 1, 2 * w + 1),
+        7 => random.draw() as i32 as i64,
+        _ => return None,
+    };
+    Some(clamp(value))
+}

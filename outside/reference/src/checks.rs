@@ -1,0 +1,80 @@
+//! Settings, refusals, and the checks on settings.
+
+pub const FCA: u8 = 0;
+pub const CCA: u8 = 1;
+
+pub const AVERAGE: u8 = 0;
+pub const MEDIAN: u8 = 1;
+pub const MIDPOINT: u8 = 2;
+
+/// A refusal: its number in the table, and its place.
+#[derive(Clone, Copy, Debug, PartialEq, Eq)]
+pub struct Refusal {
+    pub number: u8,
+    pub place: u32,
+}
+
+impl Refusal {
+    pub fn new(number: u8) -> Refusal {
+        Refusal { number, place: 0 }
+    }
+
+    pub fn at(number: u8, entry: usize) -> Refusal {
+        Refusal { number, place: entry as u32 }
+    }
+}
+
+/// The first eight bytes of a round sheet. Any numbers at all: nothing is presumed checked.
+#[repr(C)]
+#[derive(Clone, Copy, Debug, Default, PartialEq, Eq)]
+pub struct Settings {
+    pub n: u8,
+    pub m: u8,
+    pub rule: u8,
+    pub estimator: u8,
+    pub window: u32,
+}
+
+impl Settings {
+    /// Checks 2 to 5, in this order.
+    pub fn check(&self) -> Result<(), Refusal> {
+        let n = self.n as u32;
+        let m = self.m as u32;
+        if n == 0 || n > 64 {
+            return Err(Refusal::new(2));
+        }
+        if n < 3 * m + 1 {
+            return Err(Refusal::new(3));
+        }
+        if self.rule > 1 || self.estimator > 2 {
+            return Err(Refusal::new(4));
+        }
+        if self.window > 1_000_000 {
+            return Err(Refusal::new(5));
+        }
+        Ok(())
+    }
+
+    /// E, the number of entries of a sheet.
+    pub fn entries(&self) -> usize {
+        let n = self.n as usize;
+        if self.rule == CCA {
+            n * n
+        } else {
+            n
+        }
+    }
+
+    pub fn sheet_length(&self) -> usize {
+        8 + 5 * self.entries()
+    }
+
+    pub fn answer_length(&self) -> usize {
+        10 + 5 * self.n as usize
+    }
+
+    /// N-m, the readings that a span must hold and the copies that a row must hold.
+    pub fn need(&self) -> usize {
+        self.n as usize - self.m as usize
+    }
+}

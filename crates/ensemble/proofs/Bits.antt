@@ -28,20 +28,28 @@ above-zero {ℓ} : {X : Type ℓ} (n : ℕ) → n < 2_147_483_648 → ltZ (toZ w
 above-zero n fits h = clash h (ap (λ (z : ℤ). ltZ z (pos 0)) (back (pos n) fits) ∙ le-ltb n 0 (omega arith))
 
 -- of a number from 0 on
-pub plain-cast : (z : ℤ) → mag z < 2_147_483_648 → ltZ (toZ w32 (ofZ w32 z)) (pos 0) ≡ false → T (nonNeg (toZ w32 (ofZ w32 z))) × Fits w32 (natAbs (toZ w32 (ofZ w32 z)))
+pub plain-cast :
+    (z : ℤ) → mag z < 2_147_483_648 → ltZ (toZ w32 (ofZ w32 z)) (pos 0) ≡ false
+    → T (nonNeg (toZ w32 (ofZ w32 z))) × Fits w32 (natAbs (toZ w32 (ofZ w32 z)))
 plain-cast (pos n) fits h = low-cast n fits
 plain-cast (negsuc n) fits h = below-zero n fits h
 
-pub plain-bits : (z : ℤ) → mag z < 2_147_483_648 → ltZ (toZ w32 (ofZ w32 z)) (pos 0) ≡ false → natAbs (toZ w32 (ofZ w32 z)) ≡ ofZ w32 z
+pub plain-bits :
+    (z : ℤ) → mag z < 2_147_483_648 → ltZ (toZ w32 (ofZ w32 z)) (pos 0) ≡ false
+    → natAbs (toZ w32 (ofZ w32 z)) ≡ ofZ w32 z
 plain-bits (pos n) fits h = ap natAbs (toZ-pos w32 fits)
 plain-bits (negsuc n) fits h = below-zero n fits h
 
 -- of the complement of a number below 0
-pub complement-cast : (z : ℤ) → mag z < 2_147_483_648 → ltZ (toZ w32 (ofZ w32 z)) (pos 0) ≡ true → T (nonNeg (toZ w32 (4_294_967_295 - ofZ w32 z))) × Fits w32 (natAbs (toZ w32 (4_294_967_295 - ofZ w32 z)))
+pub complement-cast :
+    (z : ℤ) → mag z < 2_147_483_648 → ltZ (toZ w32 (ofZ w32 z)) (pos 0) ≡ true
+    → T (nonNeg (toZ w32 (4_294_967_295 - ofZ w32 z))) × Fits w32 (natAbs (toZ w32 (4_294_967_295 - ofZ w32 z)))
 complement-cast (pos n) fits h = above-zero n fits h
 complement-cast (negsuc n) fits h = low-cast (4_294_967_295 - (4_294_967_296 - suc n)) (omega arith)
 
-pub complement-bits : (z : ℤ) → mag z < 2_147_483_648 → ltZ (toZ w32 (ofZ w32 z)) (pos 0) ≡ true → 4_294_967_295 - natAbs (toZ w32 (4_294_967_295 - ofZ w32 z)) ≡ ofZ w32 z
+pub complement-bits :
+    (z : ℤ) → mag z < 2_147_483_648 → ltZ (toZ w32 (ofZ w32 z)) (pos 0) ≡ true
+    → 4_294_967_295 - natAbs (toZ w32 (4_294_967_295 - ofZ w32 z)) ≡ ofZ w32 z
 complement-bits (pos n) fits h = above-zero n fits h
 complement-bits (negsuc n) fits h = ap (λ (x : ℤ). 4_294_967_295 - natAbs x) (toZ-pos w32 low) ∙ twice
   where

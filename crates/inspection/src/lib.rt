@@ -43,7 +43,9 @@ pub fn entry_count(settings: Settings) -> usize
 
 // Checks 1 to 6.
 pub fn inspect(sheet: &[u8]) -> Opened
-    ensures { λ r. ⌜ openedAs r ≡ verdict (firstOf (sheetChecks (now (sheet .entry)))) (settingsAt (now (sheet .entry))) ⌝ }
+    ensures { λ r.
+        ⌜ openedAs r
+        ≡ verdict (firstOf (sheetChecks (now (sheet .entry)))) (settingsAt (now (sheet .entry))) ⌝ }
 {
     if sheet.len() < 8 {
         return Opened::Refused(Refusal {
@@ -110,7 +112,10 @@ fn not_zero(marks: &[u8], readings: &[u8], e: usize) -> bool
 // The lowest entry that is missing with bytes that are not zero.
 fn bad_missing(marks: &[u8], readings: &[u8]) -> Found
     requires { ⌜ length (now readings) ≡ 4 * length (now marks) ⌝ }
-    ensures { λ r. ⌜ foundAs r ≡ lowest (λ e. notZero (byte (now (marks .entry)) e) (word (now (readings .entry)) (4 * e))) (length (now (marks .entry))) ⌝ }
+    ensures { λ r.
+        ⌜ foundAs r
+        ≡ lowest (λ e. notZero (byte (now (marks .entry)) e) (word (now (readings .entry)) (4 * e)))
+        (length (now (marks .entry))) ⌝ }
 {
     let mut entry: usize = 0;
     'entries: while entry < marks.len() {
@@ -125,7 +130,10 @@ fn bad_missing(marks: &[u8], readings: &[u8]) -> Found
 // Checks 8 and 9 of a sheet of that many entries.
 fn check_entries(sheet: &[u8], entries: usize) -> Screened
     requires { ⌜ (length (now sheet) ≡ 8 + 5 * entries) × (entries ≤ 4096) ⌝ }
-    ensures { λ r. ⌜ rowOf r ≡ orNext (badMark (markAt (now (sheet .entry))) entries) (badMissing (markAt (now (sheet .entry))) (bitsAt (now (sheet .entry)) entries) entries) ⌝ }
+    ensures { λ r.
+        ⌜ rowOf r
+        ≡ orNext (badMark (markAt (now (sheet .entry))) entries)
+        (badMissing (markAt (now (sheet .entry))) (bitsAt (now (sheet .entry)) entries) entries) ⌝ }
 {
     let body = 8 + entries;
     let marks = &sheet[8..body];
@@ -148,7 +156,9 @@ fn check_entries(sheet: &[u8], entries: usize) -> Screened
 
 // Checks 1 to 6, 8 and 9.
 pub fn validate(sheet: &[u8]) -> Opened
-    ensures { λ r. ⌜ openedAs r ≡ verdict (firstOf (rowChecks (now (sheet .entry)))) (settingsAt (now (sheet .entry))) ⌝ }
+    ensures { λ r.
+        ⌜ openedAs r
+        ≡ verdict (firstOf (rowChecks (now (sheet .entry)))) (settingsAt (now (sheet .entry))) ⌝ }
 {
     match inspect(sheet) {
         Opened::Refused(r) => Opened::Refused(r),

@@ -14,7 +14,8 @@ use ensemble::Tick;
 use inspection::Opened;
 use model::Refusal;
 
-// The part of the sheet that holds cabinet r's readings. It is empty for a sheet that checks 1 to 6, 8 or 9 refuse, and from cabinet N on.
+// The part of the sheet that holds cabinet r's readings. It is empty for a sheet that checks 1 to 6, 8 or 9 refuse,
+// and from cabinet N on.
 pub fn row(sheet: &[u8], r: usize) -> &[u8]
     ensures { λ part. ⌜ now part ≡ row (now (sheet .entry)) r ⌝ }
 {
@@ -27,7 +28,10 @@ pub fn row(sheet: &[u8], r: usize) -> &[u8]
 // Fills the first entries of readings with the sheet's.
 fn decode(sheet: &[u8], entries: usize, readings: &mut [i32])
     requires { ⌜ (8 + entries + 4 * entries ≤ length (now sheet)) × (entries ≤ length (now readings)) ⌝ }
-    ensures { λ _. ⌜ now (readings .exit) ≡ overwrite (table (λ e. toZ w32 (bitsAt (now (sheet .entry)) entries e)) entries) (now (readings .entry)) ⌝ }
+    ensures { λ _.
+        ⌜ now (readings .exit)
+        ≡ overwrite (table (λ e. toZ w32 (bitsAt (now (sheet .entry)) entries e)) entries)
+        (now (readings .entry)) ⌝ }
 {
     let mut e: usize = 0;
     'entries: while e < entries {
@@ -41,7 +45,9 @@ fn decode(sheet: &[u8], entries: usize, readings: &mut [i32])
 
 // Checks 1 to 9 of the reader, lent arrays of these lengths.
 fn open(sheet: &[u8], marks: usize, readings: usize) -> Opened
-    ensures { λ r. ⌜ openedAs r ≡ verdict (readRows (now (sheet .entry)) marks readings) (settingsAt (now (sheet .entry))) ⌝ }
+    ensures { λ r.
+        ⌜ openedAs r
+        ≡ verdict (readRows (now (sheet .entry)) marks readings) (settingsAt (now (sheet .entry))) ⌝ }
 {
     match inspection::inspect(sheet) {
         Opened::Refused(r) => Opened::Refused(r),
@@ -64,10 +70,12 @@ fn open(sheet: &[u8], marks: usize, readings: usize) -> Opened
     }
 }
 
-// The reader: the settings, with the first entries of marks and readings filled from the sheet, or the first refusal of checks 1 to 9,
-// which fills nothing.
+// The reader: the settings, with the first entries of marks and readings filled from the sheet, or the first refusal
+// of checks 1 to 9, which fills nothing.
 pub fn read(sheet: &[u8], marks: &mut [u8], readings: &mut [i32]) -> Opened
-    ensures { λ r. ⌜ readAs r (now (marks .exit)) (now (readings .exit)) ≡ read (now (sheet .entry)) (now (marks .entry)) (now (readings .entry)) ⌝ }
+    ensures { λ r.
+        ⌜ readAs r (now (marks .exit)) (now (readings .exit))
+        ≡ read (now (sheet .entry)) (now (marks .entry)) (now (readings .entry)) ⌝ }
 {
     match open(sheet, marks.len(), readings.len()) {
         Opened::Refused(r) => Opened::Refused(r),

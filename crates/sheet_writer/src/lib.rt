@@ -36,7 +36,10 @@ fn not_zero(mark: u8, reading: i32) -> bool
 // The lowest entry that is missing with a reading that is not zero.
 fn bad_missing(marks: &[u8], readings: &[i32]) -> Found
     requires { ⌜ length (now readings) ≡ length (now marks) ⌝ }
-    ensures { λ r. ⌜ foundAs r ≡ lowest (λ e. notZero (byte (now (marks .entry)) e) (ofZ w32 (getD (now (readings .entry)) e (pos 0)))) (length (now (marks .entry))) ⌝ }
+    ensures { λ r.
+        ⌜ foundAs r
+        ≡ lowest (λ e. notZero (byte (now (marks .entry)) e) (ofZ w32 (getD (now (readings .entry)) e (pos 0))))
+        (length (now (marks .entry))) ⌝ }
 {
     let mut e: usize = 0;
     'entries: while e < marks.len() {
@@ -129,16 +132,20 @@ fn put_readings(readings: &[i32], buffer: &mut [u8])
 // Stores marks and, behind them, readings, from byte 0 on.
 fn put_entries(marks: &[u8], readings: &[i32], buffer: &mut [u8])
     requires { ⌜ length (now marks) + 4 * length (now readings) ≤ length (now buffer) ⌝ }
-    ensures { λ _. ⌜ now (buffer .exit) ≡ overwrite (now (marks .entry) ++ readingBytes (now (readings .entry))) (now (buffer .entry)) ⌝ }
+    ensures { λ _.
+        ⌜ now (buffer .exit)
+        ≡ overwrite (now (marks .entry) ++ readingBytes (now (readings .entry))) (now (buffer .entry)) ⌝ }
 {
     let at = bytes::copy(marks, buffer);
     put_readings(readings, &mut buffer[at..]);
 }
 
-// The writer: fills the buffer with the sheet that the settings, marks and readings make, and gives back the sheet's length, or the first
-// refusal of checks 2 to 9, which fills nothing.
+// The writer: fills the buffer with the sheet that the settings, marks and readings make, and gives back the sheet's
+// length, or the first refusal of checks 2 to 9, which fills nothing.
 pub fn write(settings: Settings, marks: &[u8], readings: &[i32], buffer: &mut [u8]) -> Filled
-    ensures { λ r. ⌜ writtenAs r (now (buffer .exit)) ≡ write settings (now (marks .entry)) (now (readings .entry)) (now (buffer .entry)) ⌝ }
+    ensures { λ r.
+        ⌜ writtenAs r (now (buffer .exit))
+        ≡ write settings (now (marks .entry)) (now (readings .entry)) (now (buffer .entry)) ⌝ }
 {
     match check(settings, marks, readings, buffer.len()) {
         Screened::Refused(r) => Filled::Refused(r),

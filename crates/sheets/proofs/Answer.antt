@@ -63,24 +63,35 @@ module _ (n : ℕ) (r : Round) (old : List ℕ) where
   pub answer-mark : (i : ℕ) → i < n → byte (overwrite (answerBytes n r) old) (10 + i) ≡ r .mark i
   unfolding overwrite answerBytes
   answer-mark i h =
-      ap (λ (l : List ℕ). byte l (10 + i))
-      (append-assoc (answerHeader n r) (table (r .mark) n ++ readingBytes (table (r .used) n)) (drop (length (answerBytes n r)) old))
-      ∙ byte-append-right (answerHeader n r) ((table (r .mark) n ++ readingBytes (table (r .used) n)) ++ drop (length (answerBytes n r)) old) 10 i (length-answerHeader n r)
-      ∙ ap (λ (l : List ℕ). byte l i) (append-assoc (table (r .mark) n) (readingBytes (table (r .used) n)) (drop (length (answerBytes n r)) old))
-      ∙ byte-append-left (table (r .mark) n) (readingBytes (table (r .used) n) ++ drop (length (answerBytes n r)) old) i (rw (length-table (r .mark) n) h)
+      let head = answerHeader n r in
+      let marks = table (r .mark) n in
+      let used = readingBytes (table (r .used) n) in
+      let rest = drop (length (answerBytes n r)) old in
+      ap (λ (l : List ℕ). byte l (10 + i)) (append-assoc head (marks ++ used) rest)
+      ∙ byte-append-right head ((marks ++ used) ++ rest) 10 i (length-answerHeader n r)
+      ∙ ap (λ (l : List ℕ). byte l i) (append-assoc marks used rest)
+      ∙ byte-append-left marks (used ++ rest) i (rw (length-table (r .mark) n) h)
       ∙ getD-table (r .mark) n i 0 h
 
-  pub answer-used-bits : (i : ℕ) → i < n → SFits w32 (r .used i) → word (overwrite (answerBytes n r) old) (10 + n + 4 * i) ≡ ofZ w32 (r .used i)
+  pub answer-used-bits :
+      (i : ℕ) → i < n → SFits w32 (r .used i)
+      → word (overwrite (answerBytes n r) old) (10 + n + 4 * i) ≡ ofZ w32 (r .used i)
   unfolding overwrite answerBytes
   answer-used-bits i h fits =
+      let head = answerHeader n r in
+      let marks = table (r .mark) n in
+      let used = readingBytes (table (r .used) n) in
+      let rest = drop (length (answerBytes n r)) old in
       ap (λ (l : List ℕ). word l (10 + n + 4 * i))
-      (append-assoc (answerHeader n r) (table (r .mark) n ++ readingBytes (table (r .used) n)) (drop (length (answerBytes n r)) old)
-      ∙ ap (λ (l : List ℕ). answerHeader n r ++ l) (append-assoc (table (r .mark) n) (readingBytes (table (r .used) n)) (drop (length (answerBytes n r)) old)))
-      ∙ ap (word (answerHeader n r ++ (table (r .mark) n ++ (readingBytes (table (r .used) n) ++ drop (length (answerBytes n r)) old)))) (add-assoc 10 n (4 * i))
-      ∙ word-append-right (answerHeader n r) (table (r .mark) n ++ (readingBytes (table (r .used) n) ++ drop (length (answerBytes n r)) old)) 10 (n + 4 * i) (length-answerHeader n r)
-      ∙ word-append-right (table (r .mark) n) (readingBytes (table (r .used) n) ++ drop (length (answerBytes n r)) old) n (4 * i) (length-table (r .mark) n)
-      ∙ word-readings (table (r .used) n) (drop (length (answerBytes n r)) old) i (rw (length-table (r .used) n) h) (rw (getD-table (r .used) n i (pos 0) h) fits)
+      (append-assoc head (marks ++ used) rest ∙ ap (λ (l : List ℕ). head ++ l) (append-assoc marks used rest))
+      ∙ ap (word (head ++ (marks ++ (used ++ rest)))) (add-assoc 10 n (4 * i))
+      ∙ word-append-right head (marks ++ (used ++ rest)) 10 (n + 4 * i) (length-answerHeader n r)
+      ∙ word-append-right marks (used ++ rest) n (4 * i) (length-table (r .mark) n)
+      ∙ word-readings (table (r .used) n) rest i (rw (length-table (r .used) n) h)
+      (rw (getD-table (r .used) n i (pos 0) h) fits)
       ∙ ap (ofZ w32) (getD-table (r .used) n i (pos 0) h)
 
-  pub answer-used : (i : ℕ) → i < n → SFits w32 (r .used i) → toZ w32 (word (overwrite (answerBytes n r) old) (10 + n + 4 * i)) ≡ r .used i
+  pub answer-used :
+      (i : ℕ) → i < n → SFits w32 (r .used i)
+      → toZ w32 (word (overwrite (answerBytes n r) old) (10 + n + 4 * i)) ≡ r .used i
   answer-used i h fits = ap (toZ w32) (answer-used-bits i h fits) ∙ toZ-ofZ fits

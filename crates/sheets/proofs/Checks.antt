@@ -82,7 +82,9 @@ module _ (s : List ℕ) where
   unfolding sheetChecks settingsChecks
   sheet-length-passed h = length-passed (length s) (sheetLength (settingsAt s)) (none-at (sheetChecks s) h 5)
 
-  pub sheet-pass : firstOf (settingsChecks (settingsAt s)) ≡ none → length s ≡ sheetLength (settingsAt s) → firstOf (sheetChecks s) ≡ none
+  pub sheet-pass :
+      firstOf (settingsChecks (settingsAt s)) ≡ none → length s ≡ sheetLength (settingsAt s)
+      → firstOf (sheetChecks s) ≡ none
   unfolding sheetChecks tooShort firstOf
   sheet-pass a b =
       let header : ltb (length s) 8 ≡ false = le-ltb (length s) 8 (omega arith) in
@@ -93,12 +95,17 @@ module _ (s : List ℕ) where
   unfolding entryChecks
   sheet-marks-passed h = marks-passed (markAt s) (entryCount (settingsAt s)) (none-at (entryChecks s) h 0)
 
-  pub sheet-missing-passed : firstOf (entryChecks s) ≡ none → (e : ℕ) → e < entryCount (settingsAt s) → markAt s e ≡ 0 → bitsAt s (entryCount (settingsAt s)) e ≡ 0
+  pub sheet-missing-passed :
+      firstOf (entryChecks s) ≡ none → (e : ℕ) → e < entryCount (settingsAt s) → markAt s e ≡ 0
+      → bitsAt s (entryCount (settingsAt s)) e ≡ 0
   unfolding entryChecks
   sheet-missing-passed h =
       missing-passed (markAt s) (entryCount (settingsAt s)) (bitsAt s (entryCount (settingsAt s))) (none-at (entryChecks s) h 1)
 
-  pub sheet-entries-pass : ((e : ℕ) → e < entryCount (settingsAt s) → markAt s e ≤ 1) → ((e : ℕ) → e < entryCount (settingsAt s) → markAt s e ≡ 0 → bitsAt s (entryCount (settingsAt s)) e ≡ 0) → firstOf (entryChecks s) ≡ none
+  pub sheet-entries-pass :
+      ((e : ℕ) → e < entryCount (settingsAt s) → markAt s e ≤ 1)
+      → ((e : ℕ) → e < entryCount (settingsAt s) → markAt s e ≡ 0 → bitsAt s (entryCount (settingsAt s)) e ≡ 0)
+      → firstOf (entryChecks s) ≡ none
   unfolding entryChecks firstOf
   sheet-entries-pass a b =
       rw (

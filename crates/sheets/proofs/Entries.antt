@@ -36,7 +36,9 @@ bit-same : (r : Reading) → entryOf (bit (isPresent r)) (ticks r) ≡ r
 bit-same missing = refl
 bit-same (present z) = refl
 
-module _ (c : Settings) (entry : Readings) (pass : firstOf (settingsChecks c) ≡ none) (fits : (e : ℕ) → e < entryCount c → SFits w32 (ticks (entry e))) where
+module _
+    (c : Settings) (entry : Readings) (pass : firstOf (settingsChecks c) ≡ none)
+    (fits : (e : ℕ) → e < entryCount c → SFits w32 (ticks (entry e))) where
   mark-at : (e : ℕ) → e < entryCount c → getD (marksFrom c entry) e 0 ≡ bit (isPresent (entry e))
   mark-at e h = getD-table (λ i. bit (isPresent (entry i))) (entryCount c) e 0 h
 
@@ -55,12 +57,17 @@ module _ (c : Settings) (entry : Readings) (pass : firstOf (settingsChecks c) �
       }
 
   -- each entry reads back
-  pub filled-entry : (e : ℕ) → e < entryCount c → entryAt (sheetBytes c (marksFrom c entry) (ticksFrom c entry)) (entryCount c) e ≡ entry e
+  pub filled-entry :
+      (e : ℕ) → e < entryCount c
+      → entryAt (sheetBytes c (marksFrom c entry) (ticksFrom c entry)) (entryCount c) e ≡ entry e
   filled-entry e h =
       entry-back c (marksFrom c entry) (ticksFrom c entry) filled-well-formed e h
       ∙ ap₂ entryOf (mark-at e h) (ticks-at e h)
       ∙ bit-same (entry e)
 
   -- the writer grants, and leaves the sheet in a buffer of just its length
-  pub filled-write : (buffer : List ℕ) → length buffer ≡ sheetLength c → write c (marksFrom c entry) (ticksFrom c entry) buffer ≡ record { verdict = granted (sheetLength c); buffer = sheetBytes c (marksFrom c entry) (ticksFrom c entry) }
+  pub filled-write :
+      (buffer : List ℕ) → length buffer ≡ sheetLength c
+      → write c (marksFrom c entry) (ticksFrom c entry) buffer ≡ record
+      { verdict = granted (sheetLength c); buffer = sheetBytes c (marksFrom c entry) (ticksFrom c entry) }
   filled-write buffer long = write-fills c (marksFrom c entry) (ticksFrom c entry) buffer filled-well-formed long

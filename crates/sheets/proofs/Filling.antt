@@ -26,16 +26,21 @@ use Rattle.sheets.proofs.Outcomes.{write-rows, write-grants}
 -- ---- checks 8 and 9, by what the searches find
 
 module _ (marks : List ℕ) (readings : List ℤ) (E : ℕ) where
-  pub array-mark-refused : (e : ℕ) → lowest (λ i. ltb 1 (byte marks i)) E ≡ some e → some (refusal 8 e) ≡ arrayRows marks readings E
+  pub array-mark-refused :
+      (e : ℕ) → lowest (λ i. ltb 1 (byte marks i)) E ≡ some e → some (refusal 8 e) ≡ arrayRows marks readings E
   unfolding arrayRows badMark
   array-mark-refused e h = rw h
 
   module _ (none-bad : lowest (λ i. ltb 1 (byte marks i)) E ≡ none) where
-    pub array-missing-refused : (e : ℕ) → lowest (λ i. notZero (byte marks i) (ofZ w32 (getD readings i (pos 0)))) E ≡ some e → some (refusal 9 e) ≡ arrayRows marks readings E
+    pub array-missing-refused :
+        (e : ℕ) → lowest (λ i. notZero (byte marks i) (ofZ w32 (getD readings i (pos 0)))) E ≡ some e
+        → some (refusal 9 e) ≡ arrayRows marks readings E
     unfolding arrayRows badMark badMissing
     array-missing-refused e h = rw (none-bad, h)
 
-    pub arrays-pass : lowest (λ i. notZero (byte marks i) (ofZ w32 (getD readings i (pos 0)))) E ≡ none → none ≡ arrayRows marks readings E
+    pub arrays-pass :
+        lowest (λ i. notZero (byte marks i) (ofZ w32 (getD readings i (pos 0)))) E ≡ none
+        → none ≡ arrayRows marks readings E
     unfolding arrayRows badMark badMissing
     arrays-pass h = rw (none-bad, h)
 
@@ -47,7 +52,9 @@ module _ (c : Settings) (marks : List ℕ) (readings : List ℤ) (room : ℕ) wh
   writing-refused r h = rw h
 
   module _ (pass : firstOf (settingsChecks c) ≡ none) (E : ℕ) (same : E ≡ entryCount c) where
-    rows-after-settings : writeRows c marks readings room ≡ orNext (badLength (length marks) E) (orNext (badLength (length readings) E) (orNext (noRoom room (8 + 5 * E)) (arrayRows marks readings E)))
+    rows-after-settings :
+        writeRows c marks readings room ≡ orNext (badLength (length marks) E)
+        (orNext (badLength (length readings) E) (orNext (noRoom room (8 + 5 * E)) (arrayRows marks readings E)))
     unfolding writeRows
     rows-after-settings = rw (pass, same)
 
@@ -92,17 +99,26 @@ module _ (c : Settings) (marks : List ℕ) (readings : List ℤ) (room : ℕ) wh
       pass : firstOf (settingsChecks c) ≡ none
       pass = next-none-left (firstOf (settingsChecks c)) _ h
 
-      one : orNext (badLength (length marks) (entryCount c)) (orNext (badLength (length readings) (entryCount c)) (orNext (noRoom room (sheetLength c)) (arrayRows marks readings (entryCount c)))) ≡ none
+      one :
+          orNext (badLength (length marks) (entryCount c)) (orNext (badLength (length readings) (entryCount c))
+          (orNext (noRoom room (sheetLength c)) (arrayRows marks readings (entryCount c)))) ≡ none
       one = next-none-right (firstOf (settingsChecks c)) _ h
 
-      two : orNext (badLength (length readings) (entryCount c)) (orNext (noRoom room (sheetLength c)) (arrayRows marks readings (entryCount c))) ≡ none
+      two :
+          orNext (badLength (length readings) (entryCount c))
+          (orNext (noRoom room (sheetLength c)) (arrayRows marks readings (entryCount c))) ≡ none
       two = next-none-right (badLength (length marks) (entryCount c)) _ one
 
       three : orNext (noRoom room (sheetLength c)) (arrayRows marks readings (entryCount c)) ≡ none
       three = next-none-right (badLength (length readings) (entryCount c)) _ two
 
 -- the buffer filled is what the writer leaves
-pub writer-fills : (c : Settings) (marks : List ℕ) (readings : List ℤ) (buffer filled : List ℕ) → writeRows c marks readings (length buffer) ≡ none → length marks ≡ entryCount c → filled ≡ overwrite (sizeBytes c ++ (marks ++ readingBytes readings)) buffer → _≡_ {A = Written} (record { verdict = granted (8 + 5 * length marks); buffer = filled }) (write c marks readings buffer)
+pub writer-fills :
+    (c : Settings) (marks : List ℕ) (readings : List ℤ) (buffer filled : List ℕ)
+    → writeRows c marks readings (length buffer) ≡ none → length marks ≡ entryCount c
+    → filled ≡ overwrite (sizeBytes c ++ (marks ++ readingBytes readings)) buffer
+    → _≡_ {A = Written} (record { verdict = granted (8 + 5 * length marks); buffer = filled })
+    (write c marks readings buffer)
 unfolding sheetBytes
 writer-fills c marks readings buffer filled rows long f =
     sym

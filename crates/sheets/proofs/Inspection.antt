@@ -24,16 +24,21 @@ module _ (s : List ℕ) where
   short-refused h = rw (lt-ltb (length s) 8 h)
 
   module _ (c : Settings) (same : c ≡ settingsAt s) (long : 8 ≤ length s) where
-    rows-after-header : firstOf (sheetChecks s) ≡ orNext (firstOf (settingsChecks c)) (firstOf (badLength (length s) (sheetLength c) ∷ []))
+    rows-after-header :
+        firstOf (sheetChecks s) ≡ orNext (firstOf (settingsChecks c))
+        (firstOf (badLength (length s) (sheetLength c) ∷ []))
     unfolding sheetChecks tooShort firstOf
     rows-after-header =
         rw (le-ltb (length s) 8 long, same) (first-append (settingsChecks (settingsAt s)) (badLength (length s) (sheetLength (settingsAt s)) ∷ []))
 
-    pub settings-refused : (r : Refusal) → firstOf (settingsChecks c) ≡ some r → refused r ≡ verdict (firstOf (sheetChecks s)) (settingsAt s)
+    pub settings-refused :
+        (r : Refusal) → firstOf (settingsChecks c) ≡ some r
+        → refused r ≡ verdict (firstOf (sheetChecks s)) (settingsAt s)
     settings-refused r h = rw (rows-after-header, h)
 
     module _ (pass : firstOf (settingsChecks c) ≡ none) where
-      pub length-refused : (length s ≡ sheetLength c → ⊥) → refused (refusal 6 0) ≡ verdict (firstOf (sheetChecks s)) (settingsAt s)
+      pub length-refused :
+          (length s ≡ sheetLength c → ⊥) → refused (refusal 6 0) ≡ verdict (firstOf (sheetChecks s)) (settingsAt s)
       unfolding badLength firstOf
       length-refused h = rw (rows-after-header, pass, ne-eqb (length s) (sheetLength c) h)
 
@@ -71,12 +76,15 @@ inspected s c h =
 -- ---- checks 1 to 6, 8 and 9
 
 module _ (s : List ℕ) where
-  pub first-refused : (r : Refusal) → firstOf (sheetChecks s) ≡ some r → refused r ≡ verdict (firstOf (rowChecks s)) (settingsAt s)
+  pub first-refused :
+      (r : Refusal) → firstOf (sheetChecks s) ≡ some r → refused r ≡ verdict (firstOf (rowChecks s)) (settingsAt s)
   unfolding rowChecks
   first-refused r h = rw (first-append, h)
 
   -- checks 8 and 9 of as many entries as the settings say
-  pub entry-rows : (E : ℕ) → E ≡ entryCount (settingsAt s) → firstOf (entryChecks s) ≡ orNext (badMark (markAt s) E) (badMissing (markAt s) (bitsAt s E) E)
+  pub entry-rows :
+      (E : ℕ) → E ≡ entryCount (settingsAt s)
+      → firstOf (entryChecks s) ≡ orNext (badMark (markAt s) E) (badMissing (markAt s) (bitsAt s E) E)
   unfolding entryChecks firstOf
   entry-rows E same =
       rw same
@@ -88,10 +96,15 @@ module _ (s : List ℕ) where
     unfolding rowChecks
     rows-after-sizes = rw (first-append, pass) (entry-rows E same)
 
-    pub entries-refused : (r : Refusal) → orNext (badMark (markAt s) E) (badMissing (markAt s) (bitsAt s E) E) ≡ some r → refused r ≡ verdict (firstOf (rowChecks s)) (settingsAt s)
+    pub entries-refused :
+        (r : Refusal) → orNext (badMark (markAt s) E) (badMissing (markAt s) (bitsAt s E) E) ≡ some r
+        → refused r ≡ verdict (firstOf (rowChecks s)) (settingsAt s)
     entries-refused r h = rw (rows-after-sizes, h)
 
-    pub validation-passes : (c : Settings) → c ≡ settingsAt s → orNext (badMark (markAt s) E) (badMissing (markAt s) (bitsAt s E) E) ≡ none → granted c ≡ verdict (firstOf (rowChecks s)) (settingsAt s)
+    pub validation-passes :
+        (c : Settings) → c ≡ settingsAt s
+        → orNext (badMark (markAt s) E) (badMissing (markAt s) (bitsAt s E) E) ≡ none
+        → granted c ≡ verdict (firstOf (rowChecks s)) (settingsAt s)
     validation-passes c e h = rw (rows-after-sizes, h) (ap granted e)
 
 -- what it means that these checks grant settings

@@ -42,7 +42,8 @@ module _ (s : List ℕ) (m r : ℕ) where
     unfolding noRoom
     short-readings a h = rw (rows-after-sizes, le-ltb m E a, lt-ltb r E h)
 
-    pub opening-validated : E ≤ m → E ≤ r → verdict (firstOf (rowChecks s)) (settingsAt s) ≡ verdict (readRows s m r) (settingsAt s)
+    pub opening-validated :
+        E ≤ m → E ≤ r → verdict (firstOf (rowChecks s)) (settingsAt s) ≡ verdict (readRows s m r) (settingsAt s)
     opening-validated a b = ap (λ (x : Row). verdict x (settingsAt s)) same-rows
       where
         same-rows : firstOf (rowChecks s) ≡ readRows s m r
@@ -77,7 +78,12 @@ module _ (s : List ℕ) (m r : ℕ) where
       later = sym (rows-after-sizes c sizes (entryCount c) refl) ∙ rows
 
 -- the two arrays filled are what the reader leaves
-pub reader-fills : (s marks : List ℕ) (readings : List ℤ) (c : Settings) → Openable s (length marks) (length readings) c → (E : ℕ) → E ≡ entryCount c → (newMarks : List ℕ) (newReadings : List ℤ) → newMarks ≡ overwrite (table (markAt s) E) marks → newReadings ≡ overwrite (table (λ e. toZ w32 (bitsAt s E e)) E) readings → _≡_ {A = Read} (record { verdict = granted c; marks = newMarks; readings = newReadings }) (read s marks readings)
+pub reader-fills :
+    (s marks : List ℕ) (readings : List ℤ) (c : Settings) → Openable s (length marks) (length readings) c → (E : ℕ)
+    → E ≡ entryCount c → (newMarks : List ℕ) (newReadings : List ℤ) → newMarks ≡ overwrite (table (markAt s) E) marks
+    → newReadings ≡ overwrite (table (λ e. toZ w32 (bitsAt s E e)) E) readings
+    → _≡_ {A = Read} (record { verdict = granted c; marks = newMarks; readings = newReadings })
+    (read s marks readings)
 reader-fills s marks readings c o E same newMarks newReadings a b =
     sym
     (read-grants s marks readings (read-rows s marks readings ∙ o .rows)

@@ -45,11 +45,19 @@ module _ (s marks : List ℕ) (readings : List ℤ) where
   unfolding readChecks firstOf readRows
   read-rows = first-append (sheetChecks s) (noRoom (length marks) (entryCount (settingsAt s)) ∷ noRoom (length readings) (entryCount (settingsAt s)) ∷ entryChecks s)
 
-  pub read-grants : firstOf (readChecks s marks readings) ≡ none → read s marks readings ≡ record { verdict = granted (settingsAt s); marks = overwrite (marksOf s) marks; readings = overwrite (ticksOf s) readings }
+  pub read-grants :
+      firstOf (readChecks s marks readings) ≡ none
+      → read s marks readings ≡ record {
+        verdict = granted (settingsAt s);
+        marks = overwrite (marksOf s) marks;
+        readings = overwrite (ticksOf s) readings;
+      }
   unfolding read
   read-grants h = ap (λ (r : Row). readAfter r s marks readings) h
 
-  pub read-refuses : (r : Refusal) → firstOf (readChecks s marks readings) ≡ some r → read s marks readings ≡ record { verdict = refused r; marks = marks; readings = readings }
+  pub read-refuses :
+      (r : Refusal) → firstOf (readChecks s marks readings) ≡ some r
+      → read s marks readings ≡ record { verdict = refused r; marks = marks; readings = readings }
   unfolding read
   read-refuses r h = ap (λ (x : Row). readAfter x s marks readings) h
 
@@ -74,11 +82,16 @@ module _ (c : Settings) (marks : List ℕ) (readings : List ℤ) (buffer : List 
       (orNext (noRoom (length buffer) (sheetLength c)) (orNext (badMark (λ e. getD marks e 0) (entryCount c)) r)))))
       (next-none (badMissing (λ e. getD marks e 0) (λ e. ofZ w32 (getD readings e (pos 0))) (entryCount c)))
 
-  pub write-grants : firstOf (writeChecks c marks readings buffer) ≡ none → write c marks readings buffer ≡ record { verdict = granted (sheetLength c); buffer = overwrite (sheetBytes c marks readings) buffer }
+  pub write-grants :
+      firstOf (writeChecks c marks readings buffer) ≡ none
+      → write c marks readings buffer ≡ record
+      { verdict = granted (sheetLength c); buffer = overwrite (sheetBytes c marks readings) buffer }
   unfolding write
   write-grants h = ap (λ (r : Row). writtenAfter r (sheetLength c) (sheetBytes c marks readings) buffer) h
 
-  pub write-refuses : (r : Refusal) → firstOf (writeChecks c marks readings buffer) ≡ some r → write c marks readings buffer ≡ record { verdict = refused r; buffer = buffer }
+  pub write-refuses :
+      (r : Refusal) → firstOf (writeChecks c marks readings buffer) ≡ some r
+      → write c marks readings buffer ≡ record { verdict = refused r; buffer = buffer }
   unfolding write
   write-refuses r h = ap (λ (x : Row). writtenAfter x (sheetLength c) (sheetBytes c marks readings) buffer) h
 
@@ -108,7 +121,11 @@ module _ (s : List ℕ) where
 -- ---- settling
 
 -- the rows in their order: checks 1 to 6, 7 of the answer buffer, 8 and 9, 10
-pub settle-rows : (s answer : List ℕ) → firstOf (settleChecks s answer) ≡ orNext (firstOf (sheetChecks s)) (orNext (noRoom (length answer) (answerLength (settingsAt s .n))) (orNext (firstOf (entryChecks s)) (tooManyFaults (roundAt s .count))))
+pub settle-rows :
+    (s answer : List ℕ)
+    → firstOf (settleChecks s answer) ≡ orNext (firstOf (sheetChecks s)) (orNext
+    (noRoom (length answer) (answerLength (settingsAt s .n)))
+    (orNext (firstOf (entryChecks s)) (tooManyFaults (roundAt s .count))))
 unfolding settleChecks firstOf
 settle-rows s answer =
     let tray : Row = noRoom (length answer) (answerLength (settingsAt s .n)) in

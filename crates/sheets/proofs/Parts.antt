@@ -74,7 +74,9 @@ module _ (s : List ℕ) (E : ℕ) (long : length s ≡ 8 + 5 * E) where
       ap (lowest (λ e. ltb 1 (byte (marksPart s E) e))) length-marksPart
       ∙ lowest-ext (λ e. ltb 1 (byte (marksPart s E) e)) (λ e. ltb 1 (markAt s e)) E (λ e h. ap (ltb 1) (marksPart-at e h))
 
-  search-missing : lowest (λ e. notZero (byte (marksPart s E) e) (word (readingsPart s E) (4 * e))) (length (marksPart s E)) ≡ lowest (λ e. notZero (markAt s e) (bitsAt s E e)) E
+  search-missing :
+      lowest (λ e. notZero (byte (marksPart s E) e) (word (readingsPart s E) (4 * e))) (length (marksPart s E))
+      ≡ lowest (λ e. notZero (markAt s e) (bitsAt s E e)) E
   search-missing =
       ap (lowest (λ e. notZero (byte (marksPart s E) e) (word (readingsPart s E) (4 * e)))) length-marksPart
       ∙ lowest-ext (λ e. notZero (byte (marksPart s E) e) (word (readingsPart s E) (4 * e))) (λ e. notZero (markAt s e) (bitsAt s E e)) E
@@ -84,19 +86,32 @@ module _ (s : List ℕ) (E : ℕ) (long : length s ≡ 8 + 5 * E) where
   pub mark-in-range : (e : ℕ) → lowest (λ i. ltb 1 (byte (marksPart s E) i)) (length (marksPart s E)) ≡ some e → e < E
   mark-in-range e h = lowest-found (λ i. ltb 1 (markAt s i)) E e (sym search-marks ∙ h) .inRange
 
-  pub missing-in-range : (e : ℕ) → lowest (λ i. notZero (byte (marksPart s E) i) (word (readingsPart s E) (4 * i))) (length (marksPart s E)) ≡ some e → e < E
+  pub missing-in-range :
+      (e : ℕ)
+      → lowest (λ i. notZero (byte (marksPart s E) i) (word (readingsPart s E) (4 * i))) (length (marksPart s E))
+      ≡ some e
+      → e < E
   missing-in-range e h = lowest-found (λ i. notZero (markAt s i) (bitsAt s E i)) E e (sym search-missing ∙ h) .inRange
 
   -- checks 8 and 9, by what the searches find
-  pub parts-mark-refused : (e : ℕ) → lowest (λ i. ltb 1 (byte (marksPart s E) i)) (length (marksPart s E)) ≡ some e → some (refusal 8 e) ≡ orNext (badMark (markAt s) E) (badMissing (markAt s) (bitsAt s E) E)
+  pub parts-mark-refused :
+      (e : ℕ) → lowest (λ i. ltb 1 (byte (marksPart s E) i)) (length (marksPart s E)) ≡ some e
+      → some (refusal 8 e) ≡ orNext (badMark (markAt s) E) (badMissing (markAt s) (bitsAt s E) E)
   unfolding badMark
   parts-mark-refused e h = rw (sym search-marks ∙ h)
 
   module _ (none-bad : lowest (λ i. ltb 1 (byte (marksPart s E) i)) (length (marksPart s E)) ≡ none) where
-    pub parts-missing-refused : (e : ℕ) → lowest (λ i. notZero (byte (marksPart s E) i) (word (readingsPart s E) (4 * i))) (length (marksPart s E)) ≡ some e → some (refusal 9 e) ≡ orNext (badMark (markAt s) E) (badMissing (markAt s) (bitsAt s E) E)
+    pub parts-missing-refused :
+        (e : ℕ)
+        → lowest (λ i. notZero (byte (marksPart s E) i) (word (readingsPart s E) (4 * i))) (length (marksPart s E))
+        ≡ some e
+        → some (refusal 9 e) ≡ orNext (badMark (markAt s) E) (badMissing (markAt s) (bitsAt s E) E)
     unfolding badMark badMissing
     parts-missing-refused e h = rw (sym search-marks ∙ none-bad, sym search-missing ∙ h)
 
-    pub parts-pass : lowest (λ i. notZero (byte (marksPart s E) i) (word (readingsPart s E) (4 * i))) (length (marksPart s E)) ≡ none → none ≡ orNext (badMark (markAt s) E) (badMissing (markAt s) (bitsAt s E) E)
+    pub parts-pass :
+        lowest (λ i. notZero (byte (marksPart s E) i) (word (readingsPart s E) (4 * i))) (length (marksPart s E))
+        ≡ none
+        → none ≡ orNext (badMark (markAt s) E) (badMissing (markAt s) (bitsAt s E) E)
     unfolding badMark badMissing
     parts-pass h = rw (sym search-marks ∙ none-bad, sym search-missing ∙ h)

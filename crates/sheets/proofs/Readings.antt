@@ -41,7 +41,9 @@ unfolding bytes4
 length-bytes4 x = refl
 
 -- reading e stands at byte 4e, whatever follows
-pub word-readings : (zs : List ℤ) (rest : List ℕ) (e : ℕ) → e < length zs → SFits w32 (getD zs e (pos 0)) → word (readingBytes zs ++ rest) (4 * e) ≡ ofZ w32 (getD zs e (pos 0))
+pub word-readings :
+    (zs : List ℤ) (rest : List ℕ) (e : ℕ) → e < length zs → SFits w32 (getD zs e (pos 0))
+    → word (readingBytes zs ++ rest) (4 * e) ≡ ofZ w32 (getD zs e (pos 0))
 unfolding readingBytes
 word-readings [] rest e h fits = absurd (not-suc-le-zero h)
 word-readings (z ∷ zs) rest zero h fits =

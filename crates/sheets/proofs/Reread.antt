@@ -24,7 +24,9 @@ use Rattle.sheets.proofs.Written.{WellFormed}
 
 module _ (s : List ℕ) (small : (i : ℕ) → byte s i < 256) where
   -- so are the bytes of the readings in it
-  pub readings-part : (k n : ℕ) → k + 4 * n ≤ length s → readingBytes (table (λ e. toZ w32 (word s (k + 4 * e))) n) ≡ take (4 * n) (drop k s)
+  pub readings-part :
+      (k n : ℕ) → k + 4 * n ≤ length s
+      → readingBytes (table (λ e. toZ w32 (word s (k + 4 * e))) n) ≡ take (4 * n) (drop k s)
   unfolding readingBytes table
   readings-part k zero h = refl
   readings-part k (suc n) h =
@@ -55,7 +57,10 @@ module _ (s : List ℕ) (small : (i : ℕ) → byte s i < 256) where
   unfolding sheetBytes
   sheet-again h = joined (entryCount (settingsAt s)) (sheet-length-passed s h)
     where
-      joined : (E : ℕ) → length s ≡ 8 + 5 * E → sizeBytes (settingsAt s) ++ (table (markAt s) E ++ readingBytes (table (λ e. toZ w32 (bitsAt s E e)) E)) ≡ s
+      joined :
+          (E : ℕ) → length s ≡ 8 + 5 * E
+          → sizeBytes (settingsAt s) ++ (table (markAt s) E ++ readingBytes (table (λ e. toZ w32 (bitsAt s E e)) E))
+          ≡ s
       joined E long =
           let sizes : sizeBytes (settingsAt s) ≡ take 8 s = sizes-part (omega arith) in
           let marks : table (markAt s) E ≡ take E (drop 8 s) = table-part s 8 E (omega arith) in
@@ -66,10 +71,14 @@ module _ (s : List ℕ) (small : (i : ℕ) → byte s i < 256) where
           ∙ take-append-drop 8 s
 
   -- a sheet that passes every check is made of settings, marks and readings that a writer takes
-  pub sheet-well-formed : firstOf (sheetChecks s) ≡ none → firstOf (entryChecks s) ≡ none → WellFormed (settingsAt s) (marksOf s) (ticksOf s)
+  pub sheet-well-formed :
+      firstOf (sheetChecks s) ≡ none → firstOf (entryChecks s) ≡ none
+      → WellFormed (settingsAt s) (marksOf s) (ticksOf s)
   sheet-well-formed a b = made (entryCount (settingsAt s)) refl
     where
-      made : (E : ℕ) → entryCount (settingsAt s) ≡ E → WellFormed (settingsAt s) (table (markAt s) E) (table (λ e. toZ w32 (bitsAt s E e)) E)
+      made :
+          (E : ℕ) → entryCount (settingsAt s) ≡ E
+          → WellFormed (settingsAt s) (table (markAt s) E) (table (λ e. toZ w32 (bitsAt s E e)) E)
       made E same =
           record {
             settingsPass = settings-passed s a;

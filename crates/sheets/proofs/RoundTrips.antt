@@ -26,7 +26,10 @@ use Rattle.sheets.proofs.Reread.{sheet-again, sheet-well-formed}
 -- ---- the reader's checks
 
 module _ (s marks : List ℕ) (readings : List ℤ) where
-  pub read-passes : firstOf (sheetChecks s) ≡ none → entryCount (settingsAt s) ≤ length marks → entryCount (settingsAt s) ≤ length readings → firstOf (entryChecks s) ≡ none → firstOf (readChecks s marks readings) ≡ none
+  pub read-passes :
+      firstOf (sheetChecks s) ≡ none → entryCount (settingsAt s) ≤ length marks
+      → entryCount (settingsAt s) ≤ length readings → firstOf (entryChecks s) ≡ none
+      → firstOf (readChecks s marks readings) ≡ none
   unfolding readRows
   read-passes a b d e =
       read-rows s marks readings
@@ -50,7 +53,9 @@ module _ (c : Settings) (marks : List ℕ) (readings : List ℤ) (buffer : List 
   unfolding writeRows
   write-settings-passed h = next-none-left (firstOf (settingsChecks c)) _ (sym (write-rows c marks readings buffer) ∙ h)
 
-  pub write-passes : WellFormed c marks readings → sheetLength c ≤ length buffer → firstOf (writeChecks c marks readings buffer) ≡ none
+  pub write-passes :
+      WellFormed c marks readings → sheetLength c ≤ length buffer
+      → firstOf (writeChecks c marks readings buffer) ≡ none
   unfolding writeChecks firstOf
   write-passes w room =
       rw (
@@ -64,7 +69,9 @@ module _ (c : Settings) (marks : List ℕ) (readings : List ℤ) (buffer : List 
             (λ e h m. ap (ofZ w32) (w .missingZero e h m)),
       )
 
-  pub write-passed : firstOf (writeChecks c marks readings buffer) ≡ none → ((e : ℕ) → e < entryCount c → SFits w32 (getD readings e (pos 0))) → WellFormed c marks readings
+  pub write-passed :
+      firstOf (writeChecks c marks readings buffer) ≡ none
+      → ((e : ℕ) → e < entryCount c → SFits w32 (getD readings e (pos 0))) → WellFormed c marks readings
   unfolding writeChecks settingsChecks
   write-passed h fits =
       record {
@@ -81,7 +88,11 @@ module _ (c : Settings) (marks : List ℕ) (readings : List ℤ) (buffer : List 
       }
 
 -- the writer fills a buffer of just the sheet's length with the sheet
-pub write-fills : (c : Settings) (marks : List ℕ) (readings : List ℤ) (buffer : List ℕ) → WellFormed c marks readings → length buffer ≡ sheetLength c → write c marks readings buffer ≡ record { verdict = granted (sheetLength c); buffer = sheetBytes c marks readings }
+pub write-fills :
+    (c : Settings) (marks : List ℕ) (readings : List ℤ) (buffer : List ℕ) → WellFormed c marks readings
+    → length buffer ≡ sheetLength c
+    → write c marks readings buffer ≡ record
+    { verdict = granted (sheetLength c); buffer = sheetBytes c marks readings }
 write-fills c marks readings buffer w long =
     write-grants c marks readings buffer (write-passes c marks readings buffer w (le-of-eq (sym long)))
     ∙ ap (λ (b : List ℕ). record { verdict = granted (sheetLength c); buffer = b })
@@ -89,7 +100,10 @@ write-fills c marks readings buffer w long =
 
 -- ---- what is written reads back
 
-module _ (c : Settings) (marks : List ℕ) (readings : List ℤ) (buffer : List ℕ) (size : ℕ) (fits : (e : ℕ) → e < entryCount c → SFits w32 (getD readings e (pos 0))) (g : write c marks readings buffer .verdict ≡ granted size) where
+module _
+    (c : Settings) (marks : List ℕ) (readings : List ℤ) (buffer : List ℕ) (size : ℕ)
+    (fits : (e : ℕ) → e < entryCount c → SFits w32 (getD readings e (pos 0)))
+    (g : write c marks readings buffer .verdict ≡ granted size) where
   passed : firstOf (writeChecks c marks readings buffer) ≡ none
   unfolding write
   passed = granted-none (firstOf (writeChecks c marks readings buffer)) (sheetLength c) size g
@@ -109,7 +123,11 @@ module _ (c : Settings) (marks : List ℕ) (readings : List ℤ) (buffer : List 
       ∙ take-overwrite (sheetBytes c marks readings) buffer
 
   -- read back they give the settings, the marks and the readings
-  pub write-read : (lentMarks : List ℕ) (lentReadings : List ℤ) → entryCount c ≤ length lentMarks → entryCount c ≤ length lentReadings → read (take size (write c marks readings buffer .buffer)) lentMarks lentReadings ≡ record { verdict = granted c; marks = overwrite marks lentMarks; readings = overwrite readings lentReadings }
+  pub write-read :
+      (lentMarks : List ℕ) (lentReadings : List ℤ) → entryCount c ≤ length lentMarks
+      → entryCount c ≤ length lentReadings
+      → read (take size (write c marks readings buffer .buffer)) lentMarks lentReadings ≡ record
+      { verdict = granted c; marks = overwrite marks lentMarks; readings = overwrite readings lentReadings }
   write-read lentMarks lentReadings roomMarks roomReadings =
       ap (λ (s : List ℕ). read s lentMarks lentReadings) write-bytes
       ∙ read-grants (sheetBytes c marks readings) lentMarks lentReadings
@@ -126,7 +144,9 @@ module _ (c : Settings) (marks : List ℕ) (readings : List ℤ) (buffer : List 
 
 -- ---- what is read writes back
 
-module _ (s : List ℕ) (lentMarks : List ℕ) (lentReadings : List ℤ) (c : Settings) (small : (i : ℕ) → byte s i < 256) (g : read s lentMarks lentReadings .verdict ≡ granted c) where
+module _
+    (s : List ℕ) (lentMarks : List ℕ) (lentReadings : List ℤ) (c : Settings) (small : (i : ℕ) → byte s i < 256)
+    (g : read s lentMarks lentReadings .verdict ≡ granted c) where
   read-none : firstOf (readChecks s lentMarks lentReadings) ≡ none
   unfolding read
   read-none = granted-none (firstOf (readChecks s lentMarks lentReadings)) (settingsAt s) c g
@@ -140,7 +160,11 @@ module _ (s : List ℕ) (lentMarks : List ℕ) (lentReadings : List ℤ) (c : Se
       sheet-well-formed s small (read-sheet-passed s lentMarks lentReadings read-none) (read-entries-passed s lentMarks lentReadings read-none)
 
   -- written again they give the bytes that were read
-  pub read-write : (buffer : List ℕ) → length s ≤ length buffer → write c (take (entryCount c) (read s lentMarks lentReadings .marks)) (take (entryCount c) (read s lentMarks lentReadings .readings)) buffer ≡ record { verdict = granted (length s); buffer = overwrite s buffer }
+  pub read-write :
+      (buffer : List ℕ) → length s ≤ length buffer
+      → write c (take (entryCount c) (read s lentMarks lentReadings .marks))
+      (take (entryCount c) (read s lentMarks lentReadings .readings)) buffer ≡ record
+      { verdict = granted (length s); buffer = overwrite s buffer }
   read-write buffer room =
       subst
       (λ (d : Settings).

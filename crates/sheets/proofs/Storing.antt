@@ -21,7 +21,10 @@ use Rattle.sheets.proofs.Readings.{length-bytes4, length-readingBytes, 
 -- ---- four bytes at a place
 
 module _ (b : List ℕ) (i x : ℕ) where
-  pub put-word-fits : i + 4 ≤ length b → set (set (set (set b i (x % 256)) (i + 1) (x / 256 % 256)) (i + 2) (x / 65536 % 256)) (i + 3) (x / 16777216 % 256) ≡ putWord b i x
+  pub put-word-fits :
+      i + 4 ≤ length b
+      → set (set (set (set b i (x % 256)) (i + 1) (x / 256 % 256)) (i + 2) (x / 65536 % 256)) (i + 3)
+      (x / 16777216 % 256) ≡ putWord b i x
   unfolding putWord bytes4
   put-word-fits h =
       rw (add-one, add-two, add-three, le-leb (i + 4) (length b) h)
@@ -35,7 +38,9 @@ module _ (b : List ℕ) (i x : ℕ) where
 -- ---- one after another
 
 -- the next number stored behind what was written
-pub put-word-next : (new old : List ℕ) (i x : ℕ) → length new ≡ i → i + 4 ≤ length old → putWord (overwrite new old) i x ≡ overwrite (new ++ bytes4 x) old
+pub put-word-next :
+    (new old : List ℕ) (i x : ℕ) → length new ≡ i → i + 4 ≤ length old
+    → putWord (overwrite new old) i x ≡ overwrite (new ++ bytes4 x) old
 unfolding putWord overwrite
 put-word-next new old i x e h =
     rw (le-leb (i + 4) (length (new ++ drop (length new) old)) room)
@@ -65,7 +70,9 @@ module _ {A : Type 0} where
   copy-overwrites new old = ap (λ (l : List A). l ++ drop (length new) old) (take-length new)
 
   -- a part written behind what was written
-  pub overwrite-append : (p q old : List A) (k : ℕ) → length p ≡ k → take k (overwrite p old) ++ overwrite q (drop k (overwrite p old)) ≡ overwrite (p ++ q) old
+  pub overwrite-append :
+      (p q old : List A) (k : ℕ) → length p ≡ k
+      → take k (overwrite p old) ++ overwrite q (drop k (overwrite p old)) ≡ overwrite (p ++ q) old
   unfolding overwrite
   overwrite-append p q old k e =
       ap₂ (λ (l r : List A). l ++ (q ++ drop (length q) r)) (take-at p (drop (length p) old) k e) (drop-at p (drop (length p) old) k e)
@@ -77,7 +84,10 @@ module _ {A : Type 0} where
   length-tail b k = length-take-le (length b - k) (drop k b) (le-of-eq (sym (length-drop k b)))
 
   -- a tail that was lent and written, put back behind what was written
-  pub tail-written : (p q old b t : List A) (k : ℕ) → length p ≡ k → b ≡ overwrite p old → t ≡ overwrite q (take (length b - k) (drop k b)) → take k b ++ (t ++ drop (length b - k) (drop k b)) ≡ overwrite (p ++ q) old
+  pub tail-written :
+      (p q old b t : List A) (k : ℕ) → length p ≡ k → b ≡ overwrite p old
+      → t ≡ overwrite q (take (length b - k) (drop k b))
+      → take k b ++ (t ++ drop (length b - k) (drop k b)) ≡ overwrite (p ++ q) old
   tail-written p q old b t k e s w =
       ap₂ (λ (l r : List A). take k b ++ (l ++ r)) (w ∙ ap (overwrite q) whole) (drop-of-length-le (drop k b) (le-of-eq (length-drop k b)))
       ∙ ap (λ (l : List A). take k b ++ l) (append-nil (overwrite q (drop k b)))
@@ -90,12 +100,17 @@ module _ {A : Type 0} where
 -- ---- the writer's stores
 
 -- the four bytes and the number of the sizes
-pub sizes-stored : (c : Settings) (b : List ℕ) → 8 ≤ length b → putWord (set (set (set (set b 0 (c .n)) 1 (c .m)) 2 (c .rule)) 3 (c .estimator)) 4 (c .window) ≡ overwrite (sizeBytes c) b
+pub sizes-stored :
+    (c : Settings) (b : List ℕ) → 8 ≤ length b
+    → putWord (set (set (set (set b 0 (c .n)) 1 (c .m)) 2 (c .rule)) 3 (c .estimator)) 4 (c .window) ≡ overwrite
+    (sizeBytes c) b
 unfolding sizeBytes
 sizes-stored c b h =
     ap (λ (l : List ℕ). putWord l 4 (c .window)) first ∙ put-word-next (c .n ∷ c .m ∷ c .rule ∷ c .estimator ∷ []) b 4 (c .window) refl h
   where
-    first : set (set (set (set b 0 (c .n)) 1 (c .m)) 2 (c .rule)) 3 (c .estimator) ≡ overwrite (c .n ∷ c .m ∷ c .rule ∷ c .estimator ∷ []) b
+    first :
+        set (set (set (set b 0 (c .n)) 1 (c .m)) 2 (c .rule)) 3 (c .estimator) ≡ overwrite
+        (c .n ∷ c .m ∷ c .rule ∷ c .estimator ∷ []) b
     first = unfold overwrite in sets-eq (c .n ∷ c .m ∷ c .rule ∷ c .estimator ∷ []) b 0 (omega arith)
 
 -- readings stored one by one: none yet, the next, all of them
@@ -103,7 +118,10 @@ pub put-none : (zs : List ℤ) (old : List ℕ) → old ≡ overwrite (readingBy
 unfolding readingBytes overwrite
 put-none zs old = refl
 
-pub put-next : (zs : List ℤ) (e : ℕ) (old now : List ℕ) (x : ℕ) → now ≡ overwrite (readingBytes (take e zs)) old → e < length zs → x ≡ ofZ w32 (getD zs e (pos 0)) → 4 * length zs ≤ length old → putWord now (4 * e) x ≡ overwrite (readingBytes (take (e + 1) zs)) old
+pub put-next :
+    (zs : List ℤ) (e : ℕ) (old now : List ℕ) (x : ℕ) → now ≡ overwrite (readingBytes (take e zs)) old → e < length zs
+    → x ≡ ofZ w32 (getD zs e (pos 0)) → 4 * length zs ≤ length old
+    → putWord now (4 * e) x ≡ overwrite (readingBytes (take (e + 1) zs)) old
 put-next zs e old now x s h v room =
     ap₂ (λ (l : List ℕ) (y : ℕ). putWord l (4 * e) y) s v
     ∙ put-word-next (readingBytes (take e zs)) old (4 * e) (ofZ w32 (getD zs e (pos 0))) long (omega arith)
@@ -119,5 +137,7 @@ put-next zs e old now x s h v room =
         ∙ readingBytes-append (take e zs) (getD zs e (pos 0) ∷ [])
         ∙ ap (λ (l : List ℕ). readingBytes (take e zs) ++ l) (unfold readingBytes in append-nil (bytes4 (ofZ w32 (getD zs e (pos 0)))))
 
-pub put-ended : (zs : List ℤ) (e : ℕ) (old now : List ℕ) → length zs ≤ e → now ≡ overwrite (readingBytes (take e zs)) old → now ≡ overwrite (readingBytes zs) old
+pub put-ended :
+    (zs : List ℤ) (e : ℕ) (old now : List ℕ) → length zs ≤ e → now ≡ overwrite (readingBytes (take e zs)) old
+    → now ≡ overwrite (readingBytes zs) old
 put-ended zs e old now h s = s ∙ ap (λ (l : List ℤ). overwrite (readingBytes l) old) (take-all e zs h)

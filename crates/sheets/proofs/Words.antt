@@ -15,7 +15,9 @@ use Rattle.model.specs.RoundSheet.{byte, word, bytes4}
 -- ---- a number's own bytes
 
 -- the four digits of a number below 2^32, to the base 256, make the number
-pub digits4 : (x : ℕ) → x < 4_294_967_296 → x % 256 + 256 * (x / 256 % 256) + 65536 * (x / 65536 % 256) + 16777216 * (x / 16777216 % 256) ≡ x
+pub digits4 :
+    (x : ℕ) → x < 4_294_967_296
+    → x % 256 + 256 * (x / 256 % 256) + 65536 * (x / 65536 % 256) + 16777216 * (x / 16777216 % 256) ≡ x
 digits4 x h =
     sums (x % 256) (x / 256 % 256) (x / 65536 % 256) (x / 16777216 % 256) (x % 65536) (x % 16777216) (x % 4_294_967_296) x
     (mod-mul x {m = 256} {c = 256} (lit< tt) (lit< tt))
@@ -23,7 +25,9 @@ digits4 x h =
     (mod-mul x {m = 256} {c = 16777216} (lit< tt) (lit< tt))
     (mod-eq-of-lt h)
   where
-    sums : (a b c d p q r x : ℕ) → p ≡ b * 256 + a → q ≡ c * 65536 + p → r ≡ d * 16777216 + q → r ≡ x → a + 256 * b + 65536 * c + 16777216 * d ≡ x
+    sums :
+        (a b c d p q r x : ℕ) → p ≡ b * 256 + a → q ≡ c * 65536 + p → r ≡ d * 16777216 + q → r ≡ x
+        → a + 256 * b + 65536 * c + 16777216 * d ≡ x
     sums a b c d p q r x e f g h = omega arith
 
 pub word-bytes4 : (x : ℕ) (rest : List ℕ) → x < 4_294_967_296 → word (bytes4 x ++ rest) 0 ≡ x
@@ -82,7 +86,9 @@ word-fits s i small =
 -- ---- bytes written back
 
 -- the digits of a number made of four bytes are those bytes
-pub bytes4-digits : (a b c d : ℕ) → a < 256 → b < 256 → c < 256 → d < 256 → bytes4 (a + 256 * b + 65536 * c + 16777216 * d) ≡ a ∷ b ∷ c ∷ d ∷ []
+pub bytes4-digits :
+    (a b c d : ℕ) → a < 256 → b < 256 → c < 256 → d < 256
+    → bytes4 (a + 256 * b + 65536 * c + 16777216 * d) ≡ a ∷ b ∷ c ∷ d ∷ []
 unfolding bytes4
 bytes4-digits a b c d ha hb hc hd =
     let x = a + 256 * b + 65536 * c + 16777216 * d in
@@ -96,7 +102,9 @@ bytes4-digits a b c d ha hb hc hd =
     rw (low, one, two, three, second, third, fourth)
 
 -- the four bytes at a place, one by one
-pub take4 : (s : List ℕ) (i : ℕ) → i + 4 ≤ length s → take 4 (drop i s) ≡ byte s i ∷ byte s (i + 1) ∷ byte s (i + 2) ∷ byte s (i + 3) ∷ []
+pub take4 :
+    (s : List ℕ) (i : ℕ) → i + 4 ≤ length s
+    → take 4 (drop i s) ≡ byte s i ∷ byte s (i + 1) ∷ byte s (i + 2) ∷ byte s (i + 3) ∷ []
 take4 s i h =
     let first : drop i s ≡ byte s i ∷ drop (suc i) s = drop-cons s i 0 (omega arith) in
     let second : drop (suc i) s ≡ byte s (suc i) ∷ drop (suc (suc i)) s = drop-cons s (suc i) 0 (omega arith) in

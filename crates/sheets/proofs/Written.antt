@@ -47,7 +47,9 @@ module _ (c : Settings) (marks : List ℕ) (readings : List ℤ) where
   written-settings h =
       ap (λ (w : ℕ). record { n = c .n; m = c .m; rule = c .rule; estimator = c .estimator; window = w }) (digits4 (c .window) h)
 
-  pub written-length : length marks ≡ entryCount c → length readings ≡ entryCount c → length (sheetBytes c marks readings) ≡ sheetLength c
+  pub written-length :
+      length marks ≡ entryCount c → length readings ≡ entryCount c
+      → length (sheetBytes c marks readings) ≡ sheetLength c
   unfolding sheetBytes
   written-length a b =
       let whole = length-append (sizeBytes c) (marks ++ readingBytes readings) in
@@ -63,7 +65,9 @@ module _ (c : Settings) (marks : List ℕ) (readings : List ℤ) where
       byte-append-right (sizeBytes c) (marks ++ readingBytes readings) 8 e (length-sizeBytes c)
       ∙ byte-append-left marks (readingBytes readings) e h
 
-  pub written-bits : (e : ℕ) → length marks ≡ entryCount c → e < length readings → SFits w32 (getD readings e (pos 0)) → bitsAt (sheetBytes c marks readings) (entryCount c) e ≡ ofZ w32 (getD readings e (pos 0))
+  pub written-bits :
+      (e : ℕ) → length marks ≡ entryCount c → e < length readings → SFits w32 (getD readings e (pos 0))
+      → bitsAt (sheetBytes c marks readings) (entryCount c) e ≡ ofZ w32 (getD readings e (pos 0))
   unfolding sheetBytes
   written-bits e a h fits =
       ap (word (sizeBytes c ++ (marks ++ readingBytes readings))) (add-assoc 8 (entryCount c) (4 * e))
@@ -96,10 +100,14 @@ module _ (c : Settings) (marks : List ℕ) (readings : List ℤ) (w : WellFormed
   pub mark-back : (e : ℕ) → e < entryCount c → markAt (sheetBytes c marks readings) e ≡ getD marks e 0
   mark-back e h = written-mark c marks readings e (rw (w .marksLong) h)
 
-  pub bits-back : (e : ℕ) → e < entryCount c → bitsAt (sheetBytes c marks readings) (entryCount c) e ≡ ofZ w32 (getD readings e (pos 0))
+  pub bits-back :
+      (e : ℕ) → e < entryCount c
+      → bitsAt (sheetBytes c marks readings) (entryCount c) e ≡ ofZ w32 (getD readings e (pos 0))
   bits-back e h = written-bits c marks readings e (w .marksLong) (rw (w .readingsLong) h) (w .readingsFit e h)
 
-  pub ticks-back : (e : ℕ) → e < entryCount c → toZ w32 (bitsAt (sheetBytes c marks readings) (entryCount c) e) ≡ getD readings e (pos 0)
+  pub ticks-back :
+      (e : ℕ) → e < entryCount c
+      → toZ w32 (bitsAt (sheetBytes c marks readings) (entryCount c) e) ≡ getD readings e (pos 0)
   ticks-back e h = ap (toZ w32) (bits-back e h) ∙ toZ-ofZ (w .readingsFit e h)
 
   -- the reader's marks and readings
@@ -118,14 +126,20 @@ module _ (c : Settings) (marks : List ℕ) (readings : List ℤ) (w : WellFormed
       ∙ table-getD readings (pos 0)
 
   -- each entry
-  pub entry-back : (e : ℕ) → e < entryCount c → entryAt (sheetBytes c marks readings) (entryCount c) e ≡ entryOf (getD marks e 0) (getD readings e (pos 0))
+  pub entry-back :
+      (e : ℕ) → e < entryCount c
+      → entryAt (sheetBytes c marks readings) (entryCount c) e ≡ entryOf (getD marks e 0) (getD readings e (pos 0))
   unfolding entryAt
   entry-back e h = ap₂ entryOf (mark-back e h) (ticks-back e h)
 
-  pub entry-missing-back : (e : ℕ) → e < entryCount c → getD marks e 0 ≡ 0 → entryAt (sheetBytes c marks readings) (entryCount c) e ≡ missing
+  pub entry-missing-back :
+      (e : ℕ) → e < entryCount c → getD marks e 0 ≡ 0
+      → entryAt (sheetBytes c marks readings) (entryCount c) e ≡ missing
   entry-missing-back e h m = entry-back e h ∙ entry-missing (getD marks e 0) (getD readings e (pos 0)) m
 
-  pub entry-present-back : (e : ℕ) → e < entryCount c → getD marks e 0 ≡ 1 → entryAt (sheetBytes c marks readings) (entryCount c) e ≡ present (getD readings e (pos 0))
+  pub entry-present-back :
+      (e : ℕ) → e < entryCount c → getD marks e 0 ≡ 1
+      → entryAt (sheetBytes c marks readings) (entryCount c) e ≡ present (getD readings e (pos 0))
   entry-present-back e h m = entry-back e h ∙ entry-present (getD marks e 0) (getD readings e (pos 0)) m
 
   -- no check of a sheet refuses it
@@ -141,7 +155,9 @@ module _ (c : Settings) (marks : List ℕ) (readings : List ℤ) (w : WellFormed
       marks-fine : (e : ℕ) → e < entryCount c → markAt (sheetBytes c marks readings) e ≤ 1
       marks-fine e h = rw (mark-back e h) (w .marksPass e h)
 
-      missing-fine : (e : ℕ) → e < entryCount c → markAt (sheetBytes c marks readings) e ≡ 0 → bitsAt (sheetBytes c marks readings) (entryCount c) e ≡ 0
+      missing-fine :
+          (e : ℕ) → e < entryCount c → markAt (sheetBytes c marks readings) e ≡ 0
+          → bitsAt (sheetBytes c marks readings) (entryCount c) e ≡ 0
       missing-fine e h m = bits-back e h ∙ ap (ofZ w32) (w .missingZero e h (sym (mark-back e h) ∙ m))
 
   pub written-passes : firstOf (sheetChecks (sheetBytes c marks readings) ++ entryChecks (sheetBytes c marks readings)) ≡ none

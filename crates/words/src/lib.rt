@@ -1,5 +1,5 @@
-// Bytes and numbers of four bytes in a slice, least significant byte first. Every function is total: past the end a byte reads 0, and
-// a number that does not fit is not stored.
+// Bytes and numbers of four bytes in a slice, least significant byte first. Every function is total: past the end a
+// byte reads 0, and a number that does not fit is not stored.
 ghost use mathlib.Core.Path.{_≡_};
 ghost use Prim.Native.Nat.{_+_, _*_};
 ghost use Rattle.model.specs.RoundSheet.{byte, word};

@@ -27,13 +27,15 @@ shared-slice-read-mark c = omega arith
 
 returns : tie.Need-returns Inv-entries μ-entries
 returns c =
+    let a = c .before .before .before .before .args in
+    let entries = c .before .before .before .entries in
     sym
-    (search-found (λ i. ltb 1 (byte (c .before .before .before .before .args .marks .now) i))
-    (length (c .before .before .before .before .args .marks .now))
-    (c .before .before .before .entries .e)
+    (search-found (λ i. ltb 1 (byte (a .marks .now) i))
+    (length (a .marks .now))
+    (entries .e)
     (omega arith)
-    (c .before .before .before .entries .inv .1)
-    (lt-ltb 1 (byte (c .before .before .before .before .args .marks .now) (c .before .before .before .entries .e)) (c .if1 .taken)))
+    (entries .inv .1)
+    (lt-ltb 1 (byte (a .marks .now) (entries .e)) (c .if1 .taken)))
 
 add-e : tie.Need-add-e Inv-entries μ-entries
 add-e c = omega arith
@@ -42,13 +44,15 @@ entries-less : tie.Need-entries-less Inv-entries μ-entries
 entries-less c = omega arith
 
 entries-again : tie.Need-entries-again Inv-entries μ-entries
-entries-again c = (
-  omega arith,
-  search-more (λ i. ltb 1 (byte (c .before .before .before .before .args .marks .now) i))
-      (c .before .before .before .entries .e)
-      (c .before .before .before .entries .inv .1)
-      (le-ltb 1 (byte (c .before .before .before .before .args .marks .now) (c .before .before .before .entries .e)) (c .if1 .left)),
-)
+entries-again c =
+    let a = c .before .before .before .before .args in
+    let entries = c .before .before .before .entries in (
+      omega arith,
+      search-more (λ i. ltb 1 (byte (a .marks .now) i))
+          (entries .e)
+          (entries .inv .1)
+          (le-ltb 1 (byte (a .marks .now) (entries .e)) (c .if1 .left)),
+    )
 
 returns-2 : tie.Need-returns-2 Inv-entries μ-entries
 returns-2 c =

@@ -20,19 +20,22 @@ abbrev μ-entries : tie.MeasureT-entries
 
 entries-holds : tie.Need-entries-holds Inv-entries μ-entries
 entries-holds c =
-    (omega arith, search-none (λ i. notZero (byte (c .before .before .args .marks .now) i) (word (c .before .before .args .readings .now) (4 * i))))
+    let a = c .before .before .args in
+    (omega arith, search-none (λ i. notZero (byte (a .marks .now) i) (word (a .readings .now) (4 * i))))
 
 not-zero-requires : tie.Need-not-zero-requires Inv-entries μ-entries
 not-zero-requires c κs = (c .before .before .before .before .pre, c .entries-test .taken)
 
 returns : tie.Need-returns Inv-entries μ-entries
 returns c =
+    let a = c .before .before .before .before .before .before .args in
+    let entries = c .before .before .before .entries in
     sym
-    (search-found (λ i. notZero (byte (c .before .before .before .before .before .before .args .marks .now) i) (word (c .before .before .before .before .before .before .args .readings .now) (4 * i)))
-    (length (c .before .before .before .before .before .before .args .marks .now))
-    (c .before .before .before .entries .entry)
+    (search-found (λ i. notZero (byte (a .marks .now) i) (word (a .readings .now) (4 * i)))
+    (length (a .marks .now))
+    (entries .entry)
     (omega arith)
-    (c .before .before .before .entries .inv .1)
+    (entries .inv .1)
     (sym (c .before .not-zero .ensures) ∙ c .if1 .taken))
 
 add-entry : tie.Need-add-entry Inv-entries μ-entries
@@ -42,19 +45,22 @@ entries-less : tie.Need-entries-less Inv-entries μ-entries
 entries-less c = omega arith
 
 entries-again : tie.Need-entries-again Inv-entries μ-entries
-entries-again c = (
-  omega arith,
-  search-more (λ i. notZero (byte (c .before .before .before .before .before .before .args .marks .now) i) (word (c .before .before .before .before .before .before .args .readings .now) (4 * i)))
-      (c .before .before .before .entries .entry)
-      (c .before .before .before .entries .inv .1)
-      (sym (c .before .not-zero .ensures) ∙ c .if1 .left),
-)
+entries-again c =
+    let a = c .before .before .before .before .before .before .args in
+    let entries = c .before .before .before .entries in (
+      omega arith,
+      search-more (λ i. notZero (byte (a .marks .now) i) (word (a .readings .now) (4 * i)))
+          (entries .entry)
+          (entries .inv .1)
+          (sym (c .before .not-zero .ensures) ∙ c .if1 .left),
+    )
 
 returns-2 : tie.Need-returns-2 Inv-entries μ-entries
 returns-2 c =
+    let a = c .before .before .before .before .args in
     sym
-    (search-ended (λ i. notZero (byte (c .before .before .before .before .args .marks .now) i) (word (c .before .before .before .before .args .readings .now) (4 * i)))
-    (length (c .before .before .before .before .args .marks .now))
+    (search-ended (λ i. notZero (byte (a .marks .now) i) (word (a .readings .now) (4 * i)))
+    (length (a .marks .now))
     (c .before .entries .entry)
     (c .before .entries .inv .0)
     (c .entries-test .left)

@@ -28,7 +28,11 @@ enum-known-e c = search needs
 
 cast-t12 : tie.Need-cast-t12
 cast-t12 c =
-    let small = mark-in-range (c .before .before .before .before .before .before .args .sheet .now) (c .before .before .before .before .before .before .args .entries) (c .before .before .before .before .before .before .pre .0) (c .before .e .given .0 .0) (sym (c .before .before .before .bad-mark .ensures) ∙ ap foundAs (c .before .e .given .1)) in
+    let a = c .before .before .before .before .before .before .args in
+    let pre = c .before .before .before .before .before .before .pre in
+    let bad-mark = c .before .before .before .bad-mark in
+    let small = mark-in-range (a .sheet .now) (a .entries) (pre .0) (c .before .e .given .0 .0)
+    (sym (bad-mark .ensures) ∙ ap foundAs (c .before .e .given .1)) in
     omega arith
 
 enum-told : tie.Need-enum-told
@@ -51,7 +55,11 @@ enum-known-e-2 c = search needs
 
 cast-t20 : tie.Need-cast-t20
 cast-t20 c =
-    let small = missing-in-range (c .before .before .before .before .before .before .before .before .before .before .args .sheet .now) (c .before .before .before .before .before .before .before .before .before .before .args .entries) (c .before .before .before .before .before .before .before .before .before .before .pre .0) (c .before .e2 .given .0 .0) (sym (c .before .before .before .bad-missing .ensures) ∙ ap foundAs (c .before .e2 .given .1)) in
+    let a = c .before .before .before .before .before .before .before .before .before .before .args in
+    let pre = c .before .before .before .before .before .before .before .before .before .before .pre in
+    let bad-missing = c .before .before .before .bad-missing in
+    let small = missing-in-range (a .sheet .now) (a .entries) (pre .0) (c .before .e2 .given .0 .0)
+    (sym (bad-missing .ensures) ∙ ap foundAs (c .before .e2 .given .1)) in
     omega arith
 
 enum-told-2 : tie.Need-enum-told-2
@@ -59,21 +67,34 @@ enum-told-2 c = search needs
 
 returns : tie.Need-returns
 returns c =
-    parts-mark-refused (c .before .before .before .before .before .before .args .sheet .now) (c .before .before .before .before .before .before .args .entries) (c .before .before .before .before .before .before .pre .0) (c .before .e .given .0 .0)
-    (sym (c .before .before .before .bad-mark .ensures) ∙ ap foundAs (c .before .e .given .1))
+    let a = c .before .before .before .before .before .before .args in
+    let pre = c .before .before .before .before .before .before .pre in
+    let bad-mark = c .before .before .before .bad-mark in
+    parts-mark-refused (a .sheet .now) (a .entries) (pre .0) (c .before .e .given .0 .0)
+    (sym (bad-mark .ensures) ∙ ap foundAs (c .before .e .given .1))
 
 returns-2 : tie.Need-returns-2
 returns-2 c =
-    parts-missing-refused (c .before .before .before .before .before .before .before .before .before .before .args .sheet .now) (c .before .before .before .before .before .before .before .before .before .before .args .entries) (c .before .before .before .before .before .before .before .before .before .before .pre .0)
-    (sym (c .before .before .before .before .before .before .before .bad-mark .ensures) ∙ ap foundAs (c .before .before .before .before .before .enum-told .given .1))
+    let a = c .before .before .before .before .before .before .before .before .before .before .args in
+    let pre = c .before .before .before .before .before .before .before .before .before .before .pre in
+    let bad-mark = c .before .before .before .before .before .before .before .bad-mark in
+    let enum-told = c .before .before .before .before .before .enum-told in
+    let bad-missing = c .before .before .before .bad-missing in
+    parts-missing-refused (a .sheet .now) (a .entries) (pre .0)
+    (sym (bad-mark .ensures) ∙ ap foundAs (enum-told .given .1))
     (c .before .e2 .given .0 .0)
-    (sym (c .before .before .before .bad-missing .ensures) ∙ ap foundAs (c .before .e2 .given .1))
+    (sym (bad-missing .ensures) ∙ ap foundAs (c .before .e2 .given .1))
 
 returns-3 : tie.Need-returns-3
 returns-3 c =
-    parts-pass (c .before .before .before .before .before .before .before .before .before .args .sheet .now) (c .before .before .before .before .before .before .before .before .before .args .entries) (c .before .before .before .before .before .before .before .before .before .pre .0)
-    (sym (c .before .before .before .before .before .before .bad-mark .ensures) ∙ ap foundAs (c .before .before .before .before .enum-told .given .1))
-    (sym (c .before .before .bad-missing .ensures) ∙ ap foundAs (c .enum-told2 .given .1))
+    let a = c .before .before .before .before .before .before .before .before .before .args in
+    let pre = c .before .before .before .before .before .before .before .before .before .pre in
+    let bad-mark = c .before .before .before .before .before .before .bad-mark in
+    let enum-told = c .before .before .before .before .enum-told in
+    let bad-missing = c .before .before .bad-missing in
+    parts-pass (a .sheet .now) (a .entries) (pre .0)
+    (sym (bad-mark .ensures) ∙ ap foundAs (enum-told .given .1))
+    (sym (bad-missing .ensures) ∙ ap foundAs (c .enum-told2 .given .1))
 
 pub check-entries-spec : {M : Type 1} → statement M
 check-entries-spec =

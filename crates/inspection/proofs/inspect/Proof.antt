@@ -14,7 +14,9 @@ use Rattle.inspection.proofs.inspect.Tie as tie
 
 -- the settings passed checks 2 to 5
 passed : (c : tie.After-entry-count) → firstOf (settingsChecks (c .before .before .before .before .sizes .result)) ≡ none
-passed c = sym (c .before .before .before .screen .ensures) ∙ ap rowOf (c .before .enum-told .given .1)
+passed c =
+    let screen = c .before .before .before .screen in
+    sym (screen .ensures) ∙ ap rowOf (c .before .enum-told .given .1)
 
 returns : tie.Need-returns
 returns c = short-refused (c .before .before .args .sheet .now) (c .if1 .taken)

@@ -14,7 +14,9 @@ shared-slice-read-mark : tie.Need-shared-slice-read-mark
 shared-slice-read-mark c = search needs
 
 returns : tie.Need-returns
-returns c = rw (ne-eqb (byte (c .before .before .before .before .args .marks .now) (c .before .before .before .before .args .e)) 0 (c .if1 .taken))
+returns c =
+    let a = c .before .before .before .before .args in
+    rw (ne-eqb (byte (a .marks .now) (a .e)) 0 (c .if1 .taken))
 
 mul-i : tie.Need-mul-i
 mul-i c = search needs
@@ -46,7 +48,9 @@ join-requires c κs = search needs
 returns-2 : tie.Need-returns-2
 unfolding word
 returns-2 c =
-    rw (eq-eqb (byte (c .before .before .before .before .before .before .before .before .before .args .marks .now) (c .before .before .before .before .before .before .before .before .before .args .e)) 0 (c .before .before .before .before .before .if1 .left))
+    let a = c .before .before .before .before .before .before .before .before .before .args in
+    let if1 = c .before .before .before .before .before .if1 in
+    rw (eq-eqb (byte (a .marks .now) (a .e)) 0 (if1 .left))
     (ap (λ (x : ℕ). not (eqb x 0)) (c .join .ensures))
 
 pub not-zero-spec : {M : Type 1} → statement M

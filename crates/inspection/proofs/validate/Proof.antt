@@ -13,10 +13,16 @@ use Rattle.inspection.proofs.validate.Statement.{statement}
 use Rattle.inspection.proofs.validate.Tie as tie
 
 -- what `inspect` granted
-seen : (c : tie.After-entry-count) → Inspected (c .before .before .before .before .before .before .args .sheet .now) (c .before .before .settings .given .0 .0)
+seen :
+    (c : tie.After-entry-count)
+    → Inspected (c .before .before .before .before .before .before .args .sheet .now)
+    (c .before .before .settings .given .0 .0)
 seen c =
-    inspected (c .before .before .before .before .before .before .args .sheet .now) (c .before .before .settings .given .0 .0)
-    (sym (c .before .before .before .before .inspect .ensures) ∙ ap openedAs (c .before .before .settings .given .1))
+    let a = c .before .before .before .before .before .before .args in
+    let settings = c .before .before .settings in
+    let inspect = c .before .before .before .before .inspect in
+    inspected (a .sheet .now) (settings .given .0 .0)
+    (sym (inspect .ensures) ∙ ap openedAs (settings .given .1))
 
 inspect-requires : tie.Need-inspect-requires
 inspect-requires c κs = search needs
@@ -32,8 +38,9 @@ entry-count-requires c κs = search needs
 
 check-entries-requires : tie.Need-check-entries-requires
 check-entries-requires c κs =
+    let settings = c .before .before .settings in
     let i = seen c in
-    let e : c .entry-count .result ≡ entryCount (c .before .before .settings .given .0 .0) = c .entry-count .ensures in
+    let e : c .entry-count .result ≡ entryCount (settings .given .0 .0) = c .entry-count .ensures in
     (i .long ∙ ap (λ (k : ℕ). 8 + 5 * k) (sym e), rw e (i .few))
 
 enum-known-r-2 : tie.Need-enum-known-r-2
@@ -44,24 +51,33 @@ enum-told c = search needs
 
 returns : tie.Need-returns
 returns c =
-    first-refused (c .before .before .before .before .before .args .sheet .now) (c .before .r .given .0 .0)
-    (refused-some (firstOf (sheetChecks (c .before .before .before .before .before .args .sheet .now))) (settingsAt (c .before .before .before .before .before .args .sheet .now)) (c .before .r .given .0 .0)
-    (sym (c .before .before .before .inspect .ensures) ∙ ap openedAs (c .before .r .given .1)))
+    let a = c .before .before .before .before .before .args in
+    let inspect = c .before .before .before .inspect in
+    first-refused (a .sheet .now) (c .before .r .given .0 .0)
+    (refused-some (firstOf (sheetChecks (a .sheet .now))) (settingsAt (a .sheet .now)) (c .before .r .given .0 .0)
+    (sym (inspect .ensures) ∙ ap openedAs (c .before .r .given .1)))
 
 returns-2 : tie.Need-returns-2
 returns-2 c =
-    entries-refused (c .before .before .before .before .before .before .before .before .before .before .args .sheet .now) (seen (c .before .before .before .before) .passes) (c .before .before .before .before .entry-count .result)
-    (c .before .before .before .before .entry-count .ensures ∙ ap entryCount (sym (seen (c .before .before .before .before) .settings)))
+    let a = c .before .before .before .before .before .before .before .before .before .before .args in
+    let entry-count = c .before .before .before .before .entry-count in
+    let check-entries = c .before .before .before .check-entries in
+    entries-refused (a .sheet .now) (seen (c .before .before .before .before) .passes) (entry-count .result)
+    (entry-count .ensures ∙ ap entryCount (sym (seen (c .before .before .before .before) .settings)))
     (c .before .r2 .given .0 .0)
-    (sym (c .before .before .before .check-entries .ensures) ∙ ap rowOf (c .before .r2 .given .1))
+    (sym (check-entries .ensures) ∙ ap rowOf (c .before .r2 .given .1))
 
 returns-3 : tie.Need-returns-3
 returns-3 c =
-    validation-passes (c .before .before .before .before .before .before .before .before .before .args .sheet .now) (seen (c .before .before .before) .passes) (c .before .before .before .entry-count .result)
-    (c .before .before .before .entry-count .ensures ∙ ap entryCount (sym (seen (c .before .before .before) .settings)))
-    (c .before .before .before .before .before .settings .given .0 .0)
+    let a = c .before .before .before .before .before .before .before .before .before .args in
+    let entry-count = c .before .before .before .entry-count in
+    let settings = c .before .before .before .before .before .settings in
+    let check-entries = c .before .before .check-entries in
+    validation-passes (a .sheet .now) (seen (c .before .before .before) .passes) (entry-count .result)
+    (entry-count .ensures ∙ ap entryCount (sym (seen (c .before .before .before) .settings)))
+    (settings .given .0 .0)
     (sym (seen (c .before .before .before) .settings))
-    (sym (c .before .before .check-entries .ensures) ∙ ap rowOf (c .enum-told .given .1))
+    (sym (check-entries .ensures) ∙ ap rowOf (c .enum-told .given .1))
 
 pub validate-spec : {M : Type 1} → statement M
 validate-spec =

@@ -22,7 +22,12 @@ abbrev μ-entries : tie.MeasureT-entries
 μ-entries sheet entries readings₀ e₀ readings e = entries - e
 
 entries-holds : tie.Need-entries-holds Inv-entries μ-entries
-entries-holds c = (omega arith, refl, store-none (λ i. toZ w32 (bitsAt (c .before .args .sheet .now) (c .before .args .entries) i)) (c .before .args .readings .now))
+entries-holds c = (
+  omega arith,
+  refl,
+  store-none (λ i. toZ w32 (bitsAt (c .before .args .sheet .now) (c .before .args .entries) i))
+      (c .before .args .readings .now),
+)
 
 add-i : tie.Need-add-i Inv-entries μ-entries
 add-i c = omega arith
@@ -73,27 +78,38 @@ entries-less : tie.Need-entries-less Inv-entries μ-entries
 entries-less c = omega arith
 
 -- the ticks stored are those of the four bytes read
-decoded : (c : tie.After-struct-told Inv-entries μ-entries) → toZ w32 (ofZ w32 (c .before .from-bits .result .0)) ≡ toZ w32 (bitsAt (c .before .before .before .before .before .before .before .before .before .before .args .sheet .now) (c .before .before .before .before .before .before .before .before .before .before .args .entries) (c .before .before .before .before .before .before .before .before .entries .e))
+decoded :
+    (c : tie.After-struct-told Inv-entries μ-entries)
+    → toZ w32 (ofZ w32 (c .before .from-bits .result .0)) ≡ toZ w32 (bitsAt
+    (c .before .before .before .before .before .before .before .before .before .before .args .sheet .now)
+    (c .before .before .before .before .before .before .before .before .before .before .args .entries)
+    (c .before .before .before .before .before .before .before .before .entries .e))
 unfolding word
 decoded c =
+    let join = c .before .before .join in
     ap (λ (z : ℤ). toZ w32 (ofZ w32 z)) (c .before .from-bits .ensures)
-    ∙ ap (toZ w32) (ofZ-toZ {w = w32} (record { fits = c .before .before .join .ok }))
-    ∙ ap (toZ w32) (c .before .before .join .ensures)
+    ∙ ap (toZ w32) (ofZ-toZ {w = w32} (record { fits = join .ok }))
+    ∙ ap (toZ w32) (join .ensures)
 
 entries-again : tie.Need-entries-again Inv-entries μ-entries
-entries-again c = (
-  omega arith,
-  simp length-set (c .before .before .before .before .before .before .before .before .entries .inv .1),
-  store-next (λ i. toZ w32 (bitsAt (c .before .before .before .before .before .before .before .before .before .before .args .sheet .now) (c .before .before .before .before .before .before .before .before .before .before .args .entries) i)) (c .before .before .before .before .before .before .before .before .entries .e) (c .before .before .before .before .before .before .before .before .before .before .args .readings .now) (c .before .before .before .before .before .before .before .before .entries .readings)
-      (toZ w32 (ofZ w32 (c .before .from-bits .result .0))) (c .before .before .before .before .before .before .before .before .entries .inv .2) (decoded c) (omega arith),
-)
+entries-again c =
+    let entries = c .before .before .before .before .before .before .before .before .entries in
+    let a = c .before .before .before .before .before .before .before .before .before .before .args in (
+      omega arith,
+      simp length-set (entries .inv .1),
+      store-next (λ i. toZ w32 (bitsAt (a .sheet .now) (a .entries) i)) (entries .e) (a .readings .now)
+          (entries .readings)
+          (toZ w32 (ofZ w32 (c .before .from-bits .result .0))) (entries .inv .2) (decoded c) (omega arith),
+    )
 
 same-length : tie.Need-same-length Inv-entries μ-entries
 same-length c = c .before .entries .inv .1
 
 returns : tie.Need-returns Inv-entries μ-entries
 returns c =
-    store-ended (λ i. toZ w32 (bitsAt (c .before .before .before .args .sheet .now) (c .before .before .before .args .entries) i)) (c .before .before .before .args .entries) (c .before .entries .e) (c .before .before .before .args .readings .now) (c .before .entries .readings)
+    let a = c .before .before .before .args in
+    store-ended (λ i. toZ w32 (bitsAt (a .sheet .now) (a .entries) i)) (a .entries) (c .before .entries .e)
+    (a .readings .now) (c .before .entries .readings)
     (c .before .entries .inv .0) (c .entries-test .left) (c .before .entries .inv .2)
 
 pub decode-spec : {M : Type 1} → statement M

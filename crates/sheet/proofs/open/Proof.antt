@@ -12,10 +12,16 @@ use Rattle.sheet.proofs.open.Statement.{statement}
 use Rattle.sheet.proofs.open.Tie as tie
 
 -- what `inspect` granted
-seen : (c : tie.After-entry-count) → Inspected (c .before .before .before .before .before .before .args .sheet .now) (c .before .before .settings .given .0 .0)
+seen :
+    (c : tie.After-entry-count)
+    → Inspected (c .before .before .before .before .before .before .args .sheet .now)
+    (c .before .before .settings .given .0 .0)
 seen c =
-    inspected (c .before .before .before .before .before .before .args .sheet .now) (c .before .before .settings .given .0 .0)
-    (sym (c .before .before .before .before .inspect .ensures) ∙ ap openedAs (c .before .before .settings .given .1))
+    let a = c .before .before .before .before .before .before .args in
+    let settings = c .before .before .settings in
+    let inspect = c .before .before .before .before .inspect in
+    inspected (a .sheet .now) (settings .given .0 .0)
+    (sym (inspect .ensures) ∙ ap openedAs (settings .given .1))
 
 inspect-requires : tie.Need-inspect-requires
 inspect-requires c κs = search needs
@@ -31,28 +37,40 @@ entry-count-requires c κs = search needs
 
 returns : tie.Need-returns
 returns c =
-    short-marks (c .before .before .before .before .before .before .before .args .sheet .now) (c .before .before .before .before .before .before .before .args .marks) (c .before .before .before .before .before .before .before .args .readings) (c .before .before .before .settings .given .0 .0) (seen (c .before))
+    let a = c .before .before .before .before .before .before .before .args in
+    let settings = c .before .before .before .settings in
+    short-marks (a .sheet .now) (a .marks) (a .readings) (settings .given .0 .0) (seen (c .before))
     (c .before .entry-count .result) (c .before .entry-count .ensures) (c .if1 .taken)
 
 returns-2 : tie.Need-returns-2
 returns-2 c =
-    short-readings (c .before .before .before .before .before .before .before .before .args .sheet .now) (c .before .before .before .before .before .before .before .before .args .marks) (c .before .before .before .before .before .before .before .before .args .readings) (c .before .before .before .before .settings .given .0 .0) (seen (c .before .before))
-    (c .before .before .entry-count .result) (c .before .before .entry-count .ensures) (c .before .if1 .left) (c .if2 .taken)
+    let a = c .before .before .before .before .before .before .before .before .args in
+    let settings = c .before .before .before .before .settings in
+    let entry-count = c .before .before .entry-count in
+    short-readings (a .sheet .now) (a .marks) (a .readings) (settings .given .0 .0) (seen (c .before .before))
+    (entry-count .result) (entry-count .ensures) (c .before .if1 .left) (c .if2 .taken)
 
 validate-requires : tie.Need-validate-requires
 validate-requires c κs = search needs
 
 returns-3 : tie.Need-returns-3
 returns-3 c =
-    opening-refused (c .before .before .before .before .before .args .sheet .now) (c .before .before .before .before .before .args .marks) (c .before .before .before .before .before .args .readings) (c .before .r .given .0 .0)
-    (refused-some (firstOf (sheetChecks (c .before .before .before .before .before .args .sheet .now))) (settingsAt (c .before .before .before .before .before .args .sheet .now)) (c .before .r .given .0 .0)
-    (sym (c .before .before .before .inspect .ensures) ∙ ap openedAs (c .before .r .given .1)))
+    let a = c .before .before .before .before .before .args in
+    let inspect = c .before .before .before .inspect in
+    opening-refused (a .sheet .now) (a .marks) (a .readings) (c .before .r .given .0 .0)
+    (refused-some (firstOf (sheetChecks (a .sheet .now))) (settingsAt (a .sheet .now)) (c .before .r .given .0 .0)
+    (sym (inspect .ensures) ∙ ap openedAs (c .before .r .given .1)))
 
 returns-4 : tie.Need-returns-4
 returns-4 c =
+    let a = c .before .before .before .before .before .before .before .before .before .args in
+    let settings = c .before .before .before .before .before .settings in
+    let entry-count = c .before .before .before .entry-count in
+    let if1 = c .before .before .if1 in
     c .validate .ensures
-    ∙ opening-validated (c .before .before .before .before .before .before .before .before .before .args .sheet .now) (c .before .before .before .before .before .before .before .before .before .args .marks) (c .before .before .before .before .before .before .before .before .before .args .readings) (c .before .before .before .before .before .settings .given .0 .0) (seen (c .before .before .before))
-    (c .before .before .before .entry-count .result) (c .before .before .before .entry-count .ensures) (c .before .before .if1 .left) (c .before .if2 .left)
+    ∙ opening-validated (a .sheet .now) (a .marks) (a .readings) (settings .given .0 .0)
+    (seen (c .before .before .before))
+    (entry-count .result) (entry-count .ensures) (if1 .left) (c .before .if2 .left)
 
 pub open-spec : {M : Type 1} → statement M
 open-spec =

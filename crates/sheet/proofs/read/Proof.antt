@@ -18,13 +18,25 @@ use Rattle.sheet.proofs.read.Statement.{statement}
 use Rattle.sheet.proofs.read.Tie as tie
 
 -- what `open` granted
-seen : (c : tie.After-entry-count) → Openable (c .before .before .before .before .before .before .before .args .sheet .now) (length (c .before .before .before .before .before .before .before .args .marks .now)) (length (c .before .before .before .before .before .before .before .args .readings .now)) (c .before .before .settings .given .0 .0)
+seen :
+    (c : tie.After-entry-count)
+    → Openable (c .before .before .before .before .before .before .before .args .sheet .now)
+    (length (c .before .before .before .before .before .before .before .args .marks .now))
+    (length (c .before .before .before .before .before .before .before .args .readings .now))
+    (c .before .before .settings .given .0 .0)
 seen c =
-    openable (c .before .before .before .before .before .before .before .args .sheet .now) (length (c .before .before .before .before .before .before .before .args .marks .now)) (length (c .before .before .before .before .before .before .before .args .readings .now)) (c .before .before .settings .given .0 .0)
-    (sym (c .before .before .before .before .open .ensures) ∙ ap openedAs (c .before .before .settings .given .1))
+    let a = c .before .before .before .before .before .before .before .args in
+    let settings = c .before .before .settings in
+    let opened = c .before .before .before .before .open in
+    openable (a .sheet .now) (length (a .marks .now)) (length (a .readings .now)) (settings .given .0 .0)
+    (sym (opened .ensures) ∙ ap openedAs (settings .given .1))
 
-sheet-long : (c : tie.After-entry-count) → length (c .before .before .before .before .before .before .before .args .sheet .now) ≡ 8 + 5 * c .entry-count .result
-sheet-long c = seen c .sizes .long ∙ ap (λ (k : ℕ). 8 + 5 * k) (sym (c .entry-count .ensures))
+sheet-long :
+    (c : tie.After-entry-count)
+    → length (c .before .before .before .before .before .before .before .args .sheet .now) ≡ 8 + 5 *
+    c .entry-count .result
+sheet-long c =
+    seen c .sizes .long ∙ ap (λ (k : ℕ). 8 + 5 * k) (sym (c .entry-count .ensures))
 
 open-requires : tie.Need-open-requires
 open-requires c κs = search needs
@@ -40,8 +52,9 @@ entry-count-requires c κs = search needs
 
 add-body : tie.Need-add-body
 add-body c =
+    let settings = c .before .before .settings in
     let o = seen (c) in
-    let count : c .entry-count .result ≡ entryCount (c .before .before .settings .given .0 .0) = c .entry-count .ensures in
+    let count : c .entry-count .result ≡ entryCount (settings .given .0 .0) = c .entry-count .ensures in
     let long = o .sizes .long in
     let few = o .sizes .few in
     let marks = o .marks in
@@ -56,8 +69,9 @@ part-copy-start c = search needs
 
 part-copy-end : tie.Need-part-copy-end
 part-copy-end c =
+    let settings = c .before .before .settings in
     let o = seen (c) in
-    let count : c .entry-count .result ≡ entryCount (c .before .before .settings .given .0 .0) = c .entry-count .ensures in
+    let count : c .entry-count .result ≡ entryCount (settings .given .0 .0) = c .entry-count .ensures in
     let long = o .sizes .long in
     let few = o .sizes .few in
     let marks = o .marks in
@@ -66,19 +80,24 @@ part-copy-end c =
 
 copy-requires : tie.Need-copy-requires
 copy-requires c κs =
+    let entry-count = c .before .before .entry-count in
+    let settings = c .before .before .before .before .settings in
+    let a = c .before .before .before .before .before .before .before .before .before .args in
     let o = seen (c .before .before) in
-    let count : c .before .before .entry-count .result ≡ entryCount (c .before .before .before .before .settings .given .0 .0) = c .before .before .entry-count .ensures in
+    let count : entry-count .result ≡ entryCount (settings .given .0 .0) = entry-count .ensures in
     let long = o .sizes .long in
     let few = o .sizes .few in
     let marks = o .marks in
     let readings = o .readings in
-    let part = length-marksPart (c .before .before .before .before .before .before .before .before .before .args .sheet .now) (c .before .before .entry-count .result) (sheet-long (c .before .before)) in
+    let part = length-marksPart (a .sheet .now) (entry-count .result) (sheet-long (c .before .before)) in
     omega arith
 
 decode-requires : tie.Need-decode-requires
 decode-requires c κs =
+    let entry-count = c .before .before .before .before .before .before .entry-count in
+    let settings = c .before .before .before .before .before .before .before .before .settings in
     let o = seen (c .before .before .before .before .before .before) in
-    let count : c .before .before .before .before .before .before .entry-count .result ≡ entryCount (c .before .before .before .before .before .before .before .before .settings .given .0 .0) = c .before .before .before .before .before .before .entry-count .ensures in
+    let count : entry-count .result ≡ entryCount (settings .given .0 .0) = entry-count .ensures in
     let long = o .sizes .long in
     let few = o .sizes .few in
     let marks = o .marks in
@@ -87,13 +106,15 @@ decode-requires c κs =
 
 returns : tie.Need-returns
 returns c =
+    let a = c .before .before .before .before .before .before .args in
+    let opened = c .before .before .before .open in
     sym
-    (read-refuses (c .before .before .before .before .before .before .args .sheet .now) (c .before .before .before .before .before .before .args .marks .now) (c .before .before .before .before .before .before .args .readings .now) (c .before .r .given .0 .0)
-    (read-rows (c .before .before .before .before .before .before .args .sheet .now) (c .before .before .before .before .before .before .args .marks .now) (c .before .before .before .before .before .before .args .readings .now)
+    (read-refuses (a .sheet .now) (a .marks .now) (a .readings .now) (c .before .r .given .0 .0)
+    (read-rows (a .sheet .now) (a .marks .now) (a .readings .now)
     ∙ refused-some
-    (readRows (c .before .before .before .before .before .before .args .sheet .now) (length (c .before .before .before .before .before .before .args .marks .now)) (length (c .before .before .before .before .before .before .args .readings .now)))
-    (settingsAt (c .before .before .before .before .before .before .args .sheet .now)) (c .before .r .given .0 .0)
-    (sym (c .before .before .before .open .ensures) ∙ ap openedAs (c .before .r .given .1))))
+    (readRows (a .sheet .now) (length (a .marks .now)) (length (a .readings .now)))
+    (settingsAt (a .sheet .now)) (c .before .r .given .0 .0)
+    (sym (opened .ensures) ∙ ap openedAs (c .before .r .given .1))))
 
 same-length : tie.Need-same-length
 same-length c = search needs
@@ -103,12 +124,19 @@ same-length-2 c = search needs
 
 returns-2 : tie.Need-returns-2
 returns-2 c =
-    reader-fills (c .before .before .before .before .before .before .before .before .before .before .before .before .before .before .before .args .sheet .now) (c .before .before .before .before .before .before .before .before .before .before .before .before .before .before .before .args .marks .now) (c .before .before .before .before .before .before .before .before .before .before .before .before .before .before .before .args .readings .now) (c .before .before .before .before .before .before .before .before .before .before .settings .given .0 .0)
-    (seen (c .before .before .before .before .before .before .before .before)) (c .before .before .before .before .before .before .before .before .entry-count .result) (c .before .before .before .before .before .before .before .before .entry-count .ensures)
-    (c .before .before .before .before .before .copy .last .1 .0) (c .before .decode .last .1 .1 .0)
-    (c .before .before .before .before .before .copy .ensures .1
-    ∙ copy-overwrites (marksPart (c .before .before .before .before .before .before .before .before .before .before .before .before .before .before .before .args .sheet .now) (c .before .before .before .before .before .before .before .before .entry-count .result)) (c .before .before .before .before .before .before .before .before .before .before .before .before .before .before .before .args .marks .now)
-    ∙ ap (λ (l : List ℕ). overwrite l (c .before .before .before .before .before .before .before .before .before .before .before .before .before .before .before .args .marks .now)) (marksPart-table (c .before .before .before .before .before .before .before .before .before .before .before .before .before .before .before .args .sheet .now) (c .before .before .before .before .before .before .before .before .entry-count .result) (sheet-long (c .before .before .before .before .before .before .before .before))))
+    let a = c .before .before .before .before .before .before .before .before .before .before .before .before .before .before .before .args
+    in
+    let settings = c .before .before .before .before .before .before .before .before .before .before .settings in
+    let entry-count = c .before .before .before .before .before .before .before .before .entry-count in
+    let copy = c .before .before .before .before .before .copy in
+    reader-fills (a .sheet .now) (a .marks .now) (a .readings .now) (settings .given .0 .0)
+    (seen (c .before .before .before .before .before .before .before .before)) (entry-count .result)
+    (entry-count .ensures)
+    (copy .last .1 .0) (c .before .decode .last .1 .1 .0)
+    (copy .ensures .1
+    ∙ copy-overwrites (marksPart (a .sheet .now) (entry-count .result)) (a .marks .now)
+    ∙ ap (λ (l : List ℕ). overwrite l (a .marks .now)) (marksPart-table (a .sheet .now) (entry-count .result)
+    (sheet-long (c .before .before .before .before .before .before .before .before))))
     (c .before .decode .ensures)
 
 pub read-spec : {M : Type 1} → statement M

@@ -24,7 +24,11 @@ abbrev μ-entries : tie.MeasureT-entries
 μ-entries marks readings e₀ e = length marks - e
 
 entries-holds : tie.Need-entries-holds Inv-entries μ-entries
-entries-holds c = (omega arith, search-none (λ i. notZero (byte (c .before .args .marks .now) i) (ofZ w32 (getD (c .before .args .readings .now) i (pos 0)))))
+entries-holds c = (
+  omega arith,
+  search-none
+      (λ i. notZero (byte (c .before .args .marks .now) i) (ofZ w32 (getD (c .before .args .readings .now) i (pos 0)))),
+)
 
 shared-slice-read-not-zero : tie.Need-shared-slice-read-not-zero Inv-entries μ-entries
 shared-slice-read-not-zero c = omega arith
@@ -40,9 +44,15 @@ not-zero-requires c κs = tt
 
 returns : tie.Need-returns Inv-entries μ-entries
 returns c =
+    let a = c .before .before .before .before .before .before .before .args in
+    let entries = c .before .before .before .before .before .entries in
+    let not-zero-arg = c .before .before .not-zero-arg in
     sym
-    (search-found (λ i. notZero (byte (c .before .before .before .before .before .before .before .args .marks .now) i) (ofZ w32 (getD (c .before .before .before .before .before .before .before .args .readings .now) i (pos 0)))) (length (c .before .before .before .before .before .before .before .args .marks .now)) (c .before .before .before .before .before .entries .e) (omega arith) (c .before .before .before .before .before .entries .inv .1)
-    (ap (λ (z : ℤ). notZero (byte (c .before .before .before .before .before .before .before .args .marks .now) (c .before .before .before .before .before .entries .e)) (ofZ w32 z)) (sym (bits-again (getD (c .before .before .before .before .before .before .before .args .readings .now) (c .before .before .before .before .before .entries .e) (pos 0)) (c .before .before .not-zero-arg .given))) ∙ sym (c .before .not-zero .ensures) ∙ c .if1 .taken))
+    (search-found (λ i. notZero (byte (a .marks .now) i) (ofZ w32 (getD (a .readings .now) i (pos 0))))
+    (length (a .marks .now)) (entries .e) (omega arith) (entries .inv .1)
+    (ap (λ (z : ℤ). notZero (byte (a .marks .now) (entries .e)) (ofZ w32 z))
+    (sym (bits-again (getD (a .readings .now) (entries .e) (pos 0)) (not-zero-arg .given)))
+    ∙ sym (c .before .not-zero .ensures) ∙ c .if1 .taken))
 
 add-e : tie.Need-add-e Inv-entries μ-entries
 add-e c = omega arith
@@ -51,15 +61,23 @@ entries-less : tie.Need-entries-less Inv-entries μ-entries
 entries-less c = omega arith
 
 entries-again : tie.Need-entries-again Inv-entries μ-entries
-entries-again c = (
-  omega arith,
-  search-more (λ i. notZero (byte (c .before .before .before .before .before .before .before .args .marks .now) i) (ofZ w32 (getD (c .before .before .before .before .before .before .before .args .readings .now) i (pos 0)))) (c .before .before .before .before .before .entries .e) (c .before .before .before .before .before .entries .inv .1) (ap (λ (z : ℤ). notZero (byte (c .before .before .before .before .before .before .before .args .marks .now) (c .before .before .before .before .before .entries .e)) (ofZ w32 z)) (sym (bits-again (getD (c .before .before .before .before .before .before .before .args .readings .now) (c .before .before .before .before .before .entries .e) (pos 0)) (c .before .before .not-zero-arg .given))) ∙ sym (c .before .not-zero .ensures) ∙ c .if1 .left),
-)
+entries-again c =
+    let a = c .before .before .before .before .before .before .before .args in
+    let entries = c .before .before .before .before .before .entries in
+    let not-zero-arg = c .before .before .not-zero-arg in (
+      omega arith,
+      search-more (λ i. notZero (byte (a .marks .now) i) (ofZ w32 (getD (a .readings .now) i (pos 0)))) (entries .e)
+          (entries .inv .1) (ap (λ (z : ℤ). notZero (byte (a .marks .now) (entries .e)) (ofZ w32 z))
+          (sym (bits-again (getD (a .readings .now) (entries .e) (pos 0)) (not-zero-arg .given)))
+          ∙ sym (c .before .not-zero .ensures) ∙ c .if1 .left),
+    )
 
 returns-2 : tie.Need-returns-2 Inv-entries μ-entries
 returns-2 c =
+    let a = c .before .before .before .args in
     sym
-    (search-ended (λ i. notZero (byte (c .before .before .before .args .marks .now) i) (ofZ w32 (getD (c .before .before .before .args .readings .now) i (pos 0)))) (length (c .before .before .before .args .marks .now)) (c .before .entries .e) (c .before .entries .inv .0) (c .entries-test .left)
+    (search-ended (λ i. notZero (byte (a .marks .now) i) (ofZ w32 (getD (a .readings .now) i (pos 0))))
+    (length (a .marks .now)) (c .before .entries .e) (c .before .entries .inv .0) (c .entries-test .left)
     (c .before .entries .inv .1))
 
 pub bad-missing-spec : {M : Type 1} → statement M

@@ -12,8 +12,12 @@ use Rattle.sheet_writer.proofs.check.Statement.{statement}
 use Rattle.sheet_writer.proofs.check.Tie as tie
 
 -- the settings passed checks 2 to 5
-passed : (c : tie.After-entry-count) → firstOf (settingsChecks (c .before .before .before .before .before .args .settings)) ≡ none
-passed c = sym (c .before .before .before .screen .ensures) ∙ ap rowOf (c .before .enum-told .given .1)
+passed :
+    (c : tie.After-entry-count)
+    → firstOf (settingsChecks (c .before .before .before .before .before .args .settings)) ≡ none
+passed c =
+    let screen = c .before .before .before .screen in
+    sym (screen .ensures) ∙ ap rowOf (c .before .enum-told .given .1)
 
 screen-requires : tie.Need-screen-requires
 screen-requires c κs = search needs
@@ -28,10 +32,17 @@ entry-count-requires : tie.Need-entry-count-requires
 entry-count-requires c κs = search needs
 
 returns : tie.Need-returns
-returns c = marks-length-refused (c .before .before .before .before .before .before .args .settings) (c .before .before .before .before .before .before .args .marks .now) (c .before .before .before .before .before .before .args .readings .now) (c .before .before .before .before .before .before .args .room) (passed (c .before)) (c .before .entry-count .result) (c .before .entry-count .ensures) (c .if1 .taken)
+returns c =
+    let a = c .before .before .before .before .before .before .args in
+    marks-length-refused (a .settings) (a .marks .now) (a .readings .now) (a .room) (passed (c .before))
+    (c .before .entry-count .result) (c .before .entry-count .ensures) (c .if1 .taken)
 
 returns-2 : tie.Need-returns-2
-returns-2 c = readings-length-refused (c .before .before .before .before .before .before .before .args .settings) (c .before .before .before .before .before .before .before .args .marks .now) (c .before .before .before .before .before .before .before .args .readings .now) (c .before .before .before .before .before .before .before .args .room) (passed (c .before .before)) (c .before .before .entry-count .result) (c .before .before .entry-count .ensures) (c .before .if1 .left) (c .if2 .taken)
+returns-2 c =
+    let a = c .before .before .before .before .before .before .before .args in
+    let entry-count = c .before .before .entry-count in
+    readings-length-refused (a .settings) (a .marks .now) (a .readings .now) (a .room) (passed (c .before .before))
+    (entry-count .result) (entry-count .ensures) (c .before .if1 .left) (c .if2 .taken)
 
 mul-if3 : tie.Need-mul-if3
 mul-if3 c = search needs
@@ -40,22 +51,38 @@ add-if3 : tie.Need-add-if3
 add-if3 c = search needs
 
 returns-3 : tie.Need-returns-3
-returns-3 c = room-refused (c .before .before .before .before .before .before .before .before .args .settings) (c .before .before .before .before .before .before .before .before .args .marks .now) (c .before .before .before .before .before .before .before .before .args .readings .now) (c .before .before .before .before .before .before .before .before .args .room) (passed (c .before .before .before)) (c .before .before .before .entry-count .result) (c .before .before .before .entry-count .ensures) (c .before .before .if1 .left) (c .before .if2 .left) (c .if3 .taken)
+returns-3 c =
+    let a = c .before .before .before .before .before .before .before .before .args in
+    let entry-count = c .before .before .before .entry-count in
+    let if1 = c .before .before .if1 in
+    room-refused (a .settings) (a .marks .now) (a .readings .now) (a .room) (passed (c .before .before .before))
+    (entry-count .result) (entry-count .ensures) (if1 .left) (c .before .if2 .left) (c .if3 .taken)
 
 check-arrays-requires : tie.Need-check-arrays-requires
 check-arrays-requires c κs =
-    let few = entries-most (c .before .before .before .before .before .before .before .before .args .settings) (limits (c .before .before .before .before .before .before .before .before .args .settings) (passed (c .before .before .before)) .cabinets) in
-    let count = c .before .before .before .entry-count .ensures in
+    let a = c .before .before .before .before .before .before .before .before .args in
+    let entry-count = c .before .before .before .entry-count in
+    let few = entries-most (a .settings) (limits (a .settings) (passed (c .before .before .before)) .cabinets) in
+    let count = entry-count .ensures in
     omega arith
 
 returns-4 : tie.Need-returns-4
 returns-4 c =
-    writing-refused (c .before .before .before .before .before .args .settings) (c .before .before .before .before .before .args .marks .now) (c .before .before .before .before .before .args .readings .now) (c .before .before .before .before .before .args .room) (c .before .r .given .0 .0) (sym (c .before .before .before .screen .ensures) ∙ ap rowOf (c .before .r .given .1))
+    let a = c .before .before .before .before .before .args in
+    let screen = c .before .before .before .screen in
+    writing-refused (a .settings) (a .marks .now) (a .readings .now) (a .room) (c .before .r .given .0 .0)
+    (sym (screen .ensures) ∙ ap rowOf (c .before .r .given .1))
 
 returns-5 : tie.Need-returns-5
 returns-5 c =
+    let a = c .before .before .before .before .before .before .before .before .before .args in
+    let entry-count = c .before .before .before .before .entry-count in
+    let if1 = c .before .before .before .if1 in
+    let if2 = c .before .before .if2 in
     c .check-arrays .ensures
-    ∙ arrays-decide (c .before .before .before .before .before .before .before .before .before .args .settings) (c .before .before .before .before .before .before .before .before .before .args .marks .now) (c .before .before .before .before .before .before .before .before .before .args .readings .now) (c .before .before .before .before .before .before .before .before .before .args .room) (passed (c .before .before .before .before)) (c .before .before .before .before .entry-count .result) (c .before .before .before .before .entry-count .ensures) (c .before .before .before .if1 .left) (c .before .before .if2 .left) (c .before .if3 .left)
+    ∙ arrays-decide (a .settings) (a .marks .now) (a .readings .now) (a .room)
+    (passed (c .before .before .before .before)) (entry-count .result) (entry-count .ensures) (if1 .left) (if2 .left)
+    (c .before .if3 .left)
 
 pub check-spec : {M : Type 1} → statement M
 check-spec =

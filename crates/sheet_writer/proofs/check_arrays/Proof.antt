@@ -24,7 +24,10 @@ enum-known-e c = search needs
 
 cast-t7 : tie.Need-cast-t7
 cast-t7 c =
-    let small = lowest-found (λ i. ltb 1 (byte (c .before .before .before .before .before .args .marks .now) i)) (length (c .before .before .before .before .before .args .marks .now)) (c .before .e .given .0 .0) (sym (c .before .before .before .bad-mark .ensures) ∙ ap foundAs (c .before .e .given .1)) .inRange in
+    let a = c .before .before .before .before .before .args in
+    let bad-mark = c .before .before .before .bad-mark in
+    let small = lowest-found (λ i. ltb 1 (byte (a .marks .now) i)) (length (a .marks .now))
+    (c .before .e .given .0 .0) (sym (bad-mark .ensures) ∙ ap foundAs (c .before .e .given .1)) .inRange in
     omega arith
 
 enum-told : tie.Need-enum-told
@@ -38,7 +41,11 @@ enum-known-e-2 c = search needs
 
 cast-t11 : tie.Need-cast-t11
 cast-t11 c =
-    let small = lowest-found (λ i. notZero (byte (c .before .before .before .before .before .before .before .before .args .marks .now) i) (ofZ w32 (getD (c .before .before .before .before .before .before .before .before .args .readings .now) i (pos 0)))) (length (c .before .before .before .before .before .before .before .before .args .marks .now)) (c .before .e2 .given .0 .0) (sym (c .before .before .before .bad-missing .ensures) ∙ ap foundAs (c .before .e2 .given .1)) .inRange in
+    let a = c .before .before .before .before .before .before .before .before .args in
+    let bad-missing = c .before .before .before .bad-missing in
+    let small = lowest-found (λ i. notZero (byte (a .marks .now) i) (ofZ w32 (getD (a .readings .now) i (pos 0))))
+    (length (a .marks .now)) (c .before .e2 .given .0 .0)
+    (sym (bad-missing .ensures) ∙ ap foundAs (c .before .e2 .given .1)) .inRange in
     omega arith
 
 enum-told-2 : tie.Need-enum-told-2
@@ -46,18 +53,30 @@ enum-told-2 c = search needs
 
 returns : tie.Need-returns
 returns c =
-    array-mark-refused (c .before .before .before .before .before .args .marks .now) (c .before .before .before .before .before .args .readings .now) (length (c .before .before .before .before .before .args .marks .now)) (c .before .e .given .0 .0)
-    (sym (c .before .before .before .bad-mark .ensures) ∙ ap foundAs (c .before .e .given .1))
+    let a = c .before .before .before .before .before .args in
+    let bad-mark = c .before .before .before .bad-mark in
+    array-mark-refused (a .marks .now) (a .readings .now) (length (a .marks .now)) (c .before .e .given .0 .0)
+    (sym (bad-mark .ensures) ∙ ap foundAs (c .before .e .given .1))
 
 returns-2 : tie.Need-returns-2
 returns-2 c =
-    array-missing-refused (c .before .before .before .before .before .before .before .before .args .marks .now) (c .before .before .before .before .before .before .before .before .args .readings .now) (length (c .before .before .before .before .before .before .before .before .args .marks .now)) (sym (c .before .before .before .before .before .before .bad-mark .ensures) ∙ ap foundAs (c .before .before .before .before .enum-told .given .1))
-    (c .before .e2 .given .0 .0) (sym (c .before .before .before .bad-missing .ensures) ∙ ap foundAs (c .before .e2 .given .1))
+    let a = c .before .before .before .before .before .before .before .before .args in
+    let bad-mark = c .before .before .before .before .before .before .bad-mark in
+    let enum-told = c .before .before .before .before .enum-told in
+    let bad-missing = c .before .before .before .bad-missing in
+    array-missing-refused (a .marks .now) (a .readings .now) (length (a .marks .now))
+    (sym (bad-mark .ensures) ∙ ap foundAs (enum-told .given .1))
+    (c .before .e2 .given .0 .0) (sym (bad-missing .ensures) ∙ ap foundAs (c .before .e2 .given .1))
 
 returns-3 : tie.Need-returns-3
 returns-3 c =
-    arrays-pass (c .before .before .before .before .before .before .before .args .marks .now) (c .before .before .before .before .before .before .before .args .readings .now) (length (c .before .before .before .before .before .before .before .args .marks .now)) (sym (c .before .before .before .before .before .bad-mark .ensures) ∙ ap foundAs (c .before .before .before .enum-told .given .1))
-    (sym (c .before .before .bad-missing .ensures) ∙ ap foundAs (c .enum-told2 .given .1))
+    let a = c .before .before .before .before .before .before .before .args in
+    let bad-mark = c .before .before .before .before .before .bad-mark in
+    let enum-told = c .before .before .before .enum-told in
+    let bad-missing = c .before .before .bad-missing in
+    arrays-pass (a .marks .now) (a .readings .now) (length (a .marks .now))
+    (sym (bad-mark .ensures) ∙ ap foundAs (enum-told .given .1))
+    (sym (bad-missing .ensures) ∙ ap foundAs (c .enum-told2 .given .1))
 
 pub check-arrays-spec : {M : Type 1} → statement M
 check-arrays-spec =

@@ -27,10 +27,14 @@ same-length c = search needs
 
 returns : tie.Need-returns
 returns c =
-    tail-written (c .before .before .before .before .before .before .before .before .before .before .args .marks .now) (readingBytes (c .before .before .before .before .before .before .before .before .before .before .args .readings .now)) (c .before .before .before .before .before .before .before .before .before .before .args .buffer .now) (c .before .before .before .before .before .before .copy .last .1 .0) (c .before .before .put-readings .last .1 .0)
-    (c .before .before .before .before .before .before .copy .result) (sym (c .before .before .before .before .before .before .copy .ensures .0))
-    (c .before .before .before .before .before .before .copy .ensures .1 ∙ copy-overwrites (c .before .before .before .before .before .before .before .before .before .before .args .marks .now) (c .before .before .before .before .before .before .before .before .before .before .args .buffer .now))
-    (c .before .before .put-readings .ensures)
+    let a = c .before .before .before .before .before .before .before .before .before .before .args in
+    let copy = c .before .before .before .before .before .before .copy in
+    let put-readings = c .before .before .put-readings in
+    tail-written (a .marks .now) (readingBytes (a .readings .now)) (a .buffer .now) (copy .last .1 .0)
+    (put-readings .last .1 .0)
+    (copy .result) (sym (copy .ensures .0))
+    (copy .ensures .1 ∙ copy-overwrites (a .marks .now) (a .buffer .now))
+    (put-readings .ensures)
 
 pub put-entries-spec : {M : Type 1} → statement M
 put-entries-spec =

@@ -46,20 +46,29 @@ entries-less : tie.Need-entries-less Inv-entries μ-entries
 entries-less c = omega arith
 
 entries-again : tie.Need-entries-again Inv-entries μ-entries
-entries-again c = (
-  omega arith,
-  c .before .before .put-word .kept .0 ∙ c .before .before .before .before .before .before .before .entries .inv .1,
-  c .before .before .put-word .ensures
-      ∙ put-next (c .before .before .before .before .before .before .before .before .before .args .readings .now) (c .before .before .before .before .before .before .before .entries .e) (c .before .before .before .before .before .before .before .before .before .args .buffer .now) (c .before .before .before .before .before .before .before .entries .buffer)
-      (c .before .before .before .to-bits .result) (c .before .before .before .before .before .before .before .entries .inv .2) (omega arith) (c .before .before .before .to-bits .ensures ∙ ap (ofZ w32) (bits-again (getD (c .before .before .before .before .before .before .before .before .before .args .readings .now) (c .before .before .before .before .before .before .before .entries .e) (pos 0)) (c .before .before .before .before .before .t8 .given))) (c .before .before .before .before .before .before .before .before .before .pre),
-)
+entries-again c =
+    let put-word = c .before .before .put-word in
+    let entries = c .before .before .before .before .before .before .before .entries in
+    let a = c .before .before .before .before .before .before .before .before .before .args in
+    let to-bits = c .before .before .before .to-bits in
+    let t8 = c .before .before .before .before .before .t8 in
+    let pre = c .before .before .before .before .before .before .before .before .before .pre in (
+      omega arith,
+      put-word .kept .0 ∙ entries .inv .1,
+      put-word .ensures
+          ∙ put-next (a .readings .now) (entries .e) (a .buffer .now) (entries .buffer)
+          (to-bits .result) (entries .inv .2) (omega arith)
+          (to-bits .ensures ∙ ap (ofZ w32) (bits-again (getD (a .readings .now) (entries .e) (pos 0)) (t8 .given))) (pre),
+    )
 
 same-length : tie.Need-same-length Inv-entries μ-entries
 same-length c = c .before .entries .inv .1
 
 returns : tie.Need-returns Inv-entries μ-entries
 returns c =
-    put-ended (c .before .before .before .args .readings .now) (c .before .entries .e) (c .before .before .before .args .buffer .now) (c .before .entries .buffer) (c .entries-test .left)
+    let a = c .before .before .before .args in
+    put-ended (a .readings .now) (c .before .entries .e) (a .buffer .now) (c .before .entries .buffer)
+    (c .entries-test .left)
     (c .before .entries .inv .2)
 
 pub put-readings-spec : {M : Type 1} → statement M

@@ -27,7 +27,11 @@ same-length : tie.Need-same-length
 same-length c = c .before .before .put-word .kept .0 ∙ simp length-set
 
 returns : tie.Need-returns
-returns c = c .before .before .put-word .ensures ∙ sizes-stored (c .before .before .before .before .before .args .settings) (c .before .before .before .before .before .args .buffer .now) (c .before .before .before .before .before .pre)
+returns c =
+    let put-word = c .before .before .put-word in
+    let a = c .before .before .before .before .before .args in
+    let pre = c .before .before .before .before .before .pre in
+    put-word .ensures ∙ sizes-stored (a .settings) (a .buffer .now) (pre)
 
 pub put-sizes-spec : {M : Type 1} → statement M
 put-sizes-spec =

@@ -18,11 +18,25 @@ use Rattle.sheet_writer.proofs.write.Statement.{statement}
 use Rattle.sheet_writer.proofs.write.Tie as tie
 
 -- no check refused
-rows : (c : tie.After-enum-told) → writeRows (c .before .before .before .before .before .args .settings) (c .before .before .before .before .before .args .marks .now) (c .before .before .before .before .before .args .readings .now) (length (c .before .before .before .before .before .args .buffer .now)) ≡ none
-rows c = sym (c .before .before .check .ensures) ∙ ap rowOf (c .enum-told .given .1)
+rows :
+    (c : tie.After-enum-told)
+    → writeRows (c .before .before .before .before .before .args .settings)
+    (c .before .before .before .before .before .args .marks .now)
+    (c .before .before .before .before .before .args .readings .now)
+    (length (c .before .before .before .before .before .args .buffer .now)) ≡ none
+rows c =
+    let check = c .before .before .check in
+    sym (check .ensures) ∙ ap rowOf (c .enum-told .given .1)
 
-seen : (c : tie.After-enum-told) → Writable (c .before .before .before .before .before .args .settings) (c .before .before .before .before .before .args .marks .now) (c .before .before .before .before .before .args .readings .now) (length (c .before .before .before .before .before .args .buffer .now))
-seen c = writable (c .before .before .before .before .before .args .settings) (c .before .before .before .before .before .args .marks .now) (c .before .before .before .before .before .args .readings .now) (length (c .before .before .before .before .before .args .buffer .now)) (rows c)
+seen :
+    (c : tie.After-enum-told)
+    → Writable (c .before .before .before .before .before .args .settings)
+    (c .before .before .before .before .before .args .marks .now)
+    (c .before .before .before .before .before .args .readings .now)
+    (length (c .before .before .before .before .before .args .buffer .now))
+seen c =
+    let a = c .before .before .before .before .before .args in
+    writable (a .settings) (a .marks .now) (a .readings .now) (length (a .buffer .now)) (rows c)
 
 check-requires : tie.Need-check-requires
 check-requires c κs = search needs
@@ -96,10 +110,12 @@ add-t17 c =
 
 returns : tie.Need-returns
 returns c =
+    let a = c .before .before .before .before .before .before .args in
+    let check = c .before .before .before .check in
     sym
-    (write-refuses (c .before .before .before .before .before .before .args .settings) (c .before .before .before .before .before .before .args .marks .now) (c .before .before .before .before .before .before .args .readings .now) (c .before .before .before .before .before .before .args .buffer .now) (c .before .r .given .0 .0)
-    (write-rows (c .before .before .before .before .before .before .args .settings) (c .before .before .before .before .before .before .args .marks .now) (c .before .before .before .before .before .before .args .readings .now) (c .before .before .before .before .before .before .args .buffer .now)
-    ∙ sym (c .before .before .before .check .ensures)
+    (write-refuses (a .settings) (a .marks .now) (a .readings .now) (a .buffer .now) (c .before .r .given .0 .0)
+    (write-rows (a .settings) (a .marks .now) (a .readings .now) (a .buffer .now)
+    ∙ sym (check .ensures)
     ∙ ap rowOf (c .before .r .given .1)))
 
 same-length : tie.Need-same-length
@@ -107,14 +123,19 @@ same-length c = search needs
 
 returns-2 : tie.Need-returns-2
 returns-2 c =
-    writer-fills (c .before .before .before .before .before .before .before .before .before .before .before .before .before .args .settings) (c .before .before .before .before .before .before .before .before .before .before .before .before .before .args .marks .now) (c .before .before .before .before .before .before .before .before .before .before .before .before .before .args .readings .now) (c .before .before .before .before .before .before .before .before .before .before .before .before .before .args .buffer .now)
-    (take 8 (c .before .before .before .before .before .before .put-sizes .last .1 .0)
-    ++ (c .before .before .put-entries .last .1 .1 .0
-    ++ drop (length (c .before .before .before .before .before .before .put-sizes .last .1 .0) - 8) (drop 8 (c .before .before .before .before .before .before .put-sizes .last .1 .0))))
-    (rows (c .before .before .before .before .before .before .before .before)) (seen (c .before .before .before .before .before .before .before .before) .marksLong)
-    (tail-written (sizeBytes (c .before .before .before .before .before .before .before .before .before .before .before .before .before .args .settings)) ((c .before .before .before .before .before .before .before .before .before .before .before .before .before .args .marks .now) ++ readingBytes (c .before .before .before .before .before .before .before .before .before .before .before .before .before .args .readings .now)) (c .before .before .before .before .before .before .before .before .before .before .before .before .before .args .buffer .now)
-    (c .before .before .before .before .before .before .put-sizes .last .1 .0) (c .before .before .put-entries .last .1 .1 .0) 8
-    (length-sizeBytes (c .before .before .before .before .before .before .before .before .before .before .before .before .before .args .settings)) (c .before .before .before .before .before .before .put-sizes .ensures) (c .before .before .put-entries .ensures))
+    let a = c .before .before .before .before .before .before .before .before .before .before .before .before .before .args
+    in
+    let put-sizes = c .before .before .before .before .before .before .put-sizes in
+    let put-entries = c .before .before .put-entries in
+    writer-fills (a .settings) (a .marks .now) (a .readings .now) (a .buffer .now)
+    (take 8 (put-sizes .last .1 .0)
+    ++ (put-entries .last .1 .1 .0
+    ++ drop (length (put-sizes .last .1 .0) - 8) (drop 8 (put-sizes .last .1 .0))))
+    (rows (c .before .before .before .before .before .before .before .before))
+    (seen (c .before .before .before .before .before .before .before .before) .marksLong)
+    (tail-written (sizeBytes (a .settings)) ((a .marks .now) ++ readingBytes (a .readings .now)) (a .buffer .now)
+    (put-sizes .last .1 .0) (put-entries .last .1 .1 .0) 8
+    (length-sizeBytes (a .settings)) (put-sizes .ensures) (put-entries .ensures))
 
 pub write-spec : {M : Type 1} → statement M
 write-spec =

@@ -15,7 +15,9 @@ sub-if2 : tie.Need-sub-if2
 sub-if2 c = search needs
 
 returns-2 : tie.Need-returns-2
-returns-2 c = sym (put-word-past (c .before .before .args .buffer .now) (c .before .before .args .i) (c .before .before .args .x) (omega arith))
+returns-2 c =
+    let a = c .before .before .args in
+    sym (put-word-past (a .buffer .now) (a .i) (a .x) (omega arith))
 
 cast-buffer : tie.Need-cast-buffer
 cast-buffer c = search needs
@@ -54,7 +56,9 @@ same-length : tie.Need-same-length
 same-length c = search needs
 
 returns-3 : tie.Need-returns-3
-returns-3 c = put-word-fits (c .before .before .args .buffer .now) (c .before .before .args .i) (c .before .before .args .x) (omega arith)
+returns-3 c =
+    let a = c .before .before .args in
+    put-word-fits (a .buffer .now) (a .i) (a .x) (omega arith)
 
 pub put-word-spec : {M : Type 1} → statement M
 put-word-spec =

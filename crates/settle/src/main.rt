@@ -1,11 +1,12 @@
 // Document 01, "Program `settle`": reads one round sheet from standard input, at most 20,489 bytes, and writes its listing.
 ghost use mathlib.Core.Path.{_≡_};
-ghost use Prim.Native.Nat.{_≤_};
 ghost use lib.ListN.{length};
 ghost use Rattle.settle.specs.Sizes.{Within};
 use libc::STDERR_FILENO;
 use libc::STDIN_FILENO;
 use libc::STDOUT_FILENO;
+use listing::MAX_INPUT;
+use text::ROUND_CAPACITY;
 
 // What reading gave: how many bytes, or that the system refused.
 enum Input {
@@ -13,16 +14,18 @@ enum Input {
     Failed,
 }
 
-fn input_buffer() -> [u8; 20489]
+// Bytes for what is read.
+fn input_buffer() -> [u8; MAX_INPUT]
     ensures { λ r. ⌜ 20489 ≡ length r ⌝ }
 {
-    [0; 20489]
+    [0; MAX_INPUT]
 }
 
-fn text_buffer() -> [u8; 5138]
+// Bytes for the listing.
+fn text_buffer() -> [u8; ROUND_CAPACITY]
     ensures { λ r. ⌜ 5138 ≡ length r ⌝ }
 {
-    [0; 5138]
+    [0; ROUND_CAPACITY]
 }
 
 // One read of standard input: 0 bytes at its end, and else at most as many as the buffer holds.

@@ -1,0 +1,121 @@
+-- What settling left in the answer buffer, or its refusal, has the listing as its text.
+-- Assumes nothing.
+use mathlib.Core.Bool.{Bool, true, false}
+use mathlib.Core.List.{List}
+use mathlib.Core.Option.{none, some}
+use mathlib.Core.Path.{_≡_, refl, sym, ap, ap₂, _∙_}
+use Prim.Native.Nat.{ℕ, _≤_, _<_, min}
+use native.Mathlib.Nat.{min-eq-left, min-eq-right, min-le-left, le-trans}
+use native.Mathlib.Decide.{decLe}
+use native.Mathlib.Omega.{arith}
+use borrow.Author.Tests.{le-ltb}
+use lib.Dec.{ltb, lit<, lit≤}
+use lib.ListN.{length, take, drop, length-append, length-take, length-drop, List·getD-eq-default}
+use lib.Seq.{take-all, take-length, getD-take, length-take-le}
+use Rattle.arithmetic.specs.Writing.{overwrite}
+use Rattle.model.specs.declared.Refusal.{Refusal}
+use Rattle.model.specs.RoundSheet.{byte, settingsAt}
+use Rattle.model.specs.AnswerSheet.{answerLength}
+use Rattle.model.specs.Refusals.{firstOf, settleChecks}
+use Rattle.model.specs.Calls.{Written, granted, refused, settle}
+use Rattle.model.specs.Listing.{maxInput, listingBuffer, listing}
+use Rattle.sheets.proofs.Outcomes.{refused-some, granted-none}
+use Rattle.round.specs.declared.Settled.the-variants.{Granted, Refused}
+use Rattle.round.specs.Answers.{settledAs}
+use Rattle.text.specs.Text.{Text, textIn, roundCapacity, refusalCapacity, roundWritten, refusalWritten}
+use Rattle.text.proofs.Texts.{text-shown}
+use Rattle.text.proofs.Listings.{listing-refused, listing-settled}
+use Rattle.listing.specs.Listed.{listed}
+use Rattle.listing.proofs.Sheets.{settled-estimate, settled-value, settled-used}
+
+-- ---- the part of the input that is read
+
+read-all : (input : List ℕ) → take (min (length input) maxInput) input ≡ take maxInput input
+read-all input = go (decLe (length input) maxInput)
+  where
+    go : Dec (length input ≤ maxInput) → take (min (length input) maxInput) input ≡ take maxInput input
+    go (yes h) = ap (λ (k : ℕ). take k input) (min-eq-left h) ∙ take-length input ∙ sym (take-all maxInput input h)
+    go (no h) = let long : maxInput ≤ length input = omega arith in ap (λ (k : ℕ). take k input) (min-eq-right long)
+
+module _ (input : List ℕ) (end : ℕ) (size : end ≡ min (length input) maxInput) where
+  pub read-length : end ≡ length (take end input)
+  read-length = sym (length-take-le end input (rw size (min-le-left (length input) maxInput)))
+
+  pub read-part : take end input ≡ take maxInput input
+  read-part = ap (λ (k : ℕ). take k input) size ∙ read-all input
+
+-- bytes stay bytes
+part-small : (k : ℕ) (l : List ℕ) → ((j : ℕ) → byte l j < 256) → (j : ℕ) → byte (take k l) j < 256
+part-small k l small j = go (decLe k j)
+  where
+    go : Dec (k ≤ j) → byte (take k l) j < 256
+    go (yes h) = rw (List·getD-eq-default (take k l) 0 (short h)) (lit< tt)
+      where
+        short : k ≤ j → length (take k l) ≤ j
+        short h = le-trans (rw (length-take k l) (min-le-left k (length l))) h
+    go (no h) = rw (getD-take k l j 0 (omega arith)) (small j)
+
+-- ---- the text of what settling gives
+
+module _ (input buffer answer left : List ℕ) (end : ℕ) (size : end ≡ min (length input) maxInput) (zeros : answer ≡ listingBuffer)
+    (room : 5138 ≤ length buffer) where
+  abbrev sheet : List ℕ
+  sheet = take maxInput input
+
+  settled-here : (w : Written) → w ≡ settle (take end input) answer → w ≡ settle sheet listingBuffer
+  settled-here w e = e ∙ ap₂ settle (read-part input end size) zeros
+
+  -- a buffer that has room for a round's text has room for a refusal's
+  refusal-room : (text : List ℕ) → textIn refusalCapacity text buffer ≡ textIn roundCapacity text buffer
+  refusal-room text = rw (le-ltb (length buffer) 23 (le-trans (lit≤ tt) room), le-ltb (length buffer) 5138 room)
+
+  pub refusal-listed : (r : Refusal) → settledAs (Refused r) left ≡ settle (take end input) answer
+      → refusalWritten (r .number) (r .place) buffer ≡ listed input buffer
+  unfolding listed settle
+  refusal-listed r e =
+      listing-refused input buffer r
+      (refused-some (firstOf (settleChecks sheet listingBuffer)) (answerLength (settingsAt sheet .n)) r (sym (ap (λ (w : Written). w .verdict) (settled-here _ e))))
+      ∙ refusal-room (listing input)
+
+  pub round-listed : ((j : ℕ) → byte input j < 256) → (n : ℕ) → settledAs (Granted n) left ≡ settle (take end input) answer
+      → roundWritten left buffer ≡ listed input buffer
+  unfolding listed settle
+  round-listed small n e =
+      ap (λ (l : List ℕ). roundWritten l buffer) (ap (λ (w : Written). w .buffer) (settled-here _ e))
+      ∙ listing-settled input buffer passed
+      (settled-estimate sheet bytes listingBuffer passed)
+      (settled-value sheet bytes listingBuffer passed)
+      (settled-used sheet bytes listingBuffer passed)
+    where
+      bytes : (j : ℕ) → byte sheet j < 256
+      bytes = part-small maxInput input small
+
+      passed : firstOf (settleChecks sheet listingBuffer) ≡ none
+      passed = granted-none (firstOf (settleChecks sheet listingBuffer)) (answerLength (settingsAt sheet .n)) n (sym (ap (λ (w : Written). w .verdict) (settled-here _ e)))
+
+-- the bytes up to the answered length are the listing
+pub listing-shown : (input buffer : List ℕ) → 5138 ≤ length buffer → take (listed input buffer .size) (listed input buffer .buffer) ≡ listing input
+unfolding listed
+listing-shown input buffer room = text-shown 5138 (listing input) buffer room
+
+-- a buffer that keeps its length holds the whole listing
+overwrite-fits : (new old : List ℕ) → length (overwrite new old) ≡ length old → length new ≤ length old
+unfolding overwrite
+overwrite-fits new old same =
+    let whole = length-append new (drop (length new) old) in
+    let rest = length-drop (length new) old in
+    omega arith
+
+pub listing-fits : (input buffer new : List ℕ) (size : ℕ) → size ≡ listed input buffer .size → new ≡ listed input buffer .buffer
+    → length new ≡ length buffer
+    → size ≤ length new
+unfolding listed
+listing-fits input buffer new size answered written same = go (ltb (length buffer) roundCapacity) refl
+  where
+    go : (short : Bool) → ltb (length buffer) roundCapacity ≡ short → size ≤ length new
+    go true e = let none : size ≡ 0 = rw e at answered in omega arith
+    go false e =
+        let all : size ≡ length (listing input) = rw e at answered in
+        let text : new ≡ overwrite (listing input) buffer = rw e at written in
+        let fits = overwrite-fits (listing input) buffer (sym (ap length text) ∙ same) in
+        omega arith

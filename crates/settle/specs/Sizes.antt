@@ -1,0 +1,8 @@
+-- How much was read: no more than the buffer holds.
+use Prim.Native.Nat.{ℕ, _≤_}
+use Rattle.settle.specs.declared.Input.{Input}
+use Rattle.settle.specs.declared.Input.the-variants.{Read, Failed}
+
+abbrev pub Within : Input → ℕ → Type 0
+Within (Read size) room = size ≤ room
+Within Failed room = Unit

@@ -1,35 +1,20 @@
-//! TO BE FINISHED by the developer of the C library: the proved library behind its C interface.
-//! Compiled only with the feature `linked`. `tohiranga_settle` is agreed; the other calls are
-//! proposed here in the same manner. An answer below 2^32 is a grant, any other is
-//! number × 2^32 + place. After a refusal nothing lent is written.
-//!
-//! ```c
-//! struct tohiranga_settings { uint8_t n, m, rule, estimator; uint32_t window; };
-//! struct tohiranga_plan { struct tohiranga_settings settings; uint32_t accuracy, rounds; };
-//!
-//! uint64_t tohiranga_settle(const uint8_t *sheet, size_t sheet_len,
-//!                           uint8_t *answer, size_t answer_len);
-//! uint64_t tohiranga_read(const uint8_t *sheet, size_t sheet_len,
-//!                         struct tohiranga_settings *settings,
-//!                         uint8_t *marks, size_t marks_len,
-//!                         int32_t *readings, size_t readings_len);
-//! uint64_t tohiranga_write(const struct tohiranga_settings *settings,
-//!                          const uint8_t *marks, size_t marks_len,
-//!                          const int32_t *readings, size_t readings_len,
-//!                          uint8_t *sheet, size_t sheet_len);
-//! uint64_t tohiranga_row(const uint8_t *sheet, size_t sheet_len, uint32_t cabinet);
-//! uint64_t tohiranga_plan(const struct tohiranga_settings *settings,
-//!                         uint32_t accuracy, uint32_t rounds, struct tohiranga_plan *plan);
-//! uint64_t tohiranga_step(const struct tohiranga_plan *plan, struct tohiranga_plan *next);
-//! uint64_t tohiranga_target(const struct tohiranga_settings *settings,
-//!                           uint32_t accuracy, uint32_t target);
-//! ```
-//!
-//! Grants: settle and write answer a length, read answers E, plan and step the rounds done,
-//! target the count. Row refuses nothing; it answers start × 2^32 + length of the part, 0 for
-//! an empty part (no other part starts at 0).
+//! The proved library behind its C interface (include/tohiranga.h), compiled with the feature
+//! `linked`. An answer below 2^32 is a grant, any other is number × 2^32 + place. After a refusal
+//! nothing lent is written, and the settings and the plan handed over are zeros.
 
-use crate::{Engine, Plan, Settings};
+use crate::{number, Engine, Plan, Settings};
+
+#[repr(C)]
+struct Opening {
+    answer: u64,
+    settings: Settings,
+}
+
+#[repr(C)]
+struct Planning {
+    answer: u64,
+    plan: Plan,
+}
 
 extern "C" {
     fn tohiranga_settle(
@@ -41,14 +26,13 @@ extern "C" {
     fn tohiranga_read(
         sheet: *const u8,
         sheet_len: usize,
-        settings: *mut Settings,
         marks: *mut u8,
         marks_len: usize,
         readings: *mut i32,
         readings_len: usize,
-    ) -> u64;
+    ) -> Opening;
     fn tohiranga_write(
-        settings: *const Settings,
+        settings: Settings,
         marks: *const u8,
         marks_len: usize,
         readings: *const i32,
@@ -57,14 +41,18 @@ extern "C" {
         sheet_len: usize,
     ) -> u64;
     fn tohiranga_row(sheet: *const u8, sheet_len: usize, cabinet: u32) -> u64;
-    fn tohiranga_plan(
-        settings: *const Settings,
-        accuracy: u32,
-        rounds: u32,
-        plan: *mut Plan,
-    ) -> u64;
-    fn tohiranga_step(plan: *const Plan, next: *mut Plan) -> u64;
-    fn tohiranga_target(settings: *const Settings, accuracy: u32, target: u32) -> u64;
+    fn tohiranga_plan(settings: Settings, accuracy: u32, rounds: u32) -> Planning;
+    fn tohiranga_step(plan: Plan) -> Planning;
+    fn tohiranga_target(settings: Settings, accuracy: u32, target: u32) -> u64;
+}
+
+fn hand_back(given: Planning, plan: &mut Plan) -> u64 {
+    if number(given.answer) == 0 {
+        *plan = given.plan;
+    } else {
+        assert_eq!(given.plan, Plan::default(), "a refusal hands over zeros");
+    }
+    given.answer
 }
 
 pub struct Linked;
@@ -86,23 +74,28 @@ impl Engine for Linked {
         marks: &mut [u8],
         readings: &mut [i32],
     ) -> u64 {
-        unsafe {
+        let given = unsafe {
             tohiranga_read(
                 sheet.as_ptr(),
                 sheet.len(),
-                settings,
                 marks.as_mut_ptr(),
                 marks.len(),
                 readings.as_mut_ptr(),
                 readings.len(),
             )
+        };
+        if number(given.answer) == 0 {
+            *settings = given.settings;
+        } else {
+            assert_eq!(given.settings, Settings::default(), "a refusal hands over zeros");
         }
+        given.answer
     }
 
     fn write(&self, settings: &Settings, marks: &[u8], readings: &[i32], sheet: &mut [u8]) -> u64 {
         unsafe {
             tohiranga_write(
-                settings,
+                *settings,
                 marks.as_ptr(),
                 marks.len(),
                 readings.as_ptr(),
@@ -120,14 +113,14 @@ impl Engine for Linked {
     }
 
     fn plan(&self, settings: &Settings, accuracy: u32, rounds: u32, plan: &mut Plan) -> u64 {
-        unsafe { tohiranga_plan(settings, accuracy, rounds, plan) }
+        hand_back(unsafe { tohiranga_plan(*settings, accuracy, rounds) }, plan)
     }
 
     fn step(&self, plan: &Plan, next: &mut Plan) -> u64 {
-        unsafe { tohiranga_step(plan, next) }
+        hand_back(unsafe { tohiranga_step(*plan) }, next)
     }
 
     fn target(&self, settings: &Settings, accuracy: u32, target: u32) -> u64 {
-        unsafe { tohiranga_target(settings, accuracy, target) }
+        unsafe { tohiranga_target(*settings, accuracy, target) }
     }
 }

@@ -1,0 +1,256 @@
+/* Bad input through the C interface. Every buffer that is lent stands between two pages that may not be touched, once against
+ * the page before and once against the page after, so a byte read or written outside of it ends the test. */
+#define _DEFAULT_SOURCE
+#include "tohiranga.h"
+#include <inttypes.h>
+#include <stdio.h>
+#include <stdlib.h>
+#include <string.h>
+#include <sys/mman.h>
+#include <unistd.h>
+
+static unsigned long tried;
+
+static void expect(int holds, const char *what, int line) {
+    tried++;
+    if (!holds) {
+        printf("FAILED: line %d: %s\n", line, what);
+        exit(1);
+    }
+}
+#define EXPECT(holds) expect((holds), #holds, __LINE__)
+
+#define REFUSED(number, place) (((uint64_t)(number) << 32) + (place))
+
+/* ---- Lent buffers */
+
+enum { OLD = 0xa5, PAGE = 4096, LARGEST = 8 * PAGE };
+
+struct lent {
+    uint8_t *pages, *start;
+    size_t len, room;
+};
+
+static int against_the_end;
+
+/* A buffer of old contents between two forbidden pages. */
+static struct lent lend(size_t len) {
+    struct lent l = {.len = len, .room = (len + PAGE - 1) / PAGE * PAGE + (len == 0 ? PAGE : 0)};
+    l.pages = mmap(NULL, l.room + 2 * PAGE, PROT_NONE, MAP_PRIVATE | MAP_ANONYMOUS, -1, 0);
+    EXPECT(l.pages != MAP_FAILED);
+    EXPECT(mprotect(l.pages + PAGE, l.room, PROT_READ | PROT_WRITE) == 0);
+    memset(l.pages + PAGE, OLD, l.room);
+    l.start = l.pages + PAGE + (against_the_end ? l.room - len : 0);
+    return l;
+}
+
+/* Whether every byte from `from` on, and every byte of the page beside the buffer, is as it was. */
+static int kept_from(struct lent l, size_t from) {
+    for (uint8_t *p = l.pages + PAGE; p < l.pages + PAGE + l.room; p++)
+        if (*p != OLD && !(p >= l.start && p < l.start + from))
+            return 0;
+    return 1;
+}
+
+static int kept(struct lent l) { return kept_from(l, 0); }
+
+static void give_back(struct lent l) { munmap(l.pages, l.room + 2 * PAGE); }
+
+static struct lent lend_copy(const void *bytes, size_t len) {
+    struct lent l = lend(len);
+    if (len != 0)
+        memcpy(l.start, bytes, len);
+    return l;
+}
+
+/* ---- A sheet that settles: every reading is present, cabinet r reads r */
+
+static size_t make_sheet(uint8_t *sheet, uint8_t n, uint8_t rule) {
+    size_t entries = TOHIRANGA_ENTRIES(n, rule);
+    memset(sheet, 0, TOHIRANGA_SHEET_SIZE(n, rule));
+    sheet[0] = n;
+    sheet[1] = (uint8_t)((n - 1) / 3);
+    sheet[2] = rule;
+    sheet[3] = TOHIRANGA_MEDIAN;
+    sheet[4] = 100;
+    memset(sheet + 8, 1, entries);
+    for (size_t e = 0; e < entries; e++)
+        sheet[8 + entries + 4 * e] = (uint8_t)(rule == TOHIRANGA_CCA ? e / n : e);
+    return 8 + 5 * entries;
+}
+
+static uint64_t settle(struct lent sheet, struct lent answer) {
+    return tohiranga_settle(sheet.start, sheet.len, answer.start, answer.len);
+}
+
+static void settle_bad(const uint8_t *good, size_t len, uint8_t n) {
+    size_t size = TOHIRANGA_ANSWER_SIZE(n);
+    struct lent sheet = lend_copy(good, len), room = lend(size), wide = lend(size + 7), tight = lend(size - 1), none = lend(0);
+    EXPECT(settle(sheet, room) == size && kept_from(room, size));
+    EXPECT(settle(sheet, wide) == size && kept_from(wide, size));
+    EXPECT(memcmp(room.start, wide.start, size) == 0 && room.start[0] == n && room.start[1] == n);
+    EXPECT(settle(sheet, tight) == REFUSED(7, 0) && kept(tight));
+    EXPECT(settle(sheet, none) == REFUSED(7, 0) && kept(none));
+    EXPECT(tohiranga_settle(sheet.start, sheet.len, NULL, 0) == REFUSED(7, 0));
+    EXPECT(tohiranga_settle(NULL, 0, NULL, 0) == REFUSED(1, 0));
+    EXPECT(memcmp(sheet.start, good, len) == 0);
+    give_back(room), room = lend(size);
+    EXPECT(tohiranga_settle(NULL, 0, room.start, room.len) == REFUSED(1, 0) && kept(room));
+    for (size_t cut = 0; cut < len; cut = cut < 9 ? cut + 1 : cut + 97 < len - 1 ? cut + 97 : cut < len - 1 ? len - 1 : len) {
+        struct lent part = lend_copy(good, cut);
+        EXPECT(settle(part, room) == (cut < 8 ? REFUSED(1, 0) : REFUSED(6, 0)) && kept(room));
+        give_back(part);
+    }
+    struct lent longer = lend(len + 1);
+    memcpy(longer.start, good, len);
+    EXPECT(settle(longer, room) == REFUSED(6, 0) && kept(room));
+    sheet.start[len - 1] = 1; /* the top byte of the last reading */
+    sheet.start[8] = 2;
+    EXPECT(settle(sheet, room) == REFUSED(8, 0) && kept(room));
+    sheet.start[8] = 1;
+    size_t last = (len - 8) / 5 - 1;
+    sheet.start[8 + last] = 0;
+    EXPECT(settle(sheet, room) == REFUSED(9, last) && kept(room));
+    give_back(sheet), give_back(room), give_back(wide), give_back(tight), give_back(none), give_back(longer);
+}
+
+/* ---- The reader and the writer */
+
+static struct tohiranga_opening read_into(struct lent sheet, struct lent marks, struct lent readings) {
+    return tohiranga_read(sheet.start, sheet.len, marks.start, marks.len, (int32_t *)(void *)readings.start, readings.len / 4);
+}
+
+static uint64_t write_from(struct tohiranga_settings settings, struct lent marks, struct lent readings, struct lent sheet) {
+    return tohiranga_write(settings, marks.start, marks.len, (const int32_t *)(const void *)readings.start, readings.len / 4,
+                           sheet.start, sheet.len);
+}
+
+static int refused_opening(struct tohiranga_opening o, uint64_t answer) {
+    return o.answer == answer && o.settings.n == 0 && o.settings.m == 0 && o.settings.rule == 0 && o.settings.estimator == 0 &&
+           o.settings.window == 0;
+}
+
+static void read_and_write_bad(const uint8_t *good, size_t len, uint8_t n, uint8_t rule) {
+    size_t entries = TOHIRANGA_ENTRIES(n, rule);
+    struct lent sheet = lend_copy(good, len), none = lend(0);
+    struct lent marks = lend(entries), readings = lend(4 * entries);
+    struct lent few_marks = lend(entries - 1), few_readings = lend(4 * entries - 4);
+    EXPECT(refused_opening(read_into(sheet, few_marks, readings), REFUSED(7, 0)));
+    EXPECT(refused_opening(read_into(sheet, marks, few_readings), REFUSED(7, 0)));
+    EXPECT(refused_opening(tohiranga_read(sheet.start, sheet.len, NULL, 0, NULL, 0), REFUSED(7, 0)));
+    EXPECT(refused_opening(tohiranga_read(NULL, 0, NULL, 0, NULL, 0), REFUSED(1, 0)));
+    EXPECT(refused_opening(read_into(none, marks, readings), REFUSED(1, 0)));
+    EXPECT(kept(marks) && kept(readings) && kept(few_marks) && kept(few_readings));
+    struct tohiranga_opening o = read_into(sheet, marks, readings);
+    EXPECT(o.answer == entries && o.settings.n == n && o.settings.rule == rule && o.settings.window == 100);
+    EXPECT(o.settings.m == (n - 1) / 3 && o.settings.estimator == TOHIRANGA_MEDIAN);
+    EXPECT(kept_from(marks, entries) && kept_from(readings, 4 * entries));
+
+    struct lent room = lend(len), wide = lend(len + 9), tight = lend(len - 1);
+    EXPECT(write_from(o.settings, marks, readings, tight) == REFUSED(7, 0) && kept(tight));
+    EXPECT(write_from(o.settings, few_marks, readings, room) == REFUSED(6, 0) && kept(room));
+    EXPECT(write_from(o.settings, marks, few_readings, room) == REFUSED(6, 0) && kept(room));
+    EXPECT(tohiranga_write(o.settings, NULL, 0, NULL, 0, NULL, 0) == REFUSED(6, 0));
+    EXPECT(tohiranga_write(o.settings, marks.start, marks.len, (int32_t *)(void *)readings.start, entries, NULL, 0) == REFUSED(7, 0));
+    struct tohiranga_settings zeros = {0, 0, 0, 0, 0};
+    EXPECT(tohiranga_write(zeros, NULL, 0, NULL, 0, NULL, 0) == REFUSED(2, 0));
+    EXPECT(write_from(o.settings, marks, readings, room) == len && memcmp(room.start, good, len) == 0 && kept_from(room, len));
+    EXPECT(write_from(o.settings, marks, readings, wide) == len && memcmp(wide.start, good, len) == 0 && kept_from(wide, len));
+    give_back(sheet), give_back(none), give_back(marks), give_back(readings), give_back(few_marks), give_back(few_readings);
+    give_back(room), give_back(wide), give_back(tight);
+}
+
+/* ---- Rows */
+
+static void rows_bad(const uint8_t *good, size_t len, uint8_t n, uint8_t rule) {
+    size_t width = rule == TOHIRANGA_CCA ? n : 1, entries = width * n;
+    struct lent sheet = lend_copy(good, len), cut = lend_copy(good, len - 1);
+    for (uint32_t r = 0; r < n; r++) {
+        uint64_t row = tohiranga_row(sheet.start, sheet.len, r);
+        EXPECT(tohiranga_row_start(row) == 8 + entries + 4 * width * r && tohiranga_row_length(row) == 4 * width);
+        EXPECT(sheet.start[tohiranga_row_start(row)] == r);
+        EXPECT(tohiranga_row(cut.start, cut.len, r) == 0);
+    }
+    EXPECT(tohiranga_row(sheet.start, sheet.len, n) == 0);
+    EXPECT(tohiranga_row(sheet.start, sheet.len, UINT32_MAX) == 0);
+    EXPECT(tohiranga_row(NULL, 0, 0) == 0);
+    give_back(sheet), give_back(cut);
+}
+
+/* ---- Plans */
+
+static int refused_planning(struct tohiranga_planning p, uint64_t answer) {
+    return p.answer == answer && p.plan.settings.n == 0 && p.plan.settings.m == 0 && p.plan.settings.rule == 0 &&
+           p.plan.settings.estimator == 0 && p.plan.settings.window == 0 && p.plan.accuracy == 0 && p.plan.rounds == 0;
+}
+
+static void plans(void) {
+    struct tohiranga_settings c = {4, 1, TOHIRANGA_FCA, TOHIRANGA_MEDIAN, 100}, bad = c;
+    const uint32_t windows[4] = {100, 50, 25, 13}, accuracies[4] = {100, 125, 138, 145};
+    struct tohiranga_plan p = tohiranga_plan(c, 100, 0).plan;
+    for (uint32_t k = 0; k < 4; k++) {
+        struct tohiranga_planning at = tohiranga_plan(c, 100, k);
+        EXPECT(at.answer == k && at.plan.rounds == k && at.plan.settings.window == windows[k] && at.plan.accuracy == accuracies[k]);
+        EXPECT(memcmp(&at.plan, &p, sizeof p) == 0);
+        p = tohiranga_step(p).plan;
+    }
+    EXPECT(tohiranga_plan(c, TOHIRANGA_MAX_ACCURACY, TOHIRANGA_MAX_ROUNDS).answer == 32);
+    EXPECT(refused_planning(tohiranga_plan(c, TOHIRANGA_MAX_ACCURACY + 1, 0), REFUSED(11, 0)));
+    EXPECT(refused_planning(tohiranga_plan(c, 100, 33), REFUSED(11, 0)));
+    EXPECT(refused_planning(tohiranga_plan(c, UINT32_MAX, UINT32_MAX), REFUSED(11, 0)));
+    p.rounds = 31, p.accuracy = 1100000000;
+    EXPECT(tohiranga_step(p).answer == 32);
+    EXPECT(refused_planning(tohiranga_step(tohiranga_step(p).plan), REFUSED(11, 0)));
+    p.accuracy++;
+    EXPECT(refused_planning(tohiranga_step(p), REFUSED(11, 0)));
+    EXPECT(refused_planning(tohiranga_step(tohiranga_step(p).plan), REFUSED(2, 0)));
+    bad.n = 3;
+    EXPECT(refused_planning(tohiranga_plan(bad, 100, 0), REFUSED(3, 0)) && tohiranga_target(bad, 100, 1) == REFUSED(3, 0));
+    bad.n = 65;
+    EXPECT(refused_planning(tohiranga_plan(bad, 100, 0), REFUSED(2, 0)) && tohiranga_target(bad, 100, 1) == REFUSED(2, 0));
+    bad = c, bad.rule = 2;
+    EXPECT(refused_planning(tohiranga_plan(bad, 100, 0), REFUSED(4, 0)) && tohiranga_target(bad, 100, 1) == REFUSED(4, 0));
+    bad = c, bad.window = TOHIRANGA_MAX_WINDOW + 1;
+    EXPECT(refused_planning(tohiranga_plan(bad, 100, 0), REFUSED(5, 0)) && tohiranga_target(bad, 100, 1) == REFUSED(5, 0));
+    EXPECT(tohiranga_target(c, TOHIRANGA_MAX_ACCURACY + 1, 1) == REFUSED(11, 0));
+    EXPECT(tohiranga_target(c, 100, 0) == REFUSED(12, 0));
+    uint64_t rounds = tohiranga_target(c, 100, 1);
+    EXPECT(rounds <= 32 && tohiranga_plan(c, 100, (uint32_t)rounds).plan.settings.window <= 1);
+}
+
+/* ---- Case 1 of the scope, with old bytes behind the answer sheet */
+
+static void case_1(void) {
+    const uint8_t sheet[28] = {4, 1, 0, 1, 10, 0, 0, 0, 1, 1, 1, 1, 0, 0, 0, 0, 4, 0, 0, 0, 10, 0, 0, 0, 0xf4, 1, 0, 0};
+    const uint8_t wanted[31] = {4, 3, 4, 0, 0, 0, 5, 0, 0, 0, 1, 1, 1, 2, 0, 0, 0, 0, 4, 0, 0, 0, 10, 0, 0, 0, 4, 0, 0, 0, OLD};
+    uint8_t answer[31];
+    memset(answer, OLD, sizeof answer);
+    EXPECT(tohiranga_settle(sheet, sizeof sheet, answer, sizeof answer) == 30 && memcmp(answer, wanted, sizeof answer) == 0);
+    uint8_t narrow[28];
+    memcpy(narrow, sheet, sizeof narrow);
+    narrow[4] = 9; /* case 2 */
+    memset(answer, OLD, sizeof answer);
+    EXPECT(tohiranga_settle(narrow, sizeof narrow, answer, sizeof answer) == REFUSED(10, 0));
+    for (size_t i = 0; i < sizeof answer; i++)
+        EXPECT(answer[i] == OLD);
+}
+
+int main(void) {
+    EXPECT(sysconf(_SC_PAGESIZE) == PAGE);
+    EXPECT(sizeof(struct tohiranga_settings) == 8 && sizeof(struct tohiranga_plan) == 16);
+    EXPECT(sizeof(struct tohiranga_opening) == 16 && sizeof(struct tohiranga_planning) == 24);
+    case_1();
+    plans();
+    static uint8_t sheet[LARGEST];
+    const uint8_t sizes[] = {1, 2, 4, 7, 16, 33, 64};
+    for (against_the_end = 0; against_the_end < 2; against_the_end++)
+        for (size_t i = 0; i < sizeof sizes; i++)
+            for (uint8_t rule = 0; rule < 2; rule++) {
+                size_t len = make_sheet(sheet, sizes[i], rule);
+                settle_bad(sheet, len, sizes[i]);
+                read_and_write_bad(sheet, len, sizes[i], rule);
+                rows_bad(sheet, len, sizes[i], rule);
+            }
+    printf("bad input through C: %lu expectations met\n", tried);
+    return 0;
+}

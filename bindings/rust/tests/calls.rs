@@ -1,0 +1,87 @@
+//! Every call of the wrapper, granted and refused, with empty buffers and buffers shorter by one.
+use tohiranga::*;
+
+const SETTINGS: Settings = Settings { n: 4, m: 1, rule: FCA, estimator: MEDIAN, window: 10 };
+const READINGS: [i32; 4] = [-7, 4, 10, 500];
+
+fn refused<T>(number: u32, place: u32) -> Result<T, Refusal> {
+    Err(Refusal { number, place })
+}
+
+fn sheet() -> [u8; 28] {
+    let mut sheet = [0; 28];
+    assert_eq!(write(SETTINGS, &[1; 4], &READINGS, &mut sheet), Ok(28));
+    sheet
+}
+
+#[test]
+fn settles() {
+    let mut answer = [0xa5; 31];
+    assert_eq!(settle(&sheet(), &mut answer), refused(10, 0));
+    assert_eq!(answer, [0xa5; 31]);
+    let mut wide = sheet();
+    wide[4] = 20;
+    assert_eq!(settle(&wide, &mut answer), Ok(30));
+    assert_eq!((answer[1], answer[30]), (3, 0xa5));
+    assert_eq!(settle(&wide, &mut answer[..29]), refused(7, 0));
+    assert_eq!(settle(&wide[..27], &mut answer), refused(6, 0));
+    assert_eq!(settle(&[], &mut []), refused(1, 0));
+}
+
+#[test]
+fn reads_back_what_was_written() {
+    let (mut marks, mut readings) = ([9; 5], [9; 5]);
+    assert_eq!(read(&sheet(), &mut marks, &mut readings), Ok(SETTINGS));
+    assert_eq!((marks, readings), ([1, 1, 1, 1, 9], [-7, 4, 10, 500, 9]));
+    assert_eq!(read(&sheet(), &mut marks[..3], &mut readings), refused(7, 0));
+    assert_eq!(read(&sheet(), &mut marks, &mut readings[..3]), refused(7, 0));
+    assert_eq!(read(&[], &mut [], &mut []), refused(1, 0));
+    assert_eq!(SETTINGS.entries(), 4);
+}
+
+#[test]
+fn refuses_to_write() {
+    let mut buffer = [0xa5; 28];
+    assert_eq!(write(SETTINGS, &[1; 4], &READINGS, &mut buffer[..27]), refused(7, 0));
+    assert_eq!(write(SETTINGS, &[1; 3], &READINGS, &mut buffer), refused(6, 0));
+    assert_eq!(write(SETTINGS, &[1; 4], &READINGS[..3], &mut buffer), refused(6, 0));
+    assert_eq!(write(SETTINGS, &[1, 1, 2, 1], &READINGS, &mut buffer), refused(8, 2));
+    assert_eq!(write(SETTINGS, &[1, 1, 1, 0], &READINGS, &mut buffer), refused(9, 3));
+    assert_eq!(write(SETTINGS, &[], &[], &mut []), refused(6, 0));
+    assert_eq!(buffer, [0xa5; 28]);
+}
+
+#[test]
+fn shows_rows() {
+    let sheet = sheet();
+    for (cabinet, reading) in READINGS.iter().enumerate() {
+        assert_eq!(row(&sheet, cabinet as u32), reading.to_le_bytes());
+    }
+    assert!(row(&sheet, 4).is_empty() && row(&sheet, u32::MAX).is_empty());
+    assert!(row(&sheet[..27], 0).is_empty() && row(&[], 0).is_empty());
+}
+
+#[test]
+fn plans() {
+    let settings = Settings { window: 100, ..SETTINGS };
+    let mut plan = settings.plan(100, 0).unwrap();
+    for (rounds, window, accuracy) in [(1, 50, 125), (2, 25, 138), (3, 13, 145)] {
+        plan = plan.step().unwrap();
+        assert_eq!((plan.rounds, plan.settings.window, plan.accuracy), (rounds, window, accuracy));
+        assert_eq!(settings.plan(100, rounds), Ok(plan));
+    }
+    assert_eq!(settings.plan(1_000_000_001, 0), refused(11, 0));
+    assert_eq!(settings.plan(100, 33), refused(11, 0));
+    assert_eq!(settings.plan(100, 32).unwrap().step(), refused(11, 0));
+    assert_eq!(Plan::default().step(), refused(2, 0));
+    assert_eq!(settings.rounds_for(100, 0), refused(12, 0));
+    let rounds = settings.rounds_for(100, 1).unwrap();
+    assert!(settings.plan(100, rounds).unwrap().settings.window <= 1);
+}
+
+#[test]
+fn says_what_each_refusal_means() {
+    for number in 1..=12 {
+        assert_ne!(Refusal { number, place: 0 }.meaning(), "no refusal of this library");
+    }
+}

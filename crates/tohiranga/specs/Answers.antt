@@ -1,0 +1,63 @@
+-- What the calls of the C interface hand over, in document 01's terms. "Nothing lent is written" by a refusal, and the settings and the plan
+-- that it hands over are zeros, which every call refuses.
+--   packedRefusal, packed    a refusal as number × 2^32 + place; a length or a count, or a refusal
+--   settingsOf, planOf       settings and a plan, as C lays them out
+--   openingOf                the reader's answer: the number of entries, with the settings
+--   planningOf               the answer of the planner and of a step: the rounds done, with the plan
+--   partIn                   the part of a sheet that start × 2^32 + length names
+--   Fits                     a count for a target, or a refusal, packed
+use mathlib.Core.List.{List}
+use mathlib.Core.Path.{_≡_}
+use Prim.Native.Nat.{ℕ, _+_, _*_, _/_, _%_}
+use lib.ListN.{take, drop}
+use Rattle.model.specs.declared.Refusal.{Refusal}
+use Rattle.model.specs.declared.Settings.{Settings}
+use Rattle.model.specs.RoundSheet.{entryCount}
+use Rattle.model.specs.Planner.{Plan}
+use Rattle.model.specs.Calls.{Verdict, granted, refused, Target}
+use Rattle.tohiranga.specs.declared.Sizes.{Sizes}
+use Rattle.tohiranga.specs.declared.Schedule.{Schedule}
+use Rattle.tohiranga.specs.declared.Opening.{Opening}
+use Rattle.tohiranga.specs.declared.Planning.{Planning}
+
+abbrev pub packedRefusal : Refusal → ℕ
+packedRefusal r = r .number * 4294967296 + r .place
+
+abbrev pub packed : Verdict ℕ → ℕ
+packed (granted size) = size
+packed (refused r) = packedRefusal r
+
+abbrev pub settingsOf : Sizes → Settings
+settingsOf c = record { n = c .n; m = c .m; rule = c .rule; estimator = c .estimator; window = c .window }
+
+abbrev pub sizesOf : Settings → Sizes
+sizesOf c = record { n = c .n; m = c .m; rule = c .rule; estimator = c .estimator; window = c .window }
+
+abbrev pub planOf : Schedule → Plan
+planOf p = record { settings = settingsOf (p .settings); accuracy = p .accuracy; rounds = p .rounds }
+
+abbrev pub scheduleOf : Plan → Schedule
+scheduleOf p = record { settings = sizesOf (p .settings); accuracy = p .accuracy; rounds = p .rounds }
+
+abbrev pub noSizes : Sizes
+noSizes = record { n = 0; m = 0; rule = 0; estimator = 0; window = 0 }
+
+abbrev pub noSchedule : Schedule
+noSchedule = record { settings = noSizes; accuracy = 0; rounds = 0 }
+
+abbrev pub openingOf : Verdict Settings → Opening
+openingOf (granted c) = record { answer = entryCount c; settings = sizesOf c }
+openingOf (refused r) = record { answer = packedRefusal r; settings = noSizes }
+
+abbrev pub planningOf : Verdict Plan → Planning
+planningOf (granted p) = record { answer = p .rounds; plan = scheduleOf p }
+planningOf (refused r) = record { answer = packedRefusal r; plan = noSchedule }
+
+abbrev pub partIn : List ℕ → ℕ → List ℕ
+partIn s answer = take (answer % 4294967296) (drop (answer / 4294967296) s)
+
+-- which count that reaches the target is free
+pub record Fits (c : Settings) (κ target answer : ℕ) : Type 0 where
+  pub verdict : Verdict ℕ
+  pub is-packed : answer ≡ packed verdict
+  pub is-target : Target c κ target verdict

@@ -13,35 +13,24 @@ fn number(name: &[u8], value: u32) {
 fn usage() {
     io::write_all(
         1,
-        b"usage: plan N M RULE ESTIMATOR WINDOW ACCURACY rounds COUNT [T]\n",
+        b"usage: plan N M RULE ESTIMATOR WINDOW ACCURACY rounds COUNT [T]\n       plan N M RULE ESTIMATOR WINDOW ACCURACY target TICKS [T]\n",
     );
     io::write_all(
         1,
-        b"       plan N M RULE ESTIMATOR WINDOW ACCURACY target TICKS [T]\n",
-    );
-    io::write_all(1, b"\n");
-    io::write_all(1, b"  N          cabinets, 1 to 64\n");
-    io::write_all(1, b"  M          faults planned for; N is at least 3M+1\n");
-    io::write_all(1, b"  RULE       fca or cca\n");
-    io::write_all(1, b"  ESTIMATOR  average, median or midpoint\n");
-    io::write_all(
-        1,
-        b"  WINDOW     ticks, 0 to 1000000; a tick is 1/16777216 second\n",
-    );
-    io::write_all(1, b"  ACCURACY   ticks, 0 to 1000000000\n");
-    io::write_all(1, b"  COUNT      rounds, 0 to 32\n");
-    io::write_all(
-        1,
-        b"  TICKS      go on until the window is at or below this\n",
+        b"  N, M              cabinets, and faults planned for: 3M+1 <= N <= 64\n",
     );
     io::write_all(
         1,
-        b"  T          bad cabinets: faulty, or sound with a bad first reading\n",
+        b"  RULE, ESTIMATOR   fca or cca; average, median or midpoint\n",
     );
-    io::write_all(1, b"\n");
+    io::write_all(1, b"  WINDOW, ACCURACY  in ticks of 1/16777216 second\n");
     io::write_all(
         1,
-        b"Prints a line for each round: the rounds done, the window, the accuracy; given T, the limits that hold for it.\n",
+        b"  COUNT, TICKS      how many rounds, or the window to reach\n",
+    );
+    io::write_all(
+        1,
+        b"  T                 bad cabinets: shows the limits that hold for them\n",
     );
 }
 
@@ -116,22 +105,32 @@ fn in_32_bits(value: u64) -> u32 {
     }
 }
 
+// What a refusal of the planner means.
+fn explain(number: u8) {
+    if number == 2 {
+        io::write_all(1, b"N is 0 or above 64");
+        return;
+    }
+    if number == 3 {
+        io::write_all(1, b"N is below 3M+1");
+        return;
+    }
+    if number == 5 {
+        io::write_all(1, b"WINDOW is above 1000000");
+        return;
+    }
+    if number == 11 {
+        io::write_all(1, b"ACCURACY is above 1000000000, or COUNT above 32");
+        return;
+    }
+    io::write_all(1, b"the window after 32 rounds is above TICKS");
+}
+
 fn show_refusal(refusal: Refusal) {
     number(b"refused ", refusal.number as u32);
     number(b" ", refusal.place);
     io::write_all(1, b": ");
-    let number = refusal.number;
-    if number == 2 {
-        io::write_all(1, b"N is 0 or above 64");
-    } else if number == 3 {
-        io::write_all(1, b"N is below 3M+1");
-    } else if number == 5 {
-        io::write_all(1, b"WINDOW is above 1000000");
-    } else if number == 11 {
-        io::write_all(1, b"ACCURACY is above 1000000000, or COUNT above 32");
-    } else if number == 12 {
-        io::write_all(1, b"the window after 32 rounds is above TICKS");
-    }
+    explain(refusal.number);
     io::write_all(1, b"\n");
 }
 
@@ -248,6 +247,19 @@ fn is_number(value: u64) -> bool {
     value < numerals::LIMIT
 }
 
+// The ninth argument, where it is given.
+fn limit_at(is_limited: bool) -> u64 {
+    if is_limited { number_at(9, b"T") } else { 0 }
+}
+
+// The plan, and then the limits where they are asked for.
+fn answer(settings: Settings, accuracy: u32, aim: u8, last: u32, is_limited: bool, t: u32) {
+    let is_granted = show_plan(settings, accuracy, aim, last);
+    if is_granted & is_limited {
+        show_limits(settings, accuracy, t);
+    }
+}
+
 // Reads every argument, so that each bad one is complained about, and then answers.
 fn run(is_limited: bool) {
     let n = number_at(1, b"N");
@@ -258,21 +270,19 @@ fn run(is_limited: bool) {
     let accuracy = number_at(6, b"ACCURACY");
     let aim = aim_at(7);
     let last = number_at(8, b"COUNT or TICKS");
-    let t = if is_limited { number_at(9, b"T") } else { 0 };
+    let t = limit_at(is_limited);
     let are_words = (rule < 255) & (estimator < 255) & (aim < 255);
-    let are_numbers = is_number(n)
-        & is_number(m)
-        & is_number(window)
-        & is_number(accuracy)
-        & is_number(last)
-        & is_number(t);
-    if are_words & are_numbers {
+    let are_sizes = is_number(n) & is_number(m) & is_number(window);
+    if are_words & are_sizes & is_number(accuracy) & is_number(last) & is_number(t) {
         let settings = settings_of(n, m, rule, estimator, window);
-        let start = in_32_bits(accuracy);
-        let is_granted = show_plan(settings, start, aim, in_32_bits(last));
-        if is_granted & is_limited {
-            show_limits(settings, start, in_32_bits(t));
-        }
+        answer(
+            settings,
+            in_32_bits(accuracy),
+            aim,
+            in_32_bits(last),
+            is_limited,
+            in_32_bits(t),
+        );
     }
 }
 

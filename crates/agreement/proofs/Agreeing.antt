@@ -18,7 +18,7 @@ use Rattle.arithmetic.proofs.Sums.{total, total-ext}
 use Rattle.arithmetic.proofs.Writing.{length-table, getD-table}
 use Rattle.rounds.proofs.Natural.{accepted-present}
 use Rattle.rounds.proofs.Shifted.{is-numbered, nat-at, numbered-nat, average-nat, median-nat, midpoint-nat, estimate-nat, mean-nat}
-use Rattle.loops.proofs.Parts.{or-left, or-right}
+use Rattle.arithmetic.proofs.Bools.{or-left, or-right}
 use Rattle.estimates.specs.Values.{valueAt, presentAt, newValueOf}
 use Rattle.estimates.specs.Values.{estimateOf as estimateOfPresent}
 use Rattle.agreement.specs.Values.{acceptedAt, Remembered, keptAt, keptOf, countOf, estimateOf, valueOf, agreedOf, nothing}

@@ -57,8 +57,8 @@ module _ (w need : ℕ) (values kept₀ : List ℕ) where
           memory = m;
           exact = ap₂ (λ (x y : ℕ). x + y) (so-far .exact) (flag b ∙ ap bit e) ∙ sym (count-next (acceptedAt w need values) r);
           written =
-              ap (λ (l : List ℕ). set l r v) (so-far .written)
-              ∙ store-next (keptAt w need values) kept₀ r v (omega (arith, so-far .room)) (f ∙ ap (λ (t : Bool). cond t (getD values r 0) 4294967296) e);
+              store-next (keptAt w need values) r kept₀ kept v (so-far .written) (f ∙ ap (λ (t : Bool). cond t (getD values r 0) 4294967296) e)
+              (omega (arith, so-far .room));
         }
 
     -- all readings are kept

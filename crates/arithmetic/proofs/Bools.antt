@@ -49,6 +49,20 @@ pub or-false : {a b : Bool} → a ≡ false → b ≡ false → (a || b) ≡ fal
 or-false {a = true} p q = p
 or-false {a = false} p q = q
 
+-- a conjunction whose last part fails
+pub and-false : (a : Bool) {b : Bool} → b ≡ false → (a && b) ≡ false
+and-false true e = e
+and-false false e = refl
+
+-- the parts of a disjunction that fails
+pub or-left : (a b : Bool) → (a || b) ≡ false → a ≡ false
+or-left true b h = h
+or-left false b h = refl
+
+pub or-right : (a b : Bool) → (a || b) ≡ false → b ≡ false
+or-right true b h = clash refl h
+or-right false b h = h
+
 -- two tests that pass together are equal
 pub iff-eq : (a b : Bool) → (a ≡ true → b ≡ true) → (b ≡ true → a ≡ true) → a ≡ b
 iff-eq true true f g = refl

@@ -5,15 +5,11 @@ use mathlib.Core.Bool.{Bool, true, false}
 use mathlib.Core.Logic.{_⊎_, ⊎-elim}
 use mathlib.Core.Path.{_≡_, ap}
 use Prim.Native.Nat.{ℕ, _+_, _*_, _-_, _≤_, _<_}
-use native.Mathlib.Numerals.{add-one}
 use native.Mathlib.Omega.{arith}
 use Rattle.arithmetic.specs.Counting.{bit, count}
 use Rattle.arithmetic.proofs.Bools.{not-true-false}
 use Rattle.arithmetic.proofs.Counting.{bit-le-one}
-
-pub count-next : (p : ℕ → Bool) (i : ℕ) → count p (i + 1) ≡ count p i + bit (p i)
-unfolding count
-count-next p i = ap (count p) (add-one i)
+use Rattle.loops.proofs.Loops.{count-next}
 
 module _ {A : Type 0} (holds : A → ℕ → Bool) where
   -- the candidate c with the counter k, after i copies

@@ -16,7 +16,7 @@ use Rattle.model.specs.RoundSheet.{word}
 use Rattle.model.specs.Steps.{decided, knownFaulty, decide}
 use Rattle.crusaders.proofs.Majority.{Candidate, lower}
 use Rattle.crusaders.proofs.Candidates.{holds-bits, bits-begin, bits-agree, bits-replace, bits-missing, bits-decide, toZ-one}
-use Rattle.loops.proofs.Parts.{or-left, or-right}
+use Rattle.arithmetic.proofs.Bools.{or-left, or-right}
 use Rattle.decisions.specs.Rows.{presentAt, bitsAt, copyAt, Elected, rowDecision}
 
 module _ (marks row : List ℕ) where

@@ -14,20 +14,13 @@ pub enum Decided {
     KnownFaulty,
 }
 
-// The number that four bytes make, the first the least significant.
-fn join(a: u8, b: u8, c: u8, d: u8) -> u32
-    ensures { λ r. ⌜ r ≡ a + 256 * b + 65536 * c + 16777216 * d ⌝ }
-{
-    (a as u32) + 256 * (b as u32) + 65536 * (c as u32) + 16777216 * (d as u32)
-}
-
 // The number of the copy t.
 fn copy_bits(row: &[u8], t: usize) -> u32
     requires { ⌜ (4 * t + 3 < length (now row)) × (t < 64) ⌝ }
     ensures { λ r. ⌜ r ≡ bitsAt (now (row .entry)) t ⌝ }
 {
     let at = 4 * t;
-    join(row[at], row[at + 1], row[at + 2], row[at + 3])
+    words::join(row[at], row[at + 1], row[at + 2], row[at + 3])
 }
 
 // Whether a copy is present and holds a value.

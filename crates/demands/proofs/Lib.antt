@@ -1,3 +1,4 @@
 pub mod Represented
 pub mod Spans
+pub mod Refused
 pub mod Values

@@ -12,7 +12,7 @@ use lib.Dec.{leb, ltb, eqb}
 use lib.ListN.{length, getD}
 use Rattle.arithmetic.specs.Counting.{bit, count}
 use Rattle.arithmetic.proofs.Sums.{total}
-use Rattle.loops.proofs.Parts.{or-left, or-right}
+use Rattle.arithmetic.proofs.Bools.{or-left, or-right}
 use Rattle.rounds.proofs.Shifted.{average-nat, median-nat, midpoint-nat, estimate-nat, numbered-nat, mean-nat}
 use Rattle.estimates.specs.Values.{valueAt, presentAt, usedAt, estimateOf, newValueOf}
 

@@ -13,7 +13,7 @@ use lib.Dec.{leb, ltb}
 use Rattle.arithmetic.specs.Counting.{bit, count}
 use Rattle.arithmetic.proofs.Bools.{clash, and-left, and-right, and-intro}
 use Rattle.arithmetic.proofs.Counting.{below, last, split-last, bit-le, count-mono, count-pos, count-some, lowest-none, lowest-cases}
-use Rattle.loops.proofs.Parts.{and-false}
+use Rattle.arithmetic.proofs.Bools.{and-false}
 use Rattle.rounds.proofs.Shifted.{nat-at, is-numbered, numbered-nat}
 
 -- a test that passes wherever another does, and once more, is counted more often

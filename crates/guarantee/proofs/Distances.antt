@@ -25,9 +25,6 @@ dist-below k d a b ha hb h = let e = dist-up k a b ha hb in omega arith
 pub dist-of : (k d a b : ℕ) → a ≤ b + d → b ≤ a + d → natAbs (down k a -ℤ down k b) ≤ d
 dist-of k d a b h i = let e = dist-down k a b in omega arith
 
--- 32 bits hold a number that was moved down by 2^31 from below 2^32
-pub down-fits : (a : ℕ) → a < 4_294_967_296 → SFits w32 (down bias a)
-down-fits a h = down-ind bias a (λ z. SFits w32 z) (λ l. record { sfits = omega arith }) (λ l. record { sfits = omega arith })
-
+-- how far a number of 32 bits reaches
 pub fits-mag : (z : ℤ) → SFits w32 z → mag z < bias
 fits-mag z h = h .sfits

@@ -15,7 +15,8 @@ use Rattle.model.specs.Ensemble.{ticks}
 use Rattle.model.specs.Planner.{Plan, planFrom, advance, after, nextWindow, growth, withWindow}
 use Rattle.model.specs.Refusals.{firstOf, settingsChecks, planChecks, stepChecks}
 use Rattle.model.specs.Calls.{granted, step}
-use Rattle.planning.proofs.Checks.{Passes, none-passes, passes-none, MayStart, none-may-start}
+use Rattle.refusals.proofs.Limits.{Limits, limits, limits-pass}
+use Rattle.planning.proofs.Checks.{MayStart, none-may-start}
 use Rattle.planning.proofs.Steps.{start-step-passes, step-by-row}
 use Rattle.planning.proofs.Windows.{passes-advance}
 use Rattle.guarantee.specs.Guarantee.{Station, Start, Sends, Allowed, State, start, stepped, next, Good, bad, Every, First, Close, Wide, Each, Guarantee, Demand3}
@@ -70,7 +71,7 @@ module _ (st : Station) (begins : Start st) (truth : ℤ) where
     stands =
         record {
           settings = settings-next;
-          passes = subst⁻¹ (λ (p : Plan). firstOf (settingsChecks (p .settings)) ≡ none) (next-plan now x steps) (passes-none (advance (now .plan) .settings) (passes-advance (now .plan) (none-passes (now .plan .settings) (stand .passes))));
+          passes = subst⁻¹ (λ (p : Plan). firstOf (settingsChecks (p .settings)) ≡ none) (next-plan now x steps) (limits-pass (advance (now .plan) .settings) (passes-advance (now .plan) (limits (now .plan .settings) (stand .passes))));
           readings = λ r l s. round-reading st good truth now x stand allowed few r;
           sound = λ p l s. s;
           present = λ p l s. round-present st good truth now x stand allowed few p;
@@ -106,7 +107,7 @@ module _ (st : Station) (begins : Start st) (truth : ℤ) where
   starts good g =
       record {
         settings = refl;
-        passes = passes-none (st .settings) (none-may-start (st .settings) (st .accuracy) 0 (begins .grants) .passes);
+        passes = limits-pass (st .settings) (none-may-start (st .settings) (st .accuracy) 0 (begins .grants) .passes);
         readings = λ r l s. begins .readings r;
         sound = g .sound;
         present = g .present;

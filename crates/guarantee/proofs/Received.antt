@@ -20,19 +20,17 @@ use Rattle.rounds.proofs.Local.{Agree}
 use Rattle.rounds.proofs.Natural.{round-count, round-value}
 use Rattle.rounds.proofs.Represent.{shift-raise}
 use Rattle.rounds.proofs.Shifted.{shifted}
-use Rattle.limits.proofs.Settled.{Received, accepts, valueOf, value-within}
+use Rattle.limits.proofs.Settled.{Received, accepts, valueOf}
+use Rattle.demands.proofs.Values as values
 use Rattle.guarantee.specs.Guarantee.{IsReading}
-use Rattle.guarantee.proofs.Distances.{down-fits, fits-mag}
+use Rattle.guarantee.proofs.Distances.{fits-mag}
+
+reading-fits : (y : Reading) → IsReading y → SFits w32 (ticks y)
+reading-fits missing i = record { sfits = omega arith }
+reading-fits (present z) i = i
 
 reading-mag : (y : Reading) → IsReading y → mag (ticks y) < bias
-reading-mag missing i = omega arith
-reading-mag (present z) i = fits-mag z i
-
-up-small : (y : Reading) → IsReading y → up bias (ticks y) < 4_294_967_296
-unfolding up
-up-small missing i = omega arith
-up-small (present (pos a)) i = let h = fits-mag (pos a) i in omega arith
-up-small (present (negsuc a)) i = omega arith
+reading-mag y i = fits-mag (ticks y) (reading-fits y i)
 
 module _ (c : Settings) (v : Readings) (reads : (r : ℕ) → r < c .n → IsReading (v r)) where
   -- the readings v moved up by k
@@ -51,17 +49,4 @@ module _ (c : Settings) (v : Readings) (reads : (r : ℕ) → r < c .n → IsRea
       (subst (λ (a : ℕ). 0 < a) (received-count k h) some-acc)
 
   pub value-fits : 0 < c .n → 0 < roundOf c v .count → SFits w32 (roundOf c v .value)
-  value-fits some-n some-acc =
-      subst⁻¹ (SFits w32) (received-value bias (le-refl bias) some-n some-acc)
-      (down-fits (valueOf (c .n) (c .m) (c .window) (received bias)) (below (valueOf (c .n) (c .m) (c .window) (received bias)) bound))
-    where
-      bound : valueOf (c .n) (c .m) (c .window) (received bias) ≤ 4_294_967_295
-      bound =
-          value-within (c .n) (c .m) (c .window) (received bias) 0 4_294_967_295 some-n
-          (subst (λ (a : ℕ). 0 < a) (received-count bias (le-refl bias)) some-acc)
-          (λ r l e. zero-le)
-          (λ r l e. let u = up-small (v r) (reads r l) in omega arith)
-          .high
-
-      below : (a : ℕ) → a ≤ 4_294_967_295 → a < 4_294_967_296
-      below a h = omega arith
+  value-fits some-n some-acc = values.value-fits c v (λ r l. reading-fits (v r) (reads r l)) some-acc some-n

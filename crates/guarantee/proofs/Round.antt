@@ -30,7 +30,7 @@ use Rattle.model.specs.Planner.{Plan, ceilDiv, windowFactor, nextWindow, growth
 use Rattle.model.specs.Refusals.{firstOf, settingsChecks}
 use Rattle.model.specs.Calls.{granted}
 use Rattle.model.specs.Steps.{Round, roundOf}
-use Rattle.sheets.proofs.Limits.{Limits, limits}
+use Rattle.refusals.proofs.Limits.{Limits, limits}
 use Rattle.limits.proofs.Settled as L
 use Rattle.limits.proofs.Settled.{Received, accepts, valueOf, Spread, Settles, Few, Reads, Truth}
 use Rattle.limits.proofs.Limits.{accuracy-many, precision-many, unrefused, accuracy-few, precision-few, precision-median}

@@ -1,4 +1,4 @@
--- Quotients rounded up, and the mean of n numbers to the nearest, a half going up: how it moves with the sum.
+-- The mean of n numbers to the nearest, a half going up: how it moves with the sum.
 -- Assumes nothing.
 use mathlib.Core.Path.{_≡_, ap, _∙_}
 use Prim.Native.Nat.{ℕ, _+_, _*_, _-_, _/_, _≤_, _<_}
@@ -7,11 +7,8 @@ use native.Mathlib.Omega.{arith}
 use Rattle.arithmetic.proofs.Division.{div-mono}
 use Rattle.arithmetic.proofs.Sums.{total, total-mono, total-add, total-const, total-scale}
 use Rattle.model.specs.Planner.{ceilDiv}
+use Rattle.planning.proofs.Ceiling.{ceil-div-covers}
 use Rattle.rounds.proofs.Shifted.{mean-nat}
-
-pub ceil-div-covers : (b n : ℕ) → 0 < n → b ≤ ceilDiv b n * n
-unfolding ceilDiv
-ceil-div-covers b n h = omega (arith, lt-div-mul-add {a = b + (n - 1)} h)
 
 -- y is a nearest whole number to s / n
 pub record Nearest (n s y : ℕ) : Type 0 where
@@ -71,7 +68,7 @@ module _ (n : ℕ) (some-n : 0 < n) where
   -- sums that differ by at most b have means that differ by at most b / n, rounded up
   pub mean-close : (s u b : ℕ) → s ≤ u + b → mean-nat n s ≤ mean-nat n u + ceilDiv b n
   mean-close s u b l =
-      let c = ceil-div-covers b n some-n in
+      let c = ceil-div-covers n some-n b in
       let k : s ≤ u + ceilDiv b n * n = omega arith in
       let d = mean-mono k in
       let e = mean-shift u (ceilDiv b n) in

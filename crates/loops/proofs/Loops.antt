@@ -3,10 +3,10 @@
 --   Adds f n s t     s is the sum of f below t, where f is below 2^32
 -- Assumes nothing.
 use mathlib.Core.Bool.{Bool, true, false}
-use mathlib.Core.List.{List}
-use mathlib.Core.Path.{_≡_, refl, sym, ap₂, _∙_}
+use mathlib.Core.List.{List, [], _∷_, _++_}
+use mathlib.Core.Path.{_≡_, refl, sym, ap, ap₂, _∙_}
 use Prim.Native.Nat.{ℕ, _+_, _*_, _≤_, _<_, zero-le}
-use native.Mathlib.Nat.{le-refl}
+use native.Mathlib.Nat.{le-refl, le-antisymm}
 use native.Mathlib.Numerals.{add-one}
 use native.Mathlib.Omega.{arith}
 use lib.ListN.{length, set}
@@ -79,9 +79,19 @@ module _ (f : ℕ → ℕ) (n : ℕ) where
     pub add-all : n ≤ t → s ≡ total f n
     add-all h = let e : t ≡ n = omega (arith, so-far .upTo) in rw (← e) (so-far .exact)
 
--- the next entry of a table, stored after those before it
-pub store-next : (f : ℕ → ℕ) (old : List ℕ) (r v : ℕ) → r < length old → v ≡ f r → set (overwrite (table f r) old) r v ≡ overwrite (table f (r + 1)) old
-unfolding table
-store-next f old r v h e =
-    let l = length-table f r in
-    rw (add-one r, e) (rw l at (overwrite-snoc (table f r) old (f r) (rw l h)))
+module _ {A : Type 0} where
+  -- a table stored entry by entry: nothing yet, the next entry, all of them
+  pub store-none : (f : ℕ → A) (old : List A) → old ≡ overwrite (table f 0) old
+  unfolding table overwrite
+  store-none f old = refl
+
+  pub store-next : (f : ℕ → A) (n : ℕ) (old now : List A) (x : A) → now ≡ overwrite (table f n) old → x ≡ f n → n < length old → set now n x ≡ overwrite (table f (n + 1)) old
+  unfolding table
+  store-next f n old now x s e h =
+      ap₂ (λ (l : List A) (k : ℕ). set l k x) s (sym (length-table f n))
+      ∙ overwrite-snoc (table f n) old x (rw (length-table f n) h)
+      ∙ ap (λ (y : A). overwrite (table f n ++ (y ∷ [])) old) e
+      ∙ ap (λ (k : ℕ). overwrite (table f k) old) (sym (add-one n))
+
+  pub store-ended : (f : ℕ → A) (n e : ℕ) (old now : List A) → e ≤ n → n ≤ e → now ≡ overwrite (table f e) old → now ≡ overwrite (table f n) old
+  store-ended f n e old now a b s = s ∙ ap (λ (k : ℕ). overwrite (table f k) old) (le-antisymm a b)

@@ -11,27 +11,27 @@ use native.Mathlib.Omega.{arith}
 use Rattle.model.specs.declared.Settings.{Settings}
 use Rattle.model.specs.Planner.{Plan, ceilDiv, windowFactor, nextWindow, growth, withWindow, advance}
 use Rattle.model.specs.Refusals.{firstOf, settingsChecks}
-use Rattle.planning.proofs.Checks.{none-passes, passes-none}
+use Rattle.refusals.proofs.Limits.{limits, limits-pass}
 use Rattle.planning.proofs.Windows.{share-le, passes-window}
 
 module _ (c : Settings) where
   module _ (e : firstOf (settingsChecks c) ≡ none) where
     pub product-le : c .m * c .window ≤ 21000000
     product-le =
-        let s = none-passes c e in
-        mul-le-mul {n₂ = 21} {m₂ = 1000000} (omega arith) (s .narrow)
+        let s = limits c e in
+        mul-le-mul {n₂ = 21} {m₂ = 1000000} (omega arith) (s .window)
 
     pub dividend-le : (f : ℕ) → f ≤ 2 → f * (c .m * c .window) ≤ 42000000
     dividend-le f l = mul-le-mul {n₂ = 2} {m₂ = 21000000} l product-le
 
     pub quotient-le : (f : ℕ) → f ≤ 2 → ceilDiv (f * (c .m * c .window)) (c .n) ≤ 1000000
     quotient-le f l =
-        let s = none-passes c e in
+        let s = limits c e in
         let b = mul-le-mul-right (c .m) l in
-        le-trans (share-le f c (s .some-cabinet) (omega arith)) (s .narrow)
+        le-trans (share-le f c (s .someCabinet) (omega arith)) (s .window)
 
     pub narrowed-passes : (w : ℕ) → w ≤ 1000000 → firstOf (settingsChecks (withWindow c w)) ≡ none
-    narrowed-passes w l = passes-none (withWindow c w) (passes-window c w (none-passes c e) l)
+    narrowed-passes w l = limits-pass (withWindow c w) (passes-window c w (limits c e) l)
 
   pub share-window : {f w : ℕ} → f ≡ cond (eqb (c .rule) 1 && eqb (c .estimator) 1) 1 2
       → w ≡ ceilDiv (f * (c .m * c .window)) (c .n) → w ≡ nextWindow c

@@ -9,7 +9,8 @@ use Rattle.model.specs.declared.Settings.{Settings}
 use Rattle.model.specs.Planner.{Plan, planFrom, advance, after, windowAfter}
 use Rattle.model.specs.Refusals.{refusal, firstOf, settingsChecks, planChecks}
 use Rattle.model.specs.Calls.{granted, refused, Target}
-use Rattle.planning.proofs.Checks.{MayStart, MayStep, passes-none}
+use Rattle.refusals.proofs.Limits.{limits-pass}
+use Rattle.planning.proofs.Checks.{MayStart, MayStep}
 use Rattle.planning.proofs.Steps.{may-step-after}
 use Rattle.planning.proofs.Targets.{target-missed, target-reached}
 
@@ -31,7 +32,7 @@ module _ (c : Settings) (κ k : ℕ) {q : Plan} (e : q ≡ after k (planFrom c �
       → (firstOf (settingsChecks (q .settings)) ≡ none) × ((q .rounds < 32) × (q .accuracy ≤ 1100000000))
   turn-allowed j s l =
       let step = subst MayStep (sym e) (may-step-after (planFrom c κ) k (s .passes) (s .accurate) (omega arith)) in
-      (passes-none (q .settings) (step .passes), (step .early, step .accurate))
+      (limits-pass (q .settings) (step .passes), (step .early, step .accurate))
 
   module _ (target : ℕ) (s : firstOf (planChecks c κ 0) ≡ none) (l : k ≤ 32) where
     window-is : q .settings .window ≡ windowAfter k c κ

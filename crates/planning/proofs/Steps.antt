@@ -11,7 +11,8 @@ use Rattle.model.specs.Planner.{Plan, planFrom, advance, after}
 use Rattle.model.specs.Refusals.{Row, firstOf, planChecks, stepChecks}
 use Rattle.model.specs.Calls.{granted, refused, verdict, plan, step}
 use Rattle.planning.specs.Stepping.{thenStep, steps}
-use Rattle.planning.proofs.Checks.{Passes, MayStep, none-may-start, may-step-none}
+use Rattle.refusals.proofs.Limits.{Limits}
+use Rattle.planning.proofs.Checks.{MayStep, none-may-start, may-step-none}
 use Rattle.planning.proofs.Rounds.{rounds-after}
 use Rattle.planning.proofs.Verdicts.{granted-row, refused-row}
 use Rattle.planning.proofs.Windows.{passes-after, accuracy-after-le}
@@ -22,7 +23,7 @@ unfolding planChecks
 plan-checks-rounds c κ k l = rw (le-ltb 32 k l)
 
 -- an accuracy that may start allows every step within 32 rounds
-pub may-step-after : (p : Plan) (k : ℕ) → Passes (p .settings) → p .accuracy ≤ 1000000000 → p .rounds + k < 32
+pub may-step-after : (p : Plan) (k : ℕ) → Limits (p .settings) → p .accuracy ≤ 1000000000 → p .rounds + k < 32
     → MayStep (after k p)
 may-step-after p k s h l =
     let r = rounds-after k p in

@@ -14,7 +14,8 @@ use Rattle.model.specs.declared.Refusal.{Refusal}
 use Rattle.model.specs.Planner.{planFrom, windowAfter}
 use Rattle.model.specs.Refusals.{Row, orNext, refusal, firstOf, settingsChecks, planChecks, targetChecks, targetMissed}
 use Rattle.model.specs.Calls.{granted, refused, Target}
-use Rattle.planning.proofs.Checks.{first-of-snoc, none-may-start}
+use Rattle.refusals.proofs.Rows.{first-snoc}
+use Rattle.planning.proofs.Checks.{none-may-start}
 use Rattle.planning.proofs.Windows.{window-after-mono}
 
 or-none : (b : Bool) → (b || false) ≡ b
@@ -31,7 +32,7 @@ module _ (c : Settings) (κ target : ℕ) where
       → firstOf (targetChecks c κ target) ≡ orNext row (targetMissed (windowAfter 32 c κ) target)
   by-row e =
       ap firstOf (sym target-checks)
-      ∙ first-of-snoc (planChecks c κ 0) _
+      ∙ first-snoc (planChecks c κ 0) _
       ∙ ap (λ (row : Row). orNext row (targetMissed (windowAfter 32 c κ) target)) e
 
   pub start-refuses-target : {r : Refusal} → firstOf (planChecks c κ 0) ≡ some r → Target c κ target (refused r)

@@ -9,7 +9,7 @@ use lib.Dec.{eqb}
 use Rattle.model.specs.declared.Settings.{Settings}
 use Rattle.model.specs.Planner.{Plan, ceilDiv, windowFactor, nextWindow, growth, withWindow, advance, after}
 use Rattle.planning.proofs.Ceiling.{ceil-div-least}
-use Rattle.planning.proofs.Checks.{Passes}
+use Rattle.refusals.proofs.Limits.{Limits}
 use Rattle.planning.proofs.Rounds.{after-add}
 
 -- the factor of the next window is 1 or 2
@@ -29,52 +29,52 @@ share-le f c h l =
     let b = mul-le-mul-right (c .window) l in
     ceil-div-least (c .n) h (omega arith)
 
-pub next-window-le : (c : Settings) → Passes c → nextWindow c ≤ c .window
+pub next-window-le : (c : Settings) → Limits c → nextWindow c ≤ c .window
 unfolding nextWindow
 next-window-le c s =
     let f = mul-le-mul-right (c .m) (window-factor-le c) in
-    share-le (windowFactor c) c (s .some-cabinet) (omega arith)
+    share-le (windowFactor c) c (s .someCabinet) (omega arith)
 
-pub growth-le : (c : Settings) → Passes c → growth c ≤ c .window
+pub growth-le : (c : Settings) → Limits c → growth c ≤ c .window
 unfolding growth
 growth-le c s =
     let one = ap (λ (a : ℕ). ceilDiv a (c .n)) (one-mul (c .m * c .window)) in
-    let l = share-le 1 c (s .some-cabinet) (omega arith) in
+    let l = share-le 1 c (s .someCabinet) (omega arith) in
     omega arith
 
 -- settings pass with any window that does
-pub passes-window : (c : Settings) (w : ℕ) → Passes c → w ≤ 1000000 → Passes (withWindow c w)
+pub passes-window : (c : Settings) (w : ℕ) → Limits c → w ≤ 1000000 → Limits (withWindow c w)
 passes-window c w s l =
     record {
-      some-cabinet = s .some-cabinet;
+      someCabinet = s .someCabinet;
       cabinets = s .cabinets;
       faults = s .faults;
-      known-rule = s .known-rule;
-      known-estimator = s .known-estimator;
-      narrow = l;
+      rule = s .rule;
+      estimator = s .estimator;
+      window = l;
     }
 
-pub passes-advance : (p : Plan) → Passes (p .settings) → Passes (advance p .settings)
+pub passes-advance : (p : Plan) → Limits (p .settings) → Limits (advance p .settings)
 unfolding advance
-passes-advance p s = passes-window (p .settings) _ s (le-trans (next-window-le (p .settings) s) (s .narrow))
+passes-advance p s = passes-window (p .settings) _ s (le-trans (next-window-le (p .settings) s) (s .window))
 
-pub passes-after : (k : ℕ) (p : Plan) → Passes (p .settings) → Passes (after k p .settings)
+pub passes-after : (k : ℕ) (p : Plan) → Limits (p .settings) → Limits (after k p .settings)
 unfolding after
 passes-after zero p s = s
 passes-after (suc k) p s = passes-advance (after k p) (passes-after k p s)
 
 -- ---- windows never grow
 
-window-advance-le : (p : Plan) → Passes (p .settings) → advance p .settings .window ≤ p .settings .window
+window-advance-le : (p : Plan) → Limits (p .settings) → advance p .settings .window ≤ p .settings .window
 unfolding advance
 window-advance-le p s = next-window-le (p .settings) s
 
-pub window-after-le : (k : ℕ) (p : Plan) → Passes (p .settings) → after k p .settings .window ≤ p .settings .window
+pub window-after-le : (k : ℕ) (p : Plan) → Limits (p .settings) → after k p .settings .window ≤ p .settings .window
 unfolding after
 window-after-le zero p s = le-refl _
 window-after-le (suc k) p s = le-trans (window-advance-le (after k p) (passes-after k p s)) (window-after-le k p s)
 
-pub window-after-mono : (j k : ℕ) (p : Plan) → Passes (p .settings) → j ≤ k
+pub window-after-mono : (j k : ℕ) (p : Plan) → Limits (p .settings) → j ≤ k
     → after k p .settings .window ≤ after j p .settings .window
 window-after-mono j k p s l =
     let e : k - j + j ≡ k = omega arith in
@@ -84,13 +84,13 @@ window-after-mono j k p s l =
 
 -- ---- the accuracy grows each round by at most the widest window
 
-accuracy-advance-le : (p : Plan) → Passes (p .settings) → advance p .accuracy ≤ p .accuracy + 1000000
+accuracy-advance-le : (p : Plan) → Limits (p .settings) → advance p .accuracy ≤ p .accuracy + 1000000
 unfolding advance
 accuracy-advance-le p s =
     let g = growth-le (p .settings) s in
     omega arith
 
-pub accuracy-after-le : (k : ℕ) (p : Plan) → Passes (p .settings) → after k p .accuracy ≤ p .accuracy + k * 1000000
+pub accuracy-after-le : (k : ℕ) (p : Plan) → Limits (p .settings) → after k p .accuracy ≤ p .accuracy + k * 1000000
 unfolding after
 accuracy-after-le zero p s = omega arith
 accuracy-after-le (suc k) p s =

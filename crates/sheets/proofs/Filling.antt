@@ -18,8 +18,8 @@ use Rattle.model.specs.RoundSheet.{byte, entryCount, sheetLength, readingBytes,
 use Rattle.model.specs.Refusals.{refusal, orNext, firstOf, settingsChecks, badLength, noRoom, badMark, badMissing}
 use Rattle.model.specs.Calls.{granted, write, Written}
 use Rattle.sheets.specs.Entries.{notZero, arrayRows, writeRows}
-use Rattle.sheets.proofs.Rows.{next-none-left, next-none-right}
-use Rattle.sheets.proofs.Limits.{limits, entries-most}
+use Rattle.refusals.proofs.Rows.{next-none-left, next-none-right}
+use Rattle.refusals.proofs.Limits.{limits, entries-most}
 use Rattle.sheets.proofs.Checks.{length-pass, length-passed, room-pass, room-passed}
 use Rattle.sheets.proofs.Outcomes.{write-rows, write-grants}
 

@@ -11,8 +11,8 @@ use Rattle.model.specs.declared.Refusal.{Refusal}
 use Rattle.model.specs.RoundSheet.{settingsAt, entryCount, sheetLength, markAt, bitsAt}
 use Rattle.model.specs.Refusals.{refusal, orNext, firstOf, settingsChecks, sheetChecks, tooShort, badLength, badMark, badMissing, rowChecks, entryChecks}
 use Rattle.model.specs.Calls.{granted, refused, verdict}
-use Rattle.sheets.proofs.Rows.{first-append, next-none, none-left, none-right}
-use Rattle.sheets.proofs.Limits.{Limits, limits, entries-most}
+use Rattle.refusals.proofs.Rows.{first-append, next-none, none-left, none-right}
+use Rattle.refusals.proofs.Limits.{Limits, limits, entries-most}
 use Rattle.sheets.proofs.Checks.{settings-passed, sheet-length-passed}
 use Rattle.sheets.proofs.Outcomes.{granted-none, granted-same}
 

@@ -1,5 +1,3 @@
-pub mod Rows
-pub mod Limits
 pub mod Checks
 pub mod Searching
 pub mod Outcomes

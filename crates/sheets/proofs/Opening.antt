@@ -16,7 +16,7 @@ use Rattle.model.specs.RoundSheet.{settingsAt, entryCount, markAt, bitsAt}
 use Rattle.model.specs.Refusals.{Row, refusal, orNext, firstOf, sheetChecks, entryChecks, rowChecks, noRoom}
 use Rattle.model.specs.Calls.{granted, refused, verdict, read, Read}
 use Rattle.sheets.specs.Entries.{readRows}
-use Rattle.sheets.proofs.Rows.{next-none-left, next-none-right}
+use Rattle.refusals.proofs.Rows.{next-none-left, next-none-right}
 use Rattle.sheets.proofs.Checks.{room-pass, room-passed}
 use Rattle.sheets.proofs.Outcomes.{granted-none, granted-same, read-rows, read-grants, row-rows}
 use Rattle.sheets.proofs.Inspection.{Inspected, inspected}

@@ -19,7 +19,7 @@ use Rattle.model.specs.Steps.{roundAt}
 use Rattle.model.specs.Refusals.{Row, orNext, firstOf, settingsChecks, sheetChecks, entryChecks, readChecks, writeChecks, rowChecks, settleChecks, badLength, noRoom, badMark, badMissing, tooManyFaults}
 use Rattle.model.specs.Calls.{granted, refused, verdict, marksOf, ticksOf, readAfter, read, writtenAfter, write, row, lent}
 use Rattle.sheets.specs.Entries.{readRows, arrayRows, writeRows}
-use Rattle.sheets.proofs.Rows.{first-append, next-none}
+use Rattle.refusals.proofs.Rows.{first-append, next-none}
 
 -- ---- verdicts
 

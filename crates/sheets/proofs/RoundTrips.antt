@@ -17,7 +17,7 @@ use Rattle.model.specs.RoundSheet.{byte, settingsAt, entryCount, sheetLength, m
 use Rattle.model.specs.Refusals.{firstOf, settingsChecks, sheetChecks, entryChecks, readChecks, writeChecks, noRoom}
 use Rattle.model.specs.Calls.{granted, verdict, Read, marksOf, ticksOf, read, Written, write}
 use Rattle.sheets.specs.Entries.{readRows, writeRows}
-use Rattle.sheets.proofs.Rows.{first-append, next-none-left, next-none-right, none-at}
+use Rattle.refusals.proofs.Rows.{first-append, next-none-left, next-none-right, none-at}
 use Rattle.sheets.proofs.Outcomes.{granted-none, granted-same, read-rows, read-grants, write-rows, write-grants}
 use Rattle.sheets.proofs.Checks.{length-pass, length-passed, room-pass, marks-pass, marks-passed, missing-pass, missing-passed, sheet-length-passed}
 use Rattle.sheets.proofs.Written.{WellFormed, settings-back, length-back, marks-back, readings-back, sheet-passes, entries-pass}

@@ -3,7 +3,7 @@
 use mathlib.Core.List.{List, [], _∷_, _++_, append-assoc, append-nil}
 use mathlib.Core.Path.{_≡_, refl, sym, ap, ap₂, _∙_}
 use Prim.Native.Nat.{ℕ, _+_, _*_, _-_, _/_, _%_, _≤_, _<_}
-use native.Mathlib.Nat.{le-antisymm, le-of-eq}
+use native.Mathlib.Nat.{le-of-eq}
 use native.Mathlib.Numerals.{add-one, add-two, add-three}
 use native.Mathlib.Omega.{arith}
 use borrow.Author.Tests.{le-leb, lt-leb}
@@ -12,8 +12,7 @@ use lib.ListN.{getD, length, take, drop, set, length-append, length-drop, drop-o
 use lib.Seq.{length-take-le, take-suc, take-all, sets-eq, take-length, take-at, drop-at, drop-append-add, drop-drop}
 use mir.Syntax.{w32}
 use mir.Val.{ofZ}
-use Rattle.arithmetic.specs.Writing.{table, overwrite}
-use Rattle.arithmetic.proofs.Writing.{length-table, overwrite-snoc}
+use Rattle.arithmetic.specs.Writing.{overwrite}
 use Rattle.model.specs.declared.Settings.{Settings}
 use Rattle.model.specs.RoundSheet.{bytes4, readingBytes, sizeBytes}
 use Rattle.sheets.specs.Storing.{putWord}
@@ -60,22 +59,6 @@ put-word-next new old i x e h =
         ∙ ap (λ (k : ℕ). drop k old) (ap (λ (k : ℕ). k + 4) e ∙ sym long)
 
 module _ {A : Type 0} where
-  -- a table stored entry by entry: nothing yet, the next entry, all of them
-  pub store-none : (f : ℕ → A) (old : List A) → old ≡ overwrite (table f 0) old
-  unfolding table overwrite
-  store-none f old = refl
-
-  pub store-next : (f : ℕ → A) (n : ℕ) (old now : List A) (x : A) → now ≡ overwrite (table f n) old → x ≡ f n → n < length old → set now n x ≡ overwrite (table f (n + 1)) old
-  unfolding table
-  store-next f n old now x s e h =
-      ap₂ (λ (l : List A) (k : ℕ). set l k x) s (sym (length-table f n))
-      ∙ overwrite-snoc (table f n) old x (rw (length-table f n) h)
-      ∙ ap (λ (y : A). overwrite (table f n ++ (y ∷ [])) old) e
-      ∙ ap (λ (k : ℕ). overwrite (table f k) old) (sym (add-one n))
-
-  pub store-ended : (f : ℕ → A) (n e : ℕ) (old now : List A) → e ≤ n → n ≤ e → now ≡ overwrite (table f e) old → now ≡ overwrite (table f n) old
-  store-ended f n e old now a b s = s ∙ ap (λ (k : ℕ). overwrite (table f k) old) (le-antisymm a b)
-
   -- a whole list copied to the front
   pub copy-overwrites : (new old : List A) → take (length new) new ++ drop (length new) old ≡ overwrite new old
   unfolding overwrite

@@ -21,9 +21,9 @@ use Rattle.model.specs.Ensemble.{Reading, missing, present}
 use Rattle.model.specs.RoundSheet.{word, settingsAt, entryCount, sheetLength, markAt, bitsAt, entryAt, bytes4, readingBytes, sizeBytes, sheetBytes}
 use Rattle.model.specs.Refusals.{firstOf, settingsChecks, sheetChecks, entryChecks}
 use Rattle.model.specs.Calls.{marksOf, ticksOf}
-use Rattle.sheets.proofs.Rows.{none-both}
+use Rattle.refusals.proofs.Rows.{none-both}
 use Rattle.sheets.proofs.Checks.{sheet-pass, sheet-entries-pass}
-use Rattle.sheets.proofs.Limits.{limits}
+use Rattle.refusals.proofs.Limits.{limits}
 use Rattle.sheets.proofs.Words.{digits4, byte-append-left, byte-append-right, word-append-right}
 use Rattle.sheets.proofs.Readings.{length-readingBytes, word-readings}
 

@@ -7,7 +7,7 @@ use Prim.Native.Nat.{ℕ, _+_, _*_}
 use native.Mathlib.Omega.{arith}
 use Rattle.ensemble.specs.Answers.{rowOf}
 use Rattle.model.specs.Refusals.{firstOf, settingsChecks}
-use Rattle.sheets.proofs.Limits.{limits, entries-most}
+use Rattle.refusals.proofs.Limits.{limits, entries-most}
 use Rattle.sheets.proofs.Inspection.{short-refused, settings-refused, length-refused, inspection-passes}
 use Rattle.inspection.proofs.inspect.Statement.{statement}
 use Rattle.inspection.proofs.inspect.Tie as tie

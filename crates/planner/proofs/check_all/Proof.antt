@@ -3,7 +3,7 @@
 use borrow.Author.Needs.{needs}
 use mathlib.Core.Path.{sym, ap₂, _∙_}
 use Rattle.model.specs.Refusals.{orNext, badPlan, settingsChecks}
-use Rattle.planning.proofs.Checks.{first-of-snoc}
+use Rattle.refusals.proofs.Rows.{first-snoc}
 use Rattle.planner.proofs.check_all.Statement.{statement}
 use Rattle.planner.proofs.check_all.Tie as tie
 
@@ -21,7 +21,7 @@ returns c =
     let a = c .before .before .before .args in
     c .first-of .ensures
     ∙ ap₂ orNext (c .before .before .screen .ensures) (c .before .check-plan .ensures)
-    ∙ sym (first-of-snoc (settingsChecks (a .settings)) (badPlan (a .fails)))
+    ∙ sym (first-snoc (settingsChecks (a .settings)) (badPlan (a .fails)))
 
 pub check-all-spec : {M : Type 1} → statement M
 check-all-spec = tie.close (tie.spec screen-requires check-plan-requires first-of-requires returns)

@@ -7,7 +7,7 @@ use native.Mathlib.Omega.{arith}
 use Prim.Native.Nat.{ℕ, _-_, _≤_}
 use lib.ListN.{length, length-set}
 use Rattle.arithmetic.specs.Writing.{table, overwrite}
-use Rattle.sheets.proofs.Storing.{store-none, store-next, store-ended}
+use Rattle.loops.proofs.Loops.{store-none, store-next, store-ended}
 use Rattle.round.specs.Rounds.{markIn}
 use Rattle.round.proofs.put_marks.Statement.{statement}
 use Rattle.round.proofs.put_marks.Tie as tie

@@ -10,7 +10,7 @@ use mir.Val.{toZ, ofZ}
 use mir.Facts.{ofZ-toZ}
 use Rattle.arithmetic.specs.Writing.{table, overwrite}
 use Rattle.model.specs.RoundSheet.{word, bitsAt}
-use Rattle.sheets.proofs.Storing.{store-none, store-next, store-ended}
+use Rattle.loops.proofs.Loops.{store-none, store-next, store-ended}
 use Rattle.sheet.proofs.decode.Statement.{statement}
 use Rattle.sheet.proofs.decode.Tie as tie
 

@@ -6,7 +6,7 @@ use mathlib.Core.Path.{_≡_, sym, ap, _∙_}
 use native.Mathlib.Omega.{arith}
 use Rattle.ensemble.specs.Answers.{rowOf}
 use Rattle.model.specs.Refusals.{firstOf, settingsChecks}
-use Rattle.sheets.proofs.Limits.{limits, entries-most}
+use Rattle.refusals.proofs.Limits.{limits, entries-most}
 use Rattle.sheets.proofs.Filling.{writing-refused, marks-length-refused, readings-length-refused, room-refused, arrays-decide}
 use Rattle.sheet_writer.proofs.check.Statement.{statement}
 use Rattle.sheet_writer.proofs.check.Tie as tie

@@ -6,7 +6,8 @@ use mathlib.Core.Path.{_≡_, sym, ap, _∙_}
 use Rattle.model.specs.Refusals.{firstOf, stepChecks}
 use Rattle.model.specs.Calls.{granted}
 use Rattle.ensemble.specs.Answers.{rowOf}
-use Rattle.planning.proofs.Checks.{none-may-step, passes-none}
+use Rattle.refusals.proofs.Limits.{limits-pass}
+use Rattle.planning.proofs.Checks.{none-may-step}
 use Rattle.planning.proofs.Steps.{step-by-row}
 use Rattle.planner.specs.Answers.{planOf}
 use Rattle.planner.proofs.Rows.{step-row}
@@ -37,7 +38,7 @@ advance-requires : tie.Need-advance-requires
 advance-requires c κs =
     let self = c .before .before .before .before .before .args .self in
     let s = none-may-step (planOf self) (passes c) in
-    (passes-none (self .settings) (s .passes), (s .early, s .accurate))
+    (limits-pass (self .settings) (s .passes), (s .early, s .accurate))
 
 returns : tie.Need-returns
 returns c =

@@ -8,10 +8,11 @@ use native.Mathlib.Nat.{mul-le-mul}
 use native.Mathlib.Omega.{arith}
 use borrow.Author.Tests.{ltb-false, le-ltb, ne-eqb}
 use lib.Dec.{ltb, eqb}
+use Rattle.arithmetic.proofs.Bools.{or-left, or-right}
 use Rattle.model.specs.declared.Settings.{Settings}
 use Rattle.model.specs.RoundSheet.{entryCount}
 use Rattle.model.specs.Refusals.{firstOf, settingsChecks, badCabinets, badFaults, badMethod, badWindow}
-use Rattle.sheets.proofs.Rows.{none-at, when-none}
+use Rattle.refusals.proofs.Rows.{none-at, when-none}
 
 -- settings within document 01's limits
 pub record Limits (c : Settings) : Type 0 where
@@ -21,14 +22,6 @@ pub record Limits (c : Settings) : Type 0 where
   pub rule : c .rule ≤ 1
   pub estimator : c .estimator ≤ 2
   pub window : c .window ≤ 1_000_000
-
-or-left-false : (a b : Bool) → (a || b) ≡ false → a ≡ false
-or-left-false true b h = h
-or-left-false false b h = refl
-
-or-right-false : (a b : Bool) → (a || b) ≡ false → b ≡ false
-or-right-false true b h = cc
-or-right-false false b h = h
 
 module _ (c : Settings) where
   pub limits : firstOf (settingsChecks c) ≡ none → Limits c
@@ -41,10 +34,10 @@ module _ (c : Settings) where
       let three : 3 * c .m + 1 ≤ c .n = ltb-false (c .n) (3 * c .m + 1) faults in
       record {
         someCabinet = omega arith;
-        cabinets = ltb-false 64 (c .n) (or-right-false (eqb (c .n) 0) (ltb 64 (c .n)) cabinets);
+        cabinets = ltb-false 64 (c .n) (or-right (eqb (c .n) 0) (ltb 64 (c .n)) cabinets);
         faults = three;
-        rule = ltb-false 1 (c .rule) (or-left-false (ltb 1 (c .rule)) (ltb 2 (c .estimator)) method);
-        estimator = ltb-false 2 (c .estimator) (or-right-false (ltb 1 (c .rule)) (ltb 2 (c .estimator)) method);
+        rule = ltb-false 1 (c .rule) (or-left (ltb 1 (c .rule)) (ltb 2 (c .estimator)) method);
+        estimator = ltb-false 2 (c .estimator) (or-right (ltb 1 (c .rule)) (ltb 2 (c .estimator)) method);
         window = ltb-false 1_000_000 (c .window) window;
       }
 

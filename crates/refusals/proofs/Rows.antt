@@ -3,7 +3,7 @@
 use mathlib.Core.Bool.{Bool, true, false}
 use mathlib.Core.List.{List, [], _∷_, _++_}
 use mathlib.Core.Option.{Option, none, some}
-use mathlib.Core.Path.{_≡_, refl, sym, _∙_}
+use mathlib.Core.Path.{_≡_, refl, sym, ap, _∙_}
 use Prim.Native.Nat.{ℕ, zero, suc}
 use lib.ListN.{getD}
 use Rattle.model.specs.Refusals.{Row, when, atEntry, orNext, firstOf}
@@ -14,6 +14,15 @@ unfolding firstOf
 first-append [] ys = refl
 first-append (none ∷ xs) ys = first-append xs ys
 first-append (some r ∷ xs) ys = refl
+
+first-one : (r : Row) → firstOf (r ∷ []) ≡ r
+unfolding firstOf
+first-one none = refl
+first-one (some r) = refl
+
+-- one row more
+pub first-snoc : (xs : List Row) (r : Row) → firstOf (xs ++ (r ∷ [])) ≡ orNext (firstOf xs) r
+first-snoc xs r = first-append xs (r ∷ []) ∙ ap (orNext (firstOf xs)) (first-one r)
 
 pub next-none : (a : Row) → orNext a none ≡ a
 next-none none = refl

@@ -13,22 +13,23 @@ use Rattle.model.specs.declared.Refusal.{Refusal}
 use Rattle.model.specs.Planner.{ceilDiv}
 use Rattle.model.specs.Refusals.{firstOf, settingsChecks, planChecks}
 use Rattle.planning.proofs.Ceiling.{ceil-div-le}
-use Rattle.planning.proofs.Checks.{Passes, none-passes, passes-none, MayStart, none-may-start}
+use Rattle.planning.proofs.Checks.{MayStart, none-may-start}
+use Rattle.refusals.proofs.Limits.{Limits, limits, limits-pass}
 use Rattle.degradation.specs.Limits.{Stated, planned, wider, nothing, refused, bounds, stated}
 
 module _ (c : Settings) where
   module _ (e : firstOf (settingsChecks c) ≡ none) (parts : ℕ) (l : parts ≤ 256) where
     pub product-le : parts * c .window ≤ 256000000
-    product-le = mul-le-mul {n₂ = 256} {m₂ = 1000000} l (none-passes c e .narrow)
+    product-le = mul-le-mul {n₂ = 256} {m₂ = 1000000} l (limits c e .window)
 
     pub share-le : ceilDiv (parts * c .window) (c .n) ≤ 256000063
-    share-le = let a = ceil-div-le (c .n) (none-passes c e .some-cabinet) (parts * c .window) in omega (arith, product-le)
+    share-le = let a = ceil-div-le (c .n) (limits c e .someCabinet) (parts * c .window) in omega (arith, product-le)
 
   module _ (κ : ℕ) (e : firstOf (planChecks c κ 0) ≡ none) where
     pub granted-settings : firstOf (settingsChecks c) ≡ none
-    granted-settings = passes-none c (none-may-start c κ 0 e .passes)
+    granted-settings = limits-pass c (none-may-start c κ 0 e .passes)
 
-    pub granted-passes : Passes c
+    pub granted-passes : Limits c
     granted-passes = none-may-start c κ 0 e .passes
 
     pub granted-accuracy : κ ≤ 1000000000

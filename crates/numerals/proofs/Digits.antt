@@ -9,19 +9,11 @@ use native.Mathlib.Omega.{arith}
 use borrow.Author.Tests.{leb-false, ltb-false, ne-eqb}
 use lib.Dec.{leb, ltb, eqb}
 use lib.ListN.{length, getD}
-use Rattle.arithmetic.proofs.Bools.{clash}
+use Rattle.arithmetic.proofs.Bools.{or-left, or-right}
 use Rattle.numerals.specs.Numerals.{grown, leading, numeral}
 
 abbrev pub stop : ℕ → ℕ → Bool
 stop value digit = leb 4294967296 value || (ltb digit 48 || ltb 57 digit)
-
-or-left : (a b : Bool) → (a || b) ≡ false → a ≡ false
-or-left true b e = e
-or-left false b e = refl
-
-or-right : (a b : Bool) → (a || b) ≡ false → b ≡ false
-or-right true b e = clash refl e
-or-right false b e = e
 
 pub record Digit (value digit : ℕ) : Type 0 where
   pub small : value < 4294967296

@@ -4,7 +4,7 @@ use borrow.Author.Needs.{needs}
 use mathlib.Core.Path.{refl}
 use native.Mathlib.Omega.{arith}
 use Rattle.model.specs.Planner.{ceilDiv}
-use Rattle.planning.proofs.Checks.{none-passes}
+use Rattle.refusals.proofs.Limits.{limits}
 use Rattle.degradation.proofs.Stating.{product-le, share-le}
 use Rattle.degradation.proofs.share.Statement.{statement}
 use Rattle.degradation.proofs.share.Tie as tie
@@ -20,7 +20,7 @@ mul-product c =
 sub-result : tie.Need-sub-result
 sub-result c =
     let a = c .before .before in
-    omega (arith, none-passes (a .args .settings) (a .pre .0) .some-cabinet)
+    omega (arith, limits (a .args .settings) (a .pre .0) .someCabinet)
 
 add-result : tie.Need-add-result
 add-result c =
@@ -28,13 +28,13 @@ add-result c =
     omega (
       arith,
       product-le (a .args .settings) (a .pre .0) (a .args .parts) (a .pre .1),
-      none-passes (a .args .settings) (a .pre .0) .cabinets,
+      limits (a .args .settings) (a .pre .0) .cabinets,
     )
 
 div-result : tie.Need-div-result
 div-result c =
     let a = c .before .before in
-    none-passes (a .args .settings) (a .pre .0) .some-cabinet
+    limits (a .args .settings) (a .pre .0) .someCabinet
 
 returns : tie.Need-returns
 unfolding ceilDiv

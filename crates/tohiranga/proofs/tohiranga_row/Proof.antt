@@ -49,7 +49,7 @@ returns-2 c =
     let given = c .before .before .before .settings .given in (
       row-empty (a .sheet .now) (given .0 .0)
           (validated (a .sheet .now) (given .0 .0) (sym (c .before .before .before .before .before .validate .ensures) ∙ ap openedAs (given .1)))
-          (a .cabinet) (entryCount (given .0 .0)) (rowEntries (given .0 .0)) refl refl (c .if1 .taken),
+          (a .cabinet) (c .if1 .taken),
       omega arith,
     )
 

@@ -24,9 +24,9 @@ use Rattle.model.specs.Steps.{same, decisionAt, decidedReading, decide, reading
 use Rattle.model.specs.AnswerSheet.{answerLength}
 use Rattle.model.specs.Refusals.{Row, orNext, firstOf, sheetChecks, entryChecks, settleChecks, noRoom, tooManyFaults}
 use Rattle.sheets.proofs.Words.{word-fits}
-use Rattle.sheets.proofs.Rows.{next-none-left, next-none-right, when-none}
+use Rattle.refusals.proofs.Rows.{next-none-left, next-none-right, when-none}
 use Rattle.sheets.proofs.Outcomes.{settle-rows}
-use Rattle.sheets.proofs.Limits.{limits}
+use Rattle.refusals.proofs.Limits.{limits}
 use Rattle.sheets.proofs.Checks.{settings-passed}
 use Rattle.demands.proofs.Values.{estimate-fits, used-fits, value-fits}
 

@@ -2,7 +2,7 @@
 -- Assumes nothing.
 use mathlib.Core.Bool.{Bool, true, false}
 use mathlib.Core.List.{List}
-use mathlib.Core.Option.{none, some}
+use mathlib.Core.Option.{none}
 use mathlib.Core.Path.{_≡_, refl, sym, ap, ap₂, _∙_}
 use Prim.Native.Nat.{ℕ, _≤_, _<_, min}
 use native.Mathlib.Nat.{min-eq-left, min-eq-right, min-le-left, le-trans}
@@ -17,12 +17,12 @@ use Rattle.model.specs.declared.Refusal.{Refusal}
 use Rattle.model.specs.RoundSheet.{byte, settingsAt}
 use Rattle.model.specs.AnswerSheet.{answerLength}
 use Rattle.model.specs.Refusals.{firstOf, settleChecks}
-use Rattle.model.specs.Calls.{Written, granted, refused, settle}
+use Rattle.model.specs.Calls.{Verdict, granted, refused, verdict, Written, settle}
 use Rattle.model.specs.Listing.{maxInput, listingBuffer, listing}
 use Rattle.sheets.proofs.Outcomes.{refused-some, granted-none}
 use Rattle.round.specs.declared.Settled.the-variants.{Granted, Refused}
 use Rattle.round.specs.Answers.{settledAs}
-use Rattle.text.specs.Text.{Text, textIn, roundCapacity, refusalCapacity, roundWritten, refusalWritten}
+use Rattle.text.specs.Text.{textIn, roundCapacity, refusalCapacity, roundWritten, refusalWritten}
 use Rattle.text.proofs.Texts.{text-shown}
 use Rattle.text.proofs.Listings.{listing-refused, listing-settled}
 use Rattle.listing.specs.Listed.{listed}
@@ -65,21 +65,27 @@ module _ (input buffer answer left : List ℕ) (end : ℕ) (size : end ≡ min (
   settled-here : (w : Written) → w ≡ settle (take end input) answer → w ≡ settle sheet listingBuffer
   settled-here w e = e ∙ ap₂ settle (read-part input end size) zeros
 
+  verdict-here : (v : Verdict ℕ) → record { verdict = v; buffer = left } ≡ settle (take end input) answer
+      → verdict (firstOf (settleChecks sheet listingBuffer)) (answerLength (settingsAt sheet .n)) ≡ v
+  unfolding settle
+  verdict-here v e = sym (ap (λ (w : Written). w .verdict) (settled-here (record { verdict = v; buffer = left }) e))
+
   -- a buffer that has room for a round's text has room for a refusal's
   refusal-room : (text : List ℕ) → textIn refusalCapacity text buffer ≡ textIn roundCapacity text buffer
   refusal-room text = rw (le-ltb (length buffer) 23 (le-trans (lit≤ tt) room), le-ltb (length buffer) 5138 room)
 
   pub refusal-listed : (r : Refusal) → settledAs (Refused r) left ≡ settle (take end input) answer
       → refusalWritten (r .number) (r .place) buffer ≡ listed input buffer
-  unfolding listed settle
+  unfolding listed
   refusal-listed r e =
       listing-refused input buffer r
-      (refused-some (firstOf (settleChecks sheet listingBuffer)) (answerLength (settingsAt sheet .n)) r (sym (ap (λ (w : Written). w .verdict) (settled-here _ e))))
+      (refused-some (firstOf (settleChecks sheet listingBuffer)) (answerLength (settingsAt sheet .n)) r
+      (verdict-here (refused r) e))
       ∙ refusal-room (listing input)
 
   pub round-listed : ((j : ℕ) → byte input j < 256) → (n : ℕ) → settledAs (Granted n) left ≡ settle (take end input) answer
       → roundWritten left buffer ≡ listed input buffer
-  unfolding listed settle
+  unfolding listed
   round-listed small n e =
       ap (λ (l : List ℕ). roundWritten l buffer) (ap (λ (w : Written). w .buffer) (settled-here _ e))
       ∙ listing-settled input buffer passed
@@ -91,10 +97,13 @@ module _ (input buffer answer left : List ℕ) (end : ℕ) (size : end ≡ min (
       bytes = part-small maxInput input small
 
       passed : firstOf (settleChecks sheet listingBuffer) ≡ none
-      passed = granted-none (firstOf (settleChecks sheet listingBuffer)) (answerLength (settingsAt sheet .n)) n (sym (ap (λ (w : Written). w .verdict) (settled-here _ e)))
+      passed =
+          granted-none (firstOf (settleChecks sheet listingBuffer)) (answerLength (settingsAt sheet .n)) n
+          (verdict-here (granted n) e)
 
 -- the bytes up to the answered length are the listing
-pub listing-shown : (input buffer : List ℕ) → 5138 ≤ length buffer → take (listed input buffer .size) (listed input buffer .buffer) ≡ listing input
+pub listing-shown : (input buffer : List ℕ) → 5138 ≤ length buffer
+    → take (listed input buffer .size) (listed input buffer .buffer) ≡ listing input
 unfolding listed
 listing-shown input buffer room = text-shown 5138 (listing input) buffer room
 

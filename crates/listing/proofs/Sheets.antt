@@ -1,10 +1,10 @@
--- The numbers of a round that a sheet settles are numbers of 32 bits: each entry is one, so each reading is, as sent or as decided.
+-- The numbers of a round that a sheet settles are numbers of 32 bits: each entry is one, so each reading is, as sent or
+-- as decided.
 -- Assumes nothing.
 use mathlib.Core.Bool.{Bool, true, false, cond}
 use mathlib.Core.List.{List}
-use mathlib.Core.Logic.{⊎-elim}
 use mathlib.Core.Option.{Option, none, some}
-use mathlib.Core.Path.{_≡_, refl, sym, _∙_}
+use mathlib.Core.Path.{_≡_, sym, _∙_}
 use Prim.Native.Nat.{ℕ, _+_, _*_, _<_}
 use native.Mathlib.Nat.{pos-of-ne-zero}
 use native.Mathlib.Omega.{arith}
@@ -19,8 +19,8 @@ use Rattle.arithmetic.specs.Counting.{count, lowest}
 use Rattle.arithmetic.proofs.Bools.{clash}
 use Rattle.model.specs.declared.Settings.{Settings}
 use Rattle.model.specs.Ensemble.{Reading, missing, present, Readings, ticks, quorum}
-use Rattle.model.specs.RoundSheet.{cca, byte, word, settingsAt, entryCount, markAt, bitsAt, entryAt}
-use Rattle.model.specs.Steps.{same, decisionAt, decidedReading, decide, readingsOf, roundOf, roundAt}
+use Rattle.model.specs.RoundSheet.{cca, byte, settingsAt, entryCount, markAt, bitsAt, entryAt}
+use Rattle.model.specs.Steps.{same, decisionAt, decidedReading, decide, readingsOf, roundAt}
 use Rattle.model.specs.AnswerSheet.{answerLength}
 use Rattle.model.specs.Refusals.{Row, orNext, firstOf, sheetChecks, entryChecks, settleChecks, noRoom, tooManyFaults}
 use Rattle.sheets.proofs.Words.{word-fits}
@@ -68,7 +68,8 @@ module _ (s : List ℕ) (small : (j : ℕ) → byte s j < 256) where
   readings = readingsOf (settingsAt s) (entryAt s (entryCount (settingsAt s)))
 
   readings-fit : (r : ℕ) → r < settingsAt s .n → Holds (readings r)
-  readings-fit r h = reading-fits (settingsAt s) (entryAt s (entryCount (settingsAt s))) (entry-fits (entryCount (settingsAt s))) r
+  readings-fit r h =
+      reading-fits (settingsAt s) (entryAt s (entryCount (settingsAt s))) (entry-fits (entryCount (settingsAt s))) r
 
   module _ (answer : List ℕ) (granted : firstOf (settleChecks s answer) ≡ none) where
     abbrev room : Row

@@ -1,5 +1,5 @@
--- `listing::listing` meets its contract: a buffer below the capacity is left as it was, and any other is handed on with an answer buffer
--- of zeros.
+-- `listing::listing` meets its contract: a buffer below the capacity is left as it was, and any other is handed on with
+-- an answer buffer of zeros.
 -- Assumes nothing.
 use borrow.Author.Needs.{needs}
 use Rattle.model.specs.Listing.{listing}

@@ -1,5 +1,5 @@
--- `listing::listing_in` meets its contract: the part that is settled is the part of the input that is read, and the text of the answer
--- sheet, or of the refusal, is the listing.
+-- `listing::listing_in` meets its contract: the part that is settled is the part of the input that is read, and the text
+-- of the answer sheet, or of the refusal, is the listing.
 -- Assumes nothing.
 use borrow.Author.Needs.{needs}
 use mathlib.Core.List.{List}
@@ -49,7 +49,8 @@ module _ (c : tie.After-settle) where
       n
       (settled (Granted n) e)
 
-  refusal-text : (r : Refusal) → c .settle .result ≡ Refused r → refusalWritten (r .number) (r .place) buffer ≡ listed input buffer
+  refusal-text : (r : Refusal) → c .settle .result ≡ Refused r
+      → refusalWritten (r .number) (r .place) buffer ≡ listed input buffer
   refusal-text r e =
       refusal-listed input buffer (start .args .answer .now) left end
       (c .before .before .before .read-size .ensures)
@@ -62,7 +63,8 @@ read-size-requires : tie.Need-read-size-requires
 read-size-requires c κs = search needs
 
 slice-aggregate-settle : tie.Need-slice-aggregate-settle
-slice-aggregate-settle c = read-length (c .before .before .before .before .before .args .input .now) (c .before .read-size .result) (c .before .read-size .ensures)
+slice-aggregate-settle c =
+    read-length (c .before .before .before .before .before .args .input .now) (c .before .read-size .result) (c .before .read-size .ensures)
 
 settle-requires : tie.Need-settle-requires
 settle-requires c κs = search needs

@@ -1,5 +1,5 @@
--- `settle::read_input` meets its contract. The loop's invariant: what was read lies within the buffer, whose length is kept. The measure
--- is what is left of the buffer: a turn that reads nothing leaves the loop.
+-- `settle::read_input` meets its contract. The loop's invariant: what was read lies within the buffer, whose length is
+-- kept. The measure is what is left of the buffer: a turn that reads nothing leaves the loop.
 -- Assumes nothing.
 use borrow.Author.Needs.{needs}
 use mathlib.Core.List.{List}
@@ -59,7 +59,8 @@ module _ (c : tie.After-more Inv-reads μ-reads) where
       rest-room buffer (c .before .before .before .before .read-some .last .0) size (c .more .given .0 .0)
       (c .before .before .before .before .before .before .before .reads .inv .0)
       (c .before .before .before .buffer .given .0)
-      (subst (λ (i : Input). Within i (length (c .before .before .before .before .read-some .last .0))) (c .more .given .1) (c .before .before .before .before .read-some .ensures))
+      (subst (λ (i : Input). Within i (length (c .before .before .before .before .read-some .last .0))) (c .more .given .1)
+      (c .before .before .before .before .read-some .ensures))
 
 add-size : tie.Need-add-size Inv-reads μ-reads
 add-size c = let h = more-fits (c .before .before) in omega arith

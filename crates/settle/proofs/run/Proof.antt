@@ -1,7 +1,8 @@
--- `settle::run` meets its contract, that it is safe and ends: what was read lies within its buffer, and the listing within its own.
+-- `settle::run` meets its contract, that it is safe and ends: what was read lies within its buffer, and the listing
+-- within its own.
 -- Assumes nothing.
 use mathlib.Core.List.{List}
-use mathlib.Core.Path.{_≡_, sym, subst}
+use mathlib.Core.Path.{sym, subst}
 use Prim.Native.Nat.{ℕ, _≤_}
 use lib.ListN.{length, take}
 use lib.Seq.{length-take-le}
@@ -39,13 +40,16 @@ module _ (c : tie.After-size) where
   read = c .before .before .before .before .read-input .last .0
 
   size-fits : c .size .given .0 .0 ≤ length read
-  size-fits = subst (λ (i : Input). Within i (length read)) (c .size .given .1) (c .before .before .before .before .read-input .ensures)
+  size-fits =
+      subst (λ (i : Input). Within i (length read)) (c .size .given .1)
+      (c .before .before .before .before .read-input .ensures)
 
 slice-reshare-prefix-listing : tie.Need-slice-reshare-prefix-listing
 slice-reshare-prefix-listing c = size-fits (c .before)
 
 slice-aggregate-listing : tie.Need-slice-aggregate-listing
-slice-aggregate-listing c = sym (length-take-le (c .before .before .size .given .0 .0) (read (c .before .before)) (size-fits (c .before .before)))
+slice-aggregate-listing c =
+    sym (length-take-le (c .before .before .size .given .0 .0) (read (c .before .before)) (size-fits (c .before .before)))
 
 listing-requires : tie.Need-listing-requires
 listing-requires c κs = search needs
@@ -57,7 +61,10 @@ module _ (c : tie.After-listing) where
 
   listing-size : c .listing .result ≤ length text
   listing-size =
-      listing-fits (take (c .before .before .before .before .size .given .0 .0) (read (c .before .before .before .before))) (c .before .before .before .before .before .before .before .before .before .before .before .before .args .text .now) text (c .listing .result)
+      listing-fits (take (c .before .before .before .before .size .given .0 .0) (read (c .before .before .before .before)))
+      (c .before .before .before .before .before .before .before .before .before .before .before .before .args .text .now)
+      text
+      (c .listing .result)
       (c .listing .ensures .0)
       (c .listing .ensures .1)
       (c .listing .kept .1 .0)
@@ -66,7 +73,10 @@ slice-reshare-prefix-write-all : tie.Need-slice-reshare-prefix-write-all
 slice-reshare-prefix-write-all c = listing-size (c .before .before)
 
 slice-aggregate-write-all-2 : tie.Need-slice-aggregate-write-all-2
-slice-aggregate-write-all-2 c = sym (length-take-le (c .before .before .before .listing .result) (text (c .before .before .before)) (listing-size (c .before .before .before)))
+slice-aggregate-write-all-2 c =
+    sym
+    (length-take-le (c .before .before .before .listing .result) (text (c .before .before .before))
+    (listing-size (c .before .before .before)))
 
 write-all-requires-2 : tie.Need-write-all-requires-2
 write-all-requires-2 c κs = search needs

@@ -89,8 +89,8 @@ fn show(title: &[u8], sheet: &[u8]) {
     show_in(sheet, &mut tray);
 }
 
-// Cases 1 to 8, which FCA settles.
-fn direct_cases() {
+// Cases 1 to 3.
+fn cases_1_to_3() {
     show(
         b"case 1: FCA median N 4 m 1 window 10: 0 4 10 500: ",
         b"\x04\x01\x00\x01\x0a\x00\x00\x00\x01\x01\x01\x01\x00\x00\x00\x00\x04\x00\x00\x00\x0a\x00\x00\x00\xf4\x01\x00\x00",
@@ -107,6 +107,10 @@ fn direct_cases() {
         b"case 3: FCA midpoint N 4 m 1 window 10: 0 4 10 500: ",
         b"\x04\x01\x00\x02\x0a\x00\x00\x00\x01\x01\x01\x01\x00\x00\x00\x00\x04\x00\x00\x00\x0a\x00\x00\x00\xf4\x01\x00\x00",
     );
+}
+
+// Cases 4 and 5.
+fn cases_4_and_5() {
     show(
         b"case 4: FCA median N 1 m 0 window 0: -3: ",
         b"\x01\x00\x00\x01\x00\x00\x00\x00\x01\xfd\xff\xff\xff",
@@ -119,6 +123,10 @@ fn direct_cases() {
         b"case 5: FCA median N 2 m 0 window 1: 0 1: ",
         b"\x02\x00\x00\x01\x01\x00\x00\x00\x01\x01\x00\x00\x00\x00\x01\x00\x00\x00",
     );
+}
+
+// Cases 6 to 8.
+fn cases_6_to_8() {
     show(
         b"case 6: FCA median N 5 m 1 window 20: 0 0 10 20 30: ",
         b"\x05\x01\x00\x01\x14\x00\x00\x00\x01\x01\x01\x01\x01\x00\x00\x00\x00\x00\x00\x00\x00\x0a\x00\x00\x00\x14\x00\x00\x00\x1e\x00\x00\x00",
@@ -137,8 +145,8 @@ fn direct_cases() {
     );
 }
 
-// Cases 9 and 10, which CCA settles.
-fn relayed_cases() {
+// Cases 9 and 10, by CCA, each estimator.
+fn case_9_and_10() {
     show(
         b"case 9: CCA median N 4 m 1 window 0: 7 7 7 9, 7 7 9 9, 7 7 7 -, 7 7 7 7: ",
         b"\x04\x01\x01\x01\x00\x00\x00\x00\x01\x01\x01\x01\x01\x01\x01\x01\x01\x01\x01\x00\x01\x01\x01\x01\x07\x00\x00\x00\x07\x00\x00\x00\x07\x00\x00\x00\x09\x00\x00\x00\x07\x00\x00\x00\x07\x00\x00\x00\x09\x00\x00\x00\x09\x00\x00\x00\x07\x00\x00\x00\x07\x00\x00\x00\x07\x00\x00\x00\x00\x00\x00\x00\x07\x00\x00\x00\x07\x00\x00\x00\x07\x00\x00\x00\x07\x00\x00\x00",
@@ -155,6 +163,10 @@ fn relayed_cases() {
         b"case 10: CCA midpoint N 4 m 1 window 20: -10 -10 -10 -10, 0 0 0 0, 10 10 10 10, 1 2 3 4: ",
         b"\x04\x01\x01\x02\x14\x00\x00\x00\x01\x01\x01\x01\x01\x01\x01\x01\x01\x01\x01\x01\x01\x01\x01\x01\xf6\xff\xff\xff\xf6\xff\xff\xff\xf6\xff\xff\xff\xf6\xff\xff\xff\x00\x00\x00\x00\x00\x00\x00\x00\x00\x00\x00\x00\x00\x00\x00\x00\x0a\x00\x00\x00\x0a\x00\x00\x00\x0a\x00\x00\x00\x0a\x00\x00\x00\x01\x00\x00\x00\x02\x00\x00\x00\x03\x00\x00\x00\x04\x00\x00\x00",
     );
+}
+
+// Case 10 with 20 decided for the last.
+fn case_10_decided() {
     show(
         b"case 10: CCA median N 4 m 1 window 20: -10 -10 -10 -10, 0 0 0 0, 10 10 10 10, 20 20 20 -20: ",
         b"\x04\x01\x01\x01\x14\x00\x00\x00\x01\x01\x01\x01\x01\x01\x01\x01\x01\x01\x01\x01\x01\x01\x01\x01\xf6\xff\xff\xff\xf6\xff\xff\xff\xf6\xff\xff\xff\xf6\xff\xff\xff\x00\x00\x00\x00\x00\x00\x00\x00\x00\x00\x00\x00\x00\x00\x00\x00\x0a\x00\x00\x00\x0a\x00\x00\x00\x0a\x00\x00\x00\x0a\x00\x00\x00\x14\x00\x00\x00\x14\x00\x00\x00\x14\x00\x00\x00\xec\xff\xff\xff",
@@ -169,8 +181,8 @@ fn relayed_cases() {
     );
 }
 
-// The remarks below the cases, and the ends of N, m and the window.
-fn boundaries() {
+// The remarks below the cases.
+fn limits() {
     show(
         b"N 4 with m 1 passes: FCA median N 4 m 1 window 0: 5 5 5 6: ",
         b"\x04\x01\x00\x01\x00\x00\x00\x00\x01\x01\x01\x01\x05\x00\x00\x00\x05\x00\x00\x00\x05\x00\x00\x00\x06\x00\x00\x00",
@@ -187,6 +199,10 @@ fn boundaries() {
         b"too wide a window: FCA median N 4 m 1 window 1000001: 0 1000000 500000 1000001: ",
         b"\x04\x01\x00\x01\x41\x42\x0f\x00\x01\x01\x01\x01\x00\x00\x00\x00\x40\x42\x0f\x00\x20\xa1\x07\x00\x41\x42\x0f\x00",
     );
+}
+
+// Too few readings, or just enough.
+fn few_readings() {
     show(
         b"N 4 with m 0 needs all: FCA median N 4 m 0 window 10: 0 4 10 11: ",
         b"\x04\x00\x00\x01\x0a\x00\x00\x00\x01\x01\x01\x01\x00\x00\x00\x00\x04\x00\x00\x00\x0a\x00\x00\x00\x0b\x00\x00\x00",
@@ -203,6 +219,10 @@ fn boundaries() {
         b"nothing present: FCA median N 4 m 1 window 10: - - - -: ",
         b"\x04\x01\x00\x01\x0a\x00\x00\x00\x00\x00\x00\x00\x00\x00\x00\x00\x00\x00\x00\x00\x00\x00\x00\x00\x00\x00\x00\x00",
     );
+}
+
+// Spans at each end, and rounding below zero.
+fn roundings() {
     show(
         b"a span at each end: FCA midpoint N 5 m 1 window 20: 0 10 20 20 30: ",
         b"\x05\x01\x00\x02\x14\x00\x00\x00\x01\x01\x01\x01\x01\x00\x00\x00\x00\x0a\x00\x00\x00\x14\x00\x00\x00\x14\x00\x00\x00\x1e\x00\x00\x00",
@@ -219,6 +239,10 @@ fn boundaries() {
         b"a midpoint rounded down below zero: FCA midpoint N 4 m 1 window 10: -1 -2 -4 500: ",
         b"\x04\x01\x00\x02\x0a\x00\x00\x00\x01\x01\x01\x01\xff\xff\xff\xff\xfe\xff\xff\xff\xfc\xff\xff\xff\xf4\x01\x00\x00",
     );
+}
+
+// Settings at fault.
+fn bad_settings() {
     show(b"N 0: ", b"\x00\x00\x00\x00\x00\x00\x00\x00");
     show(
         b"N 65: ",
@@ -236,6 +260,10 @@ fn boundaries() {
         b"estimator 3: ",
         b"\x01\x00\x00\x03\x00\x00\x00\x00\x00\x00\x00\x00\x00",
     );
+}
+
+// Lengths, marks and ghosts at fault.
+fn bad_entries() {
     show(b"no byte: ", b"");
     show(
         b"a CCA sheet with the entries of FCA: ",
@@ -255,8 +283,8 @@ fn boundaries() {
     );
 }
 
-// Readings at both ends of 32 bits.
-fn ends() {
+// Readings at both ends of 32 bits, by each estimator.
+fn ends_by_average() {
     show(
         b"the high end: FCA average N 4 m 1 window 1000000: 2147483647 2147483647 2147483646 -2147483648: ",
         b"\x04\x01\x00\x00\x40\x42\x0f\x00\x01\x01\x01\x01\xff\xff\xff\x7f\xff\xff\xff\x7f\xfe\xff\xff\x7f\x00\x00\x00\x80",
@@ -265,6 +293,9 @@ fn ends() {
         b"the low end: FCA average N 4 m 1 window 1000000: -2147483648 -2147483648 -2147483647 2147483647: ",
         b"\x04\x01\x00\x00\x40\x42\x0f\x00\x01\x01\x01\x01\x00\x00\x00\x80\x00\x00\x00\x80\x01\x00\x00\x80\xff\xff\xff\x7f",
     );
+}
+
+fn ends_by_median() {
     show(
         b"the high end: FCA median N 4 m 1 window 1000000: 2147483647 2147483647 2147483646 -2147483648: ",
         b"\x04\x01\x00\x01\x40\x42\x0f\x00\x01\x01\x01\x01\xff\xff\xff\x7f\xff\xff\xff\x7f\xfe\xff\xff\x7f\x00\x00\x00\x80",
@@ -273,6 +304,9 @@ fn ends() {
         b"the low end: FCA median N 4 m 1 window 1000000: -2147483648 -2147483648 -2147483647 2147483647: ",
         b"\x04\x01\x00\x01\x40\x42\x0f\x00\x01\x01\x01\x01\x00\x00\x00\x80\x00\x00\x00\x80\x01\x00\x00\x80\xff\xff\xff\x7f",
     );
+}
+
+fn ends_by_midpoint() {
     show(
         b"the high end: FCA midpoint N 4 m 1 window 1000000: 2147483647 2147483647 2147483646 -2147483648: ",
         b"\x04\x01\x00\x02\x40\x42\x0f\x00\x01\x01\x01\x01\xff\xff\xff\x7f\xff\xff\xff\x7f\xfe\xff\xff\x7f\x00\x00\x00\x80",
@@ -281,6 +315,10 @@ fn ends() {
         b"the low end: FCA midpoint N 4 m 1 window 1000000: -2147483648 -2147483648 -2147483647 2147483647: ",
         b"\x04\x01\x00\x02\x40\x42\x0f\x00\x01\x01\x01\x01\x00\x00\x00\x80\x00\x00\x00\x80\x01\x00\x00\x80\xff\xff\xff\x7f",
     );
+}
+
+// Both ends at once, and readings alone at an end.
+fn ends_apart() {
     show(
         b"both ends: FCA median N 4 m 1 window 1000000: 2147483647 2147483647 -2147483648 -2147483648: ",
         b"\x04\x01\x00\x01\x40\x42\x0f\x00\x01\x01\x01\x01\xff\xff\xff\x7f\xff\xff\xff\x7f\x00\x00\x00\x80\x00\x00\x00\x80",
@@ -297,6 +335,10 @@ fn ends() {
         b"the lowest alone: FCA midpoint N 1 m 0 window 1000000: -2147483648: ",
         b"\x01\x00\x00\x02\x40\x42\x0f\x00\x01\x00\x00\x00\x80",
     );
+}
+
+// Windows that pass the highest reading.
+fn ends_in_a_window() {
     show(
         b"a window that ends past the highest: FCA average N 4 m 1 window 1000000: 2146483647 2146483647 2147483647 2146483646: ",
         b"\x04\x01\x00\x00\x40\x42\x0f\x00\x01\x01\x01\x01\xbf\xbd\xf0\x7f\xbf\xbd\xf0\x7f\xff\xff\xff\x7f\xbe\xbd\xf0\x7f",
@@ -367,21 +409,33 @@ fn show_parts(sheet: &[u8], size: usize, tray: &mut [u8], room: usize) {
     show_in(&sheet[..size], &mut tray[..room]);
 }
 
-fn show_damaged(first: usize, second: usize) {
-    let mut sheet =
-        *b"\x04\x01\x00\x01\x0a\x00\x00\x00\x01\x01\x01\x01\x00\x00\x00\x00\x04\x00\x00\x00\x0a\x00\x00\x00\xf4\x01\x00\x00";
-    let mut tray = [165u8; 40];
-    put_byte(&mut sheet, place(first), value(first));
-    put_byte(&mut sheet, place(second), value(second));
+fn damage(sheet: &mut [u8], check: usize) {
+    put_byte(sheet, place(check), value(check));
+}
+
+fn show_checks(first: usize, second: usize) {
     number(b"checks ", first as u64);
     number(b" and ", second as u64);
     io::write_all(1, b": ");
+}
+
+fn show_pair(sheet: &mut [u8], first: usize, second: usize) {
+    let mut tray = [165u8; 40];
+    damage(sheet, first);
+    damage(sheet, second);
+    show_checks(first, second);
     show_parts(
-        &sheet,
+        sheet,
         least(size(first), size(second)),
         &mut tray,
         least(room(first), room(second)),
     );
+}
+
+fn show_damaged(first: usize, second: usize) {
+    let mut sheet =
+        *b"\x04\x01\x00\x01\x0a\x00\x00\x00\x01\x01\x01\x01\x00\x00\x00\x00\x04\x00\x00\x00\x0a\x00\x00\x00\xf4\x01\x00\x00";
+    show_pair(&mut sheet, first, second);
 }
 
 // Each check from a number on, with another.
@@ -483,10 +537,21 @@ fn most_relayed() {
 }
 
 fn main() {
-    direct_cases();
-    relayed_cases();
-    boundaries();
-    ends();
+    cases_1_to_3();
+    cases_4_and_5();
+    cases_6_to_8();
+    case_9_and_10();
+    case_10_decided();
+    limits();
+    few_readings();
+    roundings();
+    bad_settings();
+    bad_entries();
+    ends_by_average();
+    ends_by_median();
+    ends_by_midpoint();
+    ends_apart();
+    ends_in_a_window();
     trays();
     pairs();
     most_direct();

@@ -1,6 +1,6 @@
 // Settles document 01's cases 1 to 10 as sheets in bytes, the remarks below them, each refusal alone and every two at once, readings at
 // the ends of 32 bits, and N 64 by both rules. A line has the sheet in words, the answer, and how many bytes behind the answer kept what
-// they had: each tray holds 165 everywhere before its call.
+// they had: each buffer holds 165 everywhere before its call.
 //
 // The stored output is not the program's own: the sheets were made from the words before the colon, and the answers are those of the
 // reference in outside/reference, which was written from document 01 alone. Cases 1 to 10 agree with the numbers of document 01.
@@ -29,11 +29,11 @@ fn unchanged(byte: u8) -> usize
 }
 
 // How many bytes from a place on hold 165.
-fn kept(tray: &[u8], from: usize) -> usize {
+fn kept(buffer: &[u8], from: usize) -> usize {
     let mut i = from;
     let mut count: usize = 0;
-    'bytes: while i < tray.len() {
-        count += unchanged(tray[i]);
+    'bytes: while i < buffer.len() {
+        count += unchanged(buffer[i]);
         i += 1;
     }
     count
@@ -58,35 +58,35 @@ fn show_cabinets(answer: &[u8], n: u8) {
     }
 }
 
-fn show_answer(tray: &[u8], size: usize) {
-    let n = words::byte_at(tray, 0);
+fn show_answer(buffer: &[u8], size: usize) {
+    let n = words::byte_at(buffer, 0);
     number(b"granted ", size as u64);
     number(b": round ", n as u64);
-    number(b" ", words::byte_at(tray, 1) as u64);
-    signed(words::word_at(tray, 2));
-    signed(words::word_at(tray, 6));
-    show_cabinets(tray, n);
-    number(b"; kept ", kept(tray, size) as u64);
+    number(b" ", words::byte_at(buffer, 1) as u64);
+    signed(words::word_at(buffer, 2));
+    signed(words::word_at(buffer, 6));
+    show_cabinets(buffer, n);
+    number(b"; kept ", kept(buffer, size) as u64);
 }
 
-fn show_refusal(tray: &[u8], refusal: Refusal) {
+fn show_refusal(buffer: &[u8], refusal: Refusal) {
     number(b"refused ", refusal.number as u64);
     number(b" ", refusal.place as u64);
-    number(b"; kept ", kept(tray, 0) as u64);
+    number(b"; kept ", kept(buffer, 0) as u64);
 }
 
-fn show_in(sheet: &[u8], tray: &mut [u8]) {
-    match round::settle(sheet, tray) {
-        Settled::Granted(size) => show_answer(tray, size),
-        Settled::Refused(refusal) => show_refusal(tray, refusal),
+fn show_in(sheet: &[u8], buffer: &mut [u8]) {
+    match round::settle(sheet, buffer) {
+        Settled::Granted(size) => show_answer(buffer, size),
+        Settled::Refused(refusal) => show_refusal(buffer, refusal),
     }
     io::write_all(1, b"\n");
 }
 
 fn show(title: &[u8], sheet: &[u8]) {
-    let mut tray = [165u8; 50];
+    let mut buffer = [165u8; 50];
     io::write_all(1, title);
-    show_in(sheet, &mut tray);
+    show_in(sheet, &mut buffer);
 }
 
 // Cases 1 to 3.
@@ -349,8 +349,8 @@ fn ends_in_a_window() {
     );
 }
 
-// Case 1's sheet in trays of 29 bytes, of none, of 30 and of 31.
-fn trays() {
+// Case 1's sheet in buffers of 29 bytes, of none, of 30 and of 31.
+fn buffers() {
     show_rooms(
         b"\x04\x01\x00\x01\x0a\x00\x00\x00\x01\x01\x01\x01\x00\x00\x00\x00\x04\x00\x00\x00\x0a\x00\x00\x00\xf4\x01\x00\x00",
     );
@@ -358,21 +358,21 @@ fn trays() {
 
 fn show_rooms(sheet: &[u8]) {
     let mut short = [165u8; 29];
-    io::write_all(1, b"tray of 29: ");
+    io::write_all(1, b"buffer of 29: ");
     show_in(sheet, &mut short);
     let mut none = [165u8; 1];
-    io::write_all(1, b"tray of 0: ");
+    io::write_all(1, b"buffer of 0: ");
     show_in(sheet, &mut none[..0]);
     let mut exact = [165u8; 30];
-    io::write_all(1, b"tray of 30: ");
+    io::write_all(1, b"buffer of 30: ");
     show_in(sheet, &mut exact);
     let mut longer = [165u8; 31];
-    io::write_all(1, b"tray of 31: ");
+    io::write_all(1, b"buffer of 31: ");
     show_in(sheet, &mut longer);
 }
 
 // What makes a check refuse case 1's sheet, for each number from 1 to 10, and for 0 what changes nothing: the byte that is set, its
-// value, the length of the sheet and that of the tray.
+// value, the length of the sheet and that of the buffer.
 fn place(check: usize) -> usize {
     words::byte_at(b"\xff\xff\x00\x01\x02\x07\xff\xff\x09\x0b\x04", check) as usize
 }
@@ -399,14 +399,14 @@ fn put_byte(sheet: &mut [u8], at: usize, byte: u8) {
     }
 }
 
-fn show_parts(sheet: &[u8], size: usize, tray: &mut [u8], room: usize) {
+fn show_parts(sheet: &[u8], size: usize, buffer: &mut [u8], room: usize) {
     if sheet.len() < size {
         return;
     }
-    if tray.len() < room {
+    if buffer.len() < room {
         return;
     }
-    show_in(&sheet[..size], &mut tray[..room]);
+    show_in(&sheet[..size], &mut buffer[..room]);
 }
 
 fn damage(sheet: &mut [u8], check: usize) {
@@ -420,14 +420,14 @@ fn show_checks(first: usize, second: usize) {
 }
 
 fn show_pair(sheet: &mut [u8], first: usize, second: usize) {
-    let mut tray = [165u8; 40];
+    let mut buffer = [165u8; 40];
     damage(sheet, first);
     damage(sheet, second);
     show_checks(first, second);
     show_parts(
         sheet,
         least(size(first), size(second)),
-        &mut tray,
+        &mut buffer,
         least(room(first), room(second)),
     );
 }
@@ -509,10 +509,10 @@ fn put_settings(sheet: &mut [u8], rule: u8, estimator: u8) {
 }
 
 fn show_most(title: &[u8], sheet: &mut [u8], rule: u8, estimator: u8) {
-    let mut tray = [165u8; 340];
+    let mut buffer = [165u8; 340];
     put_settings(sheet, rule, estimator);
     io::write_all(1, title);
-    show_in(sheet, &mut tray);
+    show_in(sheet, &mut buffer);
 }
 
 // N 64, m 21 and the widest window: 43 cabinets agree; 63 is missing by FCA, and known faulty by CCA.
@@ -552,7 +552,7 @@ fn main() {
     ends_by_midpoint();
     ends_apart();
     ends_in_a_window();
-    trays();
+    buffers();
     pairs();
     most_direct();
     most_relayed();

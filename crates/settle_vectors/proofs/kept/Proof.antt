@@ -7,10 +7,10 @@ use Rattle.settle_vectors.proofs.kept.Statement.{statement}
 use Rattle.settle_vectors.proofs.kept.Tie as tie
 
 abbrev Inv-bytes : tie.InvT-bytes
-Inv-bytes tray from i₀ count₀ i count = count ≤ i
+Inv-bytes buffer from i₀ count₀ i count = count ≤ i
 
 abbrev μ-bytes : tie.MeasureT-bytes
-μ-bytes tray from i₀ count₀ i count = length tray - i
+μ-bytes buffer from i₀ count₀ i count = length buffer - i
 
 bytes-holds : tie.Need-bytes-holds Inv-bytes μ-bytes
 bytes-holds c = search needs

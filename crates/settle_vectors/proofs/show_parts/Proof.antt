@@ -19,7 +19,7 @@ slice-relend-prefix-show-in : tie.Need-slice-relend-prefix-show-in
 slice-relend-prefix-show-in c = search needs
 
 slice-aggregate-show-in-2 : tie.Need-slice-aggregate-show-in-2
-slice-aggregate-show-in-2 c = sym (length-take-le (c .before .before .before .before .before .before .args .room) (c .before .before .before .before .before .before .args .tray .now) (search needs))
+slice-aggregate-show-in-2 c = sym (length-take-le (c .before .before .before .before .before .before .args .room) (c .before .before .before .before .before .before .args .buffer .now) (search needs))
 
 show-in-requires : tie.Need-show-in-requires
 show-in-requires c κs = search needs

@@ -1,10 +1,10 @@
-//! The time two engines take to settle the same sheets, side by side.
+//! The time two engines take to settle and to read the same sheets, side by side.
 #![forbid(unsafe_code)]
 
 mod picture;
 mod sheets;
 
-use engine::Engine;
+use engine::{Engine, Settings};
 use sheets::{Kind, KINDS, RULES, SIZES};
 use std::hint::black_box;
 use std::process::ExitCode;
@@ -56,35 +56,58 @@ fn engines(names: &str) -> Option<[Box<dyn Engine>; 2]> {
     Some([engine::named(a)?, engine::named(b)?])
 }
 
-/// Settles all sheets so many times over.
-fn time(engine: &dyn Engine, sheets: &[Vec<u8>], times: u32) -> Duration {
+/// What is timed.
+#[derive(Clone, Copy)]
+enum Call {
+    Settle,
+    Read,
+}
+
+/// Makes the call for all sheets so many times over.
+fn time(engine: &dyn Engine, call: Call, sheets: &[Vec<u8>], times: u32) -> Duration {
     let mut answer = [0; 330];
+    let mut settings = Settings::default();
+    let (mut marks, mut readings) = ([0; 4096], [0; 4096]);
     let start = Instant::now();
     for _ in 0..times {
         for sheet in sheets {
-            black_box(engine.settle(black_box(sheet), black_box(&mut answer)));
+            let sheet = black_box(sheet);
+            black_box(match call {
+                Call::Settle => engine.settle(sheet, black_box(&mut answer)),
+                Call::Read => engine.read(
+                    sheet,
+                    &mut settings,
+                    black_box(&mut marks),
+                    black_box(&mut readings),
+                ),
+            });
         }
     }
     start.elapsed()
 }
 
 /// How often the sheets are settled in one slice.
-fn times_in_a_slice(engine: &dyn Engine, sheets: &[Vec<u8>]) -> u32 {
+fn times_in_a_slice(engine: &dyn Engine, call: Call, sheets: &[Vec<u8>]) -> u32 {
     let mut times = 1;
-    while time(engine, sheets, times) < SLICE {
+    while time(engine, call, sheets, times) < SLICE {
         times *= 2;
     }
     times
 }
 
 /// In ns per sheet, over slices that alternate between the engines: a quarter of them were faster.
-fn side_by_side(engines: &[Box<dyn Engine>; 2], sheets: &[Vec<u8>], slices: usize) -> [f64; 2] {
-    let times = [0, 1].map(|i| times_in_a_slice(&*engines[i], sheets));
+fn side_by_side(
+    engines: &[Box<dyn Engine>; 2],
+    call: Call,
+    sheets: &[Vec<u8>],
+    slices: usize,
+) -> [f64; 2] {
+    let times = [0, 1].map(|i| times_in_a_slice(&*engines[i], call, sheets));
     let mut ns = [Vec::new(), Vec::new()];
     for _ in 0..slices {
         for i in 0..2 {
             let settled = times[i] as f64 * sheets.len() as f64;
-            ns[i].push(time(&*engines[i], sheets, times[i]).as_nanos() as f64 / settled);
+            ns[i].push(time(&*engines[i], call, sheets, times[i]).as_nanos() as f64 / settled);
         }
     }
     ns.map(|mut slices| {
@@ -103,6 +126,23 @@ fn agree(engines: &[Box<dyn Engine>; 2], sheets: &[Vec<u8>], kind: Kind) -> bool
         let all = kind != Kind::AllAccepted || tray_a[0] == tray_a[1];
         a == b && tray_a == tray_b && engine::number(a) == number && all
     })
+}
+
+/// Reading sheets whose readings are all present.
+fn show_reading(engines: &[Box<dyn Engine>; 2], slices: usize) {
+    println!();
+    println!("Reading the same sheets into lent arrays, all readings present:");
+    for (rule, rule_name) in RULES {
+        for n in SIZES {
+            let sheets = sheets::sheets(n, rule, Kind::AllAccepted);
+            let ns = side_by_side(engines, Call::Read, &sheets, slices);
+            let ratio = ns[0] / ns[1];
+            println!(
+                "{rule_name:4} read           {n:>3} {:>11.1} {:>11.1} {ratio:>7.2}",
+                ns[0], ns[1]
+            );
+        }
+    }
 }
 
 fn main() -> ExitCode {
@@ -140,7 +180,7 @@ fn main() -> ExitCode {
                     );
                     return ExitCode::FAILURE;
                 }
-                let ns = side_by_side(&engines, &sheets, options.slices);
+                let ns = side_by_side(&engines, Call::Settle, &sheets, options.slices);
                 print!(
                     "{rule_name:4} {:14} {n:>3} {:>11.1} {:>11.1} {:>7.2}",
                     kind.name(),
@@ -170,6 +210,7 @@ fn main() -> ExitCode {
         names[0],
         names[1]
     );
+    show_reading(&engines, options.slices);
     if let Err(error) = std::fs::write(&options.svg, picture::svg([&names[0], &names[1]], &cells)) {
         println!("FAILED: {}: {error}", options.svg);
         return ExitCode::FAILURE;

@@ -117,7 +117,7 @@ fn hand_back(given: Result<Plan, Refusal>, plan: &mut Plan) -> u64 {
     }
 }
 
-/// The plain one settles by itself; its other calls are the reference's.
+/// The plain one settles and reads by itself; its other calls are the reference's.
 pub struct Plain;
 
 impl Engine for Plain {
@@ -136,7 +136,17 @@ impl Engine for Plain {
         marks: &mut [u8],
         readings: &mut [i32],
     ) -> u64 {
-        Reference.read(sheet, settings, marks, readings)
+        let answer = plain::read(sheet, marks, readings);
+        if number(answer) == 0 {
+            *settings = Settings {
+                n: sheet[0],
+                m: sheet[1],
+                rule: sheet[2],
+                estimator: sheet[3],
+                window: u32::from_le_bytes([sheet[4], sheet[5], sheet[6], sheet[7]]),
+            };
+        }
+        answer
     }
 
     fn write(&self, settings: &Settings, marks: &[u8], readings: &[i32], sheet: &mut [u8]) -> u64 {

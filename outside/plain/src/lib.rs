@@ -7,10 +7,20 @@
 
 const MOST: usize = 64;
 
-/// The length of the answer sheet, or number × 2^32 + place.
-pub fn settle(sheet: &[u8], answer: &mut [u8]) -> u64 {
+/// The sizes of a sheet that passes checks 1 to 6.
+struct Opened {
+    n: usize,
+    m: usize,
+    rule: u8,
+    estimator: u8,
+    window: u32,
+    entries: usize,
+}
+
+/// Checks 1 to 6.
+fn open(sheet: &[u8]) -> Result<Opened, u64> {
     if sheet.len() < 8 {
-        return refusal(1, 0);
+        return Err(refusal(1, 0));
     }
     let n = sheet[0] as usize;
     let m = sheet[1] as usize;
@@ -18,36 +28,72 @@ pub fn settle(sheet: &[u8], answer: &mut [u8]) -> u64 {
     let estimator = sheet[3];
     let window = u32::from_le_bytes([sheet[4], sheet[5], sheet[6], sheet[7]]);
     if n == 0 || n > MOST {
-        return refusal(2, 0);
+        return Err(refusal(2, 0));
     }
     if n < 3 * m + 1 {
-        return refusal(3, 0);
+        return Err(refusal(3, 0));
     }
     if rule > 1 || estimator > 2 {
-        return refusal(4, 0);
+        return Err(refusal(4, 0));
     }
     if window > 1_000_000 {
-        return refusal(5, 0);
+        return Err(refusal(5, 0));
     }
     let entries = if rule == 1 { n * n } else { n };
     if sheet.len() != 8 + 5 * entries {
-        return refusal(6, 0);
+        return Err(refusal(6, 0));
     }
+    Ok(Opened { n, m, rule, estimator, window, entries })
+}
+
+/// Checks 8 and 9.
+fn check_entries(marks: &[u8], readings: &[u8]) -> Result<(), u64> {
+    for entry in 0..marks.len() {
+        if marks[entry] > 1 {
+            return Err(refusal(8, entry));
+        }
+    }
+    for entry in 0..marks.len() {
+        if marks[entry] == 0 && reading(readings, entry) != 0 {
+            return Err(refusal(9, entry));
+        }
+    }
+    Ok(())
+}
+
+/// The number of entries, with marks and readings filled, or number × 2^32 + place.
+pub fn read(sheet: &[u8], marks: &mut [u8], readings: &mut [i32]) -> u64 {
+    let entries = match open(sheet) {
+        Err(refusal) => return refusal,
+        Ok(opened) => opened.entries,
+    };
+    if marks.len() < entries || readings.len() < entries {
+        return refusal(7, 0);
+    }
+    let (given_marks, given_readings) = sheet[8..].split_at(entries);
+    if let Err(refusal) = check_entries(given_marks, given_readings) {
+        return refusal;
+    }
+    marks[..entries].copy_from_slice(given_marks);
+    for entry in 0..entries {
+        readings[entry] = reading(given_readings, entry);
+    }
+    entries as u64
+}
+
+/// The length of the answer sheet, or number × 2^32 + place.
+pub fn settle(sheet: &[u8], answer: &mut [u8]) -> u64 {
+    let Opened { n, m, rule, estimator, window, entries } = match open(sheet) {
+        Err(refusal) => return refusal,
+        Ok(opened) => opened,
+    };
     let length = 10 + 5 * n;
     if answer.len() < length {
         return refusal(7, 0);
     }
-    let marks = &sheet[8..8 + entries];
-    let readings = &sheet[8 + entries..];
-    for entry in 0..entries {
-        if marks[entry] > 1 {
-            return refusal(8, entry);
-        }
-    }
-    for entry in 0..entries {
-        if marks[entry] == 0 && reading(readings, entry) != 0 {
-            return refusal(9, entry);
-        }
+    let (marks, readings) = sheet[8..].split_at(entries);
+    if let Err(refusal) = check_entries(marks, readings) {
+        return refusal;
     }
 
     let need = n - m;

@@ -266,7 +266,7 @@ fn settings(n: u8, m: u8, rule: u8, estimator: u8, window: u32) -> Settings {
 fn writes() {
     let readings = [-3i32, 2_147_483_647, 0, -2_147_483_648];
     let more = [1i32, 2, 3, 4, 5];
-    let stray = [-2_147_483_648i32, 1, 2, 3];
+    let nonzero = [-2_147_483_648i32, 1, 2, 3];
     show_write(settings(4, 1, 0, 1, 10), b"\x01\x01\x00\x01", &readings);
     show_write(
         settings(2, 0, 1, 2, 1_000_000),
@@ -282,9 +282,9 @@ fn writes() {
         b"\x01\x01\x00\x01",
         &more,
     );
-    show_write(settings(4, 1, 0, 1, 10), b"\x00\x02\x00\x03", &stray);
-    show_write(settings(4, 1, 0, 1, 10), b"\x00\x01\x00\x01", &stray);
-    show_write(settings(4, 1, 0, 1, 10), b"\x01\x01\x00\x01", &stray);
+    show_write(settings(4, 1, 0, 1, 10), b"\x00\x02\x00\x03", &nonzero);
+    show_write(settings(4, 1, 0, 1, 10), b"\x00\x01\x00\x01", &nonzero);
+    show_write(settings(4, 1, 0, 1, 10), b"\x01\x01\x00\x01", &nonzero);
 }
 
 fn damaged_rows() {

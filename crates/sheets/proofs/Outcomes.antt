@@ -128,8 +128,8 @@ pub settle-rows :
     (orNext (firstOf (entryChecks s)) (tooManyFaults (roundAt s .count))))
 unfolding settleChecks firstOf
 settle-rows s answer =
-    let tray : Row = noRoom (length answer) (answerLength (settingsAt s .n)) in
+    let room : Row = noRoom (length answer) (answerLength (settingsAt s .n)) in
     let faults : Row = tooManyFaults (roundAt s .count) in
-    first-append (sheetChecks s) (tray ∷ (entryChecks s ++ (faults ∷ [])))
-    ∙ ap (λ (r : Row). orNext (firstOf (sheetChecks s)) (orNext tray r))
+    first-append (sheetChecks s) (room ∷ (entryChecks s ++ (faults ∷ [])))
+    ∙ ap (λ (r : Row). orNext (firstOf (sheetChecks s)) (orNext room r))
     (first-append (entryChecks s) (faults ∷ []) ∙ ap (orNext (firstOf (entryChecks s))) (next-none faults))

@@ -1,9 +1,8 @@
 //! The calls of an agreement engine, in the manner of the C interface: an answer below 2^32 is
 //! a grant, any other is number × 2^32 + place of a refusal.
-#![deny(unsafe_code)]
+#![forbid(unsafe_code)]
 
 #[cfg(feature = "linked")]
-#[allow(unsafe_code)]
 pub mod linked;
 pub mod sabotage;
 

@@ -1,70 +1,42 @@
-//! The proved library behind its C interface (include/tohiranga.h), compiled with the feature
-//! `linked`. An answer below 2^32 is a grant, any other is number × 2^32 + place. After a refusal
-//! nothing lent is written, and the settings and the plan handed over are zeros.
+//! The proved library behind its C interface, through the wrapper of bindings/rust, compiled with
+//! the feature `linked`. So the checks hold the wrapper to document 01 too.
 
-use crate::{number, Engine, Plan, Settings};
+use crate::{Engine, Plan, Settings};
 
-#[repr(C)]
-struct Opening {
-    answer: u64,
-    settings: Settings,
+fn packed<A>(given: Result<A, tohiranga::Refusal>, granted: impl FnOnce(A) -> u64) -> u64 {
+    given.map_or_else(|refusal| ((refusal.number as u64) << 32) + refusal.place as u64, granted)
 }
 
-#[repr(C)]
-struct Planning {
-    answer: u64,
-    plan: Plan,
+fn settings_to(settings: &Settings) -> tohiranga::Settings {
+    let Settings { n, m, rule, estimator, window } = *settings;
+    tohiranga::Settings { n, m, rule, estimator, window }
 }
 
-extern "C" {
-    fn tohiranga_settle(
-        sheet: *const u8,
-        sheet_len: usize,
-        answer: *mut u8,
-        answer_len: usize,
-    ) -> u64;
-    fn tohiranga_read(
-        sheet: *const u8,
-        sheet_len: usize,
-        marks: *mut u8,
-        marks_len: usize,
-        readings: *mut i32,
-        readings_len: usize,
-    ) -> Opening;
-    fn tohiranga_write(
-        settings: Settings,
-        marks: *const u8,
-        marks_len: usize,
-        readings: *const i32,
-        readings_len: usize,
-        sheet: *mut u8,
-        sheet_len: usize,
-    ) -> u64;
-    fn tohiranga_row(sheet: *const u8, sheet_len: usize, cabinet: u32) -> u64;
-    fn tohiranga_plan(settings: Settings, accuracy: u32, rounds: u32) -> Planning;
-    fn tohiranga_step(plan: Plan) -> Planning;
-    fn tohiranga_target(settings: Settings, accuracy: u32, target: u32) -> u64;
+fn settings_from(settings: tohiranga::Settings) -> Settings {
+    let tohiranga::Settings { n, m, rule, estimator, window } = settings;
+    Settings { n, m, rule, estimator, window }
 }
 
-fn hand_back(given: Planning, plan: &mut Plan) -> u64 {
-    if number(given.answer) == 0 {
-        *plan = given.plan;
-    } else {
-        assert_eq!(given.plan, Plan::default(), "a refusal hands over zeros");
-    }
-    given.answer
+fn hand_back(given: Result<tohiranga::Plan, tohiranga::Refusal>, plan: &mut Plan) -> u64 {
+    packed(given, |given| {
+        *plan = Plan {
+            settings: settings_from(given.settings),
+            accuracy: given.accuracy,
+            rounds: given.rounds,
+        };
+        given.rounds as u64
+    })
 }
 
 pub struct Linked;
 
-// Safe: each pointer goes with the length of its slice, and the library keeps none of them.
 impl Engine for Linked {
     fn name(&self) -> String {
         "linked".into()
     }
 
     fn settle(&self, sheet: &[u8], answer: &mut [u8]) -> u64 {
-        unsafe { tohiranga_settle(sheet.as_ptr(), sheet.len(), answer.as_mut_ptr(), answer.len()) }
+        packed(tohiranga::settle(sheet, answer), |length| length as u64)
     }
 
     fn read(
@@ -74,53 +46,36 @@ impl Engine for Linked {
         marks: &mut [u8],
         readings: &mut [i32],
     ) -> u64 {
-        let given = unsafe {
-            tohiranga_read(
-                sheet.as_ptr(),
-                sheet.len(),
-                marks.as_mut_ptr(),
-                marks.len(),
-                readings.as_mut_ptr(),
-                readings.len(),
-            )
-        };
-        if number(given.answer) == 0 {
-            *settings = given.settings;
-        } else {
-            assert_eq!(given.settings, Settings::default(), "a refusal hands over zeros");
-        }
-        given.answer
+        packed(tohiranga::read(sheet, marks, readings), |given| {
+            *settings = settings_from(given);
+            given.entries() as u64
+        })
     }
 
     fn write(&self, settings: &Settings, marks: &[u8], readings: &[i32], sheet: &mut [u8]) -> u64 {
-        unsafe {
-            tohiranga_write(
-                *settings,
-                marks.as_ptr(),
-                marks.len(),
-                readings.as_ptr(),
-                readings.len(),
-                sheet.as_mut_ptr(),
-                sheet.len(),
-            )
-        }
+        packed(tohiranga::write(settings_to(settings), marks, readings, sheet), |length| {
+            length as u64
+        })
     }
 
     fn row<'a>(&self, sheet: &'a [u8], cabinet: u32) -> &'a [u8] {
-        let part = unsafe { tohiranga_row(sheet.as_ptr(), sheet.len(), cabinet) };
-        let start = (part >> 32) as usize;
-        &sheet[start..start + part as u32 as usize]
+        tohiranga::row(sheet, cabinet)
     }
 
     fn plan(&self, settings: &Settings, accuracy: u32, rounds: u32, plan: &mut Plan) -> u64 {
-        hand_back(unsafe { tohiranga_plan(*settings, accuracy, rounds) }, plan)
+        hand_back(settings_to(settings).plan(accuracy, rounds), plan)
     }
 
     fn step(&self, plan: &Plan, next: &mut Plan) -> u64 {
-        hand_back(unsafe { tohiranga_step(*plan) }, next)
+        let plan = tohiranga::Plan {
+            settings: settings_to(&plan.settings),
+            accuracy: plan.accuracy,
+            rounds: plan.rounds,
+        };
+        hand_back(plan.step(), next)
     }
 
     fn target(&self, settings: &Settings, accuracy: u32, target: u32) -> u64 {
-        unsafe { tohiranga_target(*settings, accuracy, target) }
+        packed(settings_to(settings).rounds_for(accuracy, target), |rounds| rounds as u64)
     }
 }

@@ -1,28 +1,28 @@
 -- The estimate and the new value of the kept readings are those of the accepted ones; and what each `return` of `agree` answers.
 -- Assumes nothing.
-use mathlib.Core.Bool.{Bool, true, false, not, cond, _&&_, _||_}
+use mathlib.Core.Bool.{Bool, true, false, cond, _&&_}
 use mathlib.Core.List.{List}
 use mathlib.Core.Logic.{inl}
 use mathlib.Core.Option.{Option, none, some}
 use mathlib.Core.Path.{_≡_, refl, sym, ap, ap₂, _∙_}
 use Prim.Native.Nat.{ℕ, _+_, _/_, _≤_, _<_}
 use native.Mathlib.Omega.{arith}
-use borrow.Author.Tests.{le-ltb, lt-leb, ne-eqb, eq-eqb, ltb-false, eqb-true, not-false}
+use borrow.Author.Tests.{le-ltb, lt-ltb}
 use lib.Dec.{leb, ltb, eqb}
 use lib.ListN.{length, getD, replicate, getD-replicate}
 use Rattle.arithmetic.specs.Counting.{count, lowest}
-use Rattle.arithmetic.specs.Writing.{table}
+use Rattle.arithmetic.specs.Writing.{table, overwrite}
 use Rattle.arithmetic.proofs.Bools.{and-left}
-use Rattle.arithmetic.proofs.Counting.{count-ext, count-le, lowest-ext, lowest-found}
+use Rattle.arithmetic.proofs.Counting.{count-ext, lowest-ext, lowest-found}
 use Rattle.arithmetic.proofs.Sums.{total, total-ext}
 use Rattle.arithmetic.proofs.Writing.{length-table, getD-table}
 use Rattle.rounds.proofs.Natural.{accepted-present}
 use Rattle.rounds.proofs.Shifted.{is-numbered, nat-at, numbered-nat, average-nat, median-nat, midpoint-nat, estimate-nat, mean-nat}
-use Rattle.arithmetic.proofs.Bools.{or-left, or-right}
-use Rattle.estimates.specs.Values.{valueAt, presentAt, newValueOf}
+use Rattle.estimates.specs.Values.{valueAt, presentAt, usedAt, newValueOf, evaluatedOf, nothing}
 use Rattle.estimates.specs.Values.{estimateOf as estimateOfPresent}
-use Rattle.agreement.specs.Values.{acceptedAt, Remembered, keptAt, keptOf, countOf, estimateOf, valueOf, agreedOf, nothing}
-use Rattle.agreement.specs.declared.Agreed.{Agreed}
+use Rattle.estimates.specs.declared.Estimated.{Estimated}
+use Rattle.agreement.specs.Values.{acceptedAt, Remembered, keptValue, keptAt, keptOf, countOf, estimateOf, valueOf, agreedOf}
+use Rattle.agreement.proofs.Kept.{marked, struck, struck-kept}
 
 -- two conjunctions are equal where their first parts are, and the second where the first passes
 and-ext : {a b c d : Bool} → a ≡ b → (a ≡ true → c ≡ d) → (a && c) ≡ (b && d)
@@ -72,11 +72,16 @@ module _ (acc bcc : ℕ → Bool) (n : ℕ) (x y : ℕ → ℕ) (both : (r : ℕ
       (ap₂ (λ (a b : ℕ). (a + b) / 2) (numbered-same k 1)
       (ap (numbered-nat k acc n x) count-same ∙ numbered-same k (count bcc n))))
 
+-- what is struck out is not present
+struck-out : (p : Bool) → ltb (cond p 4294967297 4294967296) 4294967296 ≡ false
+struck-out true = refl
+struck-out false = refl
+
 module _ (w need : ℕ) (s : List ℕ) where
   abbrev pub kept : List ℕ
   kept = table (keptAt w need s) (length s)
 
-  pub length-kept : length kept ≡ length s
+  length-kept : length kept ≡ length s
   length-kept = length-table (keptAt w need s) (length s)
 
   pub kept-at : (r : ℕ) → r < length s → getD kept r 0 ≡ keptAt w need s r
@@ -87,84 +92,68 @@ module _ (w need : ℕ) (s : List ℕ) where
   unfolding acceptedAt
   kept-present r l = ap (λ (v : ℕ). ltb v 4294967296) (kept-at r l) ∙ go (acceptedAt w need s r) (accepted-present w (presentAt s) (valueAt s) need (length s) r)
     where
-      go : (b : Bool) → (b ≡ true → presentAt s r ≡ true) → ltb (cond b (getD s r 0) 4294967296) 4294967296 ≡ b
+      go : (b : Bool) → (b ≡ true → presentAt s r ≡ true) → ltb (keptValue b (getD s r 0)) 4294967296 ≡ b
       go true f = f refl
-      go false f = refl
+      go false f = struck-out (ltb (getD s r 0) 4294967296)
 
-  pub kept-value : (r : ℕ) → r < length s → acceptedAt w need s r ≡ true → valueAt s r ≡ valueAt kept r
-  kept-value r l e = sym (kept-at r l ∙ ap (λ (b : Bool). cond b (getD s r 0) 4294967296) e)
+  kept-value : (r : ℕ) → r < length s → acceptedAt w need s r ≡ true → valueAt s r ≡ valueAt kept r
+  kept-value r l e = sym (kept-at r l ∙ ap (λ (b : Bool). keptValue b (getD s r 0)) e)
 
   count-kept : count (presentAt kept) (length s) ≡ countOf w need s
   unfolding countOf
   count-kept = count-ext (presentAt kept) (acceptedAt w need s) (length s) kept-present
 
-  module _ (few : length s ≤ 64) (some : countOf w need s ≡ 0 → ⊥) where
-    pub estimate-kept : (kind : ℕ) → estimateOfPresent kind kept ≡ estimateOf w need kind s
-    unfolding estimateOfPresent estimateOf
-    estimate-kept kind =
-        rw (length-kept, le-ltb 64 (length s) few, count-kept, ne-eqb (countOf w need s) 0 some)
-        (sym
-        (estimate-same (acceptedAt w need s) (presentAt kept) (length s) (valueAt s) (valueAt kept)
-        (λ r l. sym (kept-present r l)) kept-value 2147483648 kind))
+  estimate-kept : (kind : ℕ) → estimate-nat 2147483648 kind (presentAt kept) (length s) (valueAt kept) ≡ estimateOf w need kind s
+  unfolding estimateOf
+  estimate-kept kind =
+      sym
+      (estimate-same (acceptedAt w need s) (presentAt kept) (length s) (valueAt s) (valueAt kept)
+      (λ r l. sym (kept-present r l)) kept-value 2147483648 kind)
 
-    pub value-kept : (e : ℕ) → e < 4294967296 → newValueOf kept e ≡ valueOf w need s e
-    unfolding newValueOf valueOf countOf
-    value-kept e l =
-        rw (length-kept, ne-eqb (length s) 0 not-empty, le-ltb 64 (length s) few, lt-leb 4294967296 e l)
-        (ap (mean-nat (length s))
-        (sym
-        (total-same (acceptedAt w need s) (presentAt kept) (length s) (valueAt s) (valueAt kept)
-        (λ r m. sym (kept-present r m)) kept-value e)))
-      where
-        not-empty : length s ≡ 0 → ⊥
-        not-empty z = let c = count-le (acceptedAt w need s) (length s) in some (omega arith)
+  value-kept : (e : ℕ) → mean-nat (length s) (total (usedAt kept e) (length s)) ≡ valueOf w need s e
+  unfolding valueOf
+  value-kept e =
+      ap (mean-nat (length s))
+      (sym
+      (total-same (acceptedAt w need s) (presentAt kept) (length s) (valueAt s) (valueAt kept)
+      (λ r m. sym (kept-present r m)) kept-value e))
 
--- ---- the answers
+  answer : ℕ → ℕ → ℕ → Estimated
+  answer n e v = cond (eqb n 0) nothing (record { count = n; estimate = e; value = v })
+
+  -- the evaluation of what is kept is that of the accepted readings
+  evaluated-kept : (kind : ℕ) → length s ≤ 64 → evaluatedOf kind kept ≡ agreedOf w need kind s
+  unfolding evaluatedOf estimateOfPresent newValueOf agreedOf answer
+  evaluated-kept kind few =
+      rw (length-kept, le-ltb 64 (length s) few)
+      (ap₂ (λ (n e : ℕ). answer n e (mean-nat (length s) (total (usedAt kept e) (length s)))) count-kept (estimate-kept kind)
+      ∙ ap (answer (countOf w need s) (estimateOf w need kind s)) (value-kept (estimateOf w need kind s)))
+
+  -- ---- what `agree` answers
+
+  pub agreed-many : (kind : ℕ) → 64 < length s → nothing ≡ agreedOf w need kind s
+  unfolding agreedOf
+  agreed-many kind h = rw (lt-ltb 64 (length s) h)
+
+  pub kept-many : 64 < length s → s ≡ keptOf w need s
+  unfolding keptOf
+  kept-many h = rw (lt-ltb 64 (length s) h)
+
+  -- the lists as the calls left them
+  module _ (few : length s ≤ 64) (marks₀ marks values : List ℕ) (room : length s ≤ length marks₀) (marked-as : marks ≡ overwrite (table (marked w need s marks₀) (length s)) marks₀) (struck-as : values ≡ table (struck marks s) (length s)) where
+    kept-as : values ≡ kept
+    kept-as =
+        struck-as
+        ∙ ap (λ (m : List ℕ). table (struck m s) (length s)) marked-as
+        ∙ struck-kept w need s marks₀ room
+
+    pub kept-few : values ≡ keptOf w need s
+    unfolding keptOf
+    kept-few = kept-as ∙ rw (le-ltb 64 (length s) few)
+
+    pub agreed-few : (kind : ℕ) (a : Estimated) → a ≡ evaluatedOf kind values → a ≡ agreedOf w need kind s
+    agreed-few kind a e = e ∙ ap (evaluatedOf kind) kept-as ∙ evaluated-kept kind few
 
 -- nothing is remembered of any start
 pub remember-none : (w need : ℕ) (s : List ℕ) → length s ≤ 64 → Remembered w need s (replicate 64 0)
 remember-none w need s few a l = inl (getD-replicate 64 a 0 0 (omega arith))
-
-module _ (w need kind : ℕ) (s old : List ℕ) {b : Bool} (test : b ≡ (ltb 64 (length s) || not (eqb (length old) (length s)))) where
-  pub agreed-unfit : b ≡ true → nothing ≡ agreedOf w need kind s old
-  unfolding agreedOf
-  agreed-unfit t = rw (sym test ∙ t)
-
-  pub kept-unfit : b ≡ true → old ≡ keptOf w need s old
-  unfolding keptOf
-  kept-unfit t = rw (sym test ∙ t)
-
-  module _ (f : b ≡ false) where
-    pub fit-few : length s ≤ 64
-    fit-few = ltb-false 64 (length s) (or-left (ltb 64 (length s)) (not (eqb (length old) (length s))) (sym test ∙ f))
-
-    pub fit-room : length old ≡ length s
-    fit-room = eqb-true (length old) (length s) (not-false _ (or-right (ltb 64 (length s)) (not (eqb (length old) (length s))) (sym test ∙ f)))
-
-    count-few : countOf w need s ≤ 64
-    unfolding countOf
-    count-few = let c = count-le (acceptedAt w need s) (length s) in omega (arith, fit-few)
-
-    kept-fit : table (keptAt w need s) (length s) ≡ keptOf w need s old
-    unfolding keptOf
-    kept-fit = rw (sym test ∙ f)
-
-    -- what the kept list, the count, the estimate and the new value are, as the calls give them
-    module _ (k : List ℕ) (n : ℕ) (stored : k ≡ table (keptAt w need s) (length s)) (counted : n ≡ countOf w need s) where
-      pub kept-answer : k ≡ keptOf w need s old
-      kept-answer = stored ∙ kept-fit
-
-      pub agreed-none : n ≡ 0 → nothing ≡ agreedOf w need kind s old
-      unfolding agreedOf
-      agreed-none e = rw (sym test ∙ f, eq-eqb (countOf w need s) 0 (sym counted ∙ e))
-
-      pub count-small : n ≤ 64
-      count-small = rw counted count-few
-
-      pub agreed-some : (n ≡ 0 → ⊥) → (e v : ℕ) → e ≡ estimateOfPresent kind k → e < 4294967296 → v ≡ newValueOf k e → _≡_ {A = Agreed} (record { count = n; estimate = e; value = v }) (agreedOf w need kind s old)
-      unfolding agreedOf
-      agreed-some d e v q l r =
-          let some : countOf w need s ≡ 0 → ⊥ = λ z. d (counted ∙ z) in
-          let q′ = q ∙ ap (estimateOfPresent kind) stored ∙ estimate-kept w need s fit-few some kind in
-          let r′ = r ∙ ap (λ (x : List ℕ). newValueOf x e) stored ∙ value-kept w need s fit-few some e l in
-          rw (sym test ∙ f, ne-eqb (countOf w need s) 0 some, r′, q′, counted)

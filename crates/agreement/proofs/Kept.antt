@@ -1,73 +1,123 @@
--- The accepted readings, kept one after the other in a lent list.
+-- The accepted readings marked one after the other, and the others struck out in their place.
 -- Assumes nothing.
-use mathlib.Core.Bool.{Bool, cond}
+use mathlib.Core.Bool.{Bool, true, false}
 use mathlib.Core.List.{List}
-use mathlib.Core.Path.{_≡_, refl, sym, ap, ap₂, _∙_}
+use mathlib.Core.Path.{_≡_, refl, sym, ap, _∙_}
 use Prim.Native.Nat.{ℕ, _+_, _≤_, _<_, zero-le}
+use native.Mathlib.Nat.{add-zero}
 use native.Mathlib.Omega.{arith}
-use lib.ListN.{length, getD, set}
+use lib.Dec.{eqb}
+use lib.ListN.{length, getD, set, drop}
+use lib.Seq.{getD-append-add, getD-drop}
 use mir.Val.{boolByte}
-use Rattle.arithmetic.specs.Counting.{bit, count}
+use Rattle.arithmetic.specs.Counting.{bit}
 use Rattle.arithmetic.specs.Writing.{table, overwrite}
-use Rattle.arithmetic.proofs.Counting.{count-le}
-use Rattle.arithmetic.proofs.Writing.{length-table, length-overwrite, overwrite-nil, overwrite-whole}
-use Rattle.agreement.specs.Values.{acceptedAt, keptAt, countOf, Remembered}
-use Rattle.loops.proofs.Loops.{flag, count-next, store-next}
+use Rattle.arithmetic.proofs.Writing.{length-table, length-overwrite, getD-table, getD-overwrite, overwrite-whole, table-ext}
+use Rattle.agreement.specs.Values.{acceptedAt, keptValue, keptAt, Remembered}
+use Rattle.loops.proofs.Loops.{flag, store-none, store-next, store-ended}
 
-module _ (w need : ℕ) (values kept₀ : List ℕ) where
-  -- where the readings below r are kept
-  pub record Keeping (known kept : List ℕ) (counted r : ℕ) : Type 0 where
+module _ (w need : ℕ) (values marks₀ : List ℕ) where
+  -- the mark of a reading
+  abbrev pub marked : ℕ → ℕ
+  marked r = bit (acceptedAt w need values r)
+
+  -- where the readings below r are marked
+  pub record Marking (known marks : List ℕ) (r : ℕ) : Type 0 where
     pub upTo : r ≤ length values
     pub few : length values ≤ 64
     pub long : length known ≡ 64
-    pub room : length kept₀ ≡ length values
+    pub room : length values ≤ length marks₀
     pub memory : Remembered w need values known
-    pub exact : counted ≡ count (acceptedAt w need values) r
-    pub written : kept ≡ overwrite (table (keptAt w need values) r) kept₀
+    pub written : marks ≡ overwrite (table marked r) marks₀
 
-  pub keep-none : (known : List ℕ) → length values ≤ 64 → length known ≡ 64 → length kept₀ ≡ length values → Remembered w need values known → Keeping known kept₀ 0 0
-  unfolding count table
-  keep-none known f l s m =
-      record { upTo = zero-le; few = f; long = l; room = s; memory = m; exact = refl; written = sym (overwrite-nil kept₀) }
+  pub mark-none : (known : List ℕ) → length values ≤ 64 → length known ≡ 64 → length values ≤ length marks₀ → Remembered w need values known → Marking known marks₀ 0
+  mark-none known f l s m =
+      record { upTo = zero-le; few = f; long = l; room = s; memory = m; written = store-none marked marks₀ }
 
-  module _ (known kept : List ℕ) (c r : ℕ) (so-far : Keeping known kept c r) where
-    pub same-room : length kept ≡ length values
-    same-room =
-        let t = length-table (keptAt w need values) r in
+  module _ (known marks : List ℕ) (r : ℕ) (so-far : Marking known marks r) where
+    pub marks-long : length marks ≡ length marks₀
+    marks-long =
+        let t = length-table marked r in
         let e = so-far .room in
         let u = so-far .upTo in
-        ap length (so-far .written) ∙ length-overwrite (table (keptAt w need values) r) kept₀ (omega arith) ∙ e
+        ap length (so-far .written) ∙ length-overwrite (table marked r) marks₀ (omega arith)
 
-    pub keep-small : c ≤ 64
-    keep-small =
-        let l = count-le (acceptedAt w need values) r in
-        let e = so-far .exact in
-        let u = so-far .upTo in
-        let f = so-far .few in
-        omega arith
-
-    -- the next reading is kept, or is missing, and its test is counted
-    pub keep-one : r < length values → (known′ : List ℕ) → length known′ ≡ length known → Remembered w need values known′ → (b : Bool) → b ≡ acceptedAt w need values r → (v : ℕ) → v ≡ cond b (getD values r 0) 4294967296 → Keeping known′ (set kept r v) (c + boolByte b) (r + 1)
-    keep-one h known′ l m b e v f =
+    pub mark-one : r < length values → (known′ : List ℕ) → length known′ ≡ length known → Remembered w need values known′ → (b : Bool) → b ≡ acceptedAt w need values r → Marking known′ (set marks r (boolByte b)) (r + 1)
+    mark-one h known′ l m b e =
         record {
           upTo = omega arith;
           few = so-far .few;
           long = l ∙ so-far .long;
           room = so-far .room;
           memory = m;
-          exact = ap₂ (λ (x y : ℕ). x + y) (so-far .exact) (flag b ∙ ap bit e) ∙ sym (count-next (acceptedAt w need values) r);
-          written =
-              store-next (keptAt w need values) r kept₀ kept v (so-far .written) (f ∙ ap (λ (t : Bool). cond t (getD values r 0) 4294967296) e)
-              (omega (arith, so-far .room));
+          written = store-next marked r marks₀ marks (boolByte b) (so-far .written) (flag b ∙ ap bit e) (omega (arith, so-far .room));
         }
 
-    -- all readings are kept
-    pub all-counted : length values ≤ r → c ≡ countOf w need values
-    unfolding countOf
-    all-counted h = let e : r ≡ length values = omega (arith, so-far .upTo) in rw (← e) (so-far .exact)
+    pub all-marked : length values ≤ r → marks ≡ overwrite (table marked (length values)) marks₀
+    all-marked h = store-ended marked (length values) r marks₀ marks (so-far .upTo) h (so-far .written)
 
-    pub all-kept : length values ≤ r → kept ≡ table (keptAt w need values) (length values)
-    all-kept h =
-        let e : r ≡ length values = omega (arith, so-far .upTo) in
-        let t = length-table (keptAt w need values) r in
-        rw (← e) (so-far .written ∙ overwrite-whole (table (keptAt w need values) r) kept₀ (omega (arith, so-far .room)))
+-- ---- striking out
+
+-- what comes behind the entries written keeps what it had
+getD-behind : (f : ℕ → ℕ) (r : ℕ) (old : List ℕ) → getD (overwrite (table f r) old) r 0 ≡ getD old r 0
+unfolding overwrite
+getD-behind f r old =
+    let long = length-table f r in
+    ap (λ (k : ℕ). getD (overwrite (table f r) old) k 0) (sym (add-zero r) ∙ ap (λ (k : ℕ). k + 0) (sym long))
+    ∙ getD-append-add (table f r) (drop (length (table f r)) old) 0 0
+    ∙ getD-drop (length (table f r)) old 0 0
+    ∙ ap (λ (k : ℕ). getD old k 0) (add-zero (length (table f r)) ∙ long)
+
+module _ (marks values₀ : List ℕ) where
+  abbrev pub struck : ℕ → ℕ
+  struck r = keptValue (eqb (getD marks r 0) 1) (getD values₀ r 0)
+
+  -- where the readings below r are struck out
+  pub record Striking (values : List ℕ) (r : ℕ) : Type 0 where
+    pub upTo : r ≤ length values₀
+    pub room : length values₀ ≤ length marks
+    pub written : values ≡ overwrite (table struck r) values₀
+
+  pub strike-none : length values₀ ≤ length marks → Striking values₀ 0
+  strike-none s = record { upTo = zero-le; room = s; written = store-none struck values₀ }
+
+  module _ (values : List ℕ) (r : ℕ) (so-far : Striking values r) where
+    pub values-long : length values ≡ length values₀
+    values-long =
+        let t = length-table struck r in
+        let u = so-far .upTo in
+        ap length (so-far .written) ∙ length-overwrite (table struck r) values₀ (omega arith)
+
+    pub strike-one : r < length values → (x : ℕ) → x ≡ keptValue (eqb (getD marks r 0) 1) (getD values r 0) → Striking (set values r x) (r + 1)
+    strike-one h x e =
+        let long = values-long in
+        record {
+          upTo = omega arith;
+          room = so-far .room;
+          written =
+              store-next struck r values₀ values x (so-far .written)
+              (e ∙ ap (λ (v : ℕ). keptValue (eqb (getD marks r 0) 1) v) (ap (λ (l : List ℕ). getD l r 0) (so-far .written) ∙ getD-behind struck r values₀))
+              (omega arith);
+        }
+
+    pub all-struck : length values ≤ r → values ≡ table struck (length values₀)
+    all-struck h =
+        let long = values-long in
+        let t = length-table struck (length values₀) in
+        store-ended struck (length values₀) r values₀ values (so-far .upTo) (omega arith) (so-far .written)
+        ∙ overwrite-whole (table struck (length values₀)) values₀ (omega arith)
+
+-- the readings struck out by the marks of acceptance
+pub struck-kept : (w need : ℕ) (s marks₀ : List ℕ) → length s ≤ length marks₀ → table (struck (overwrite (table (marked w need s marks₀) (length s)) marks₀) s) (length s) ≡ table (keptAt w need s) (length s)
+struck-kept w need s marks₀ room =
+    table-ext (struck (overwrite (table (marked w need s marks₀) (length s)) marks₀) s) (keptAt w need s) (length s)
+    (λ r l. ap (λ (b : Bool). keptValue b (getD s r 0)) (ap (λ (k : ℕ). eqb k 1) (at r l) ∙ one (acceptedAt w need s r)))
+  where
+    one : (b : Bool) → eqb (bit b) 1 ≡ b
+    one true = refl
+    one false = refl
+
+    at : (r : ℕ) → r < length s → getD (overwrite (table (marked w need s marks₀) (length s)) marks₀) r 0 ≡ bit (acceptedAt w need s r)
+    at r l =
+        getD-overwrite (table (marked w need s marks₀) (length s)) marks₀ r 0 (rw (length-table (marked w need s marks₀) (length s)) l)
+        ∙ getD-table (marked w need s marks₀) (length s) r 0 l

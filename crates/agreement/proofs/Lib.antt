@@ -1,3 +1,4 @@
+pub mod Biasing
 pub mod Spans
 pub mod Kept
 pub mod Agreeing

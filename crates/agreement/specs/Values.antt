@@ -1,10 +1,9 @@
 -- Document 01's steps of a round on a list of naturals: readings moved up by 2^31; a number from 2^32 on is a missing reading.
 --   spansAt, acceptedAt    the tests of acceptance
 --   enoughAt, Remembered   whether a start's span holds enough; what the memory of counted spans says of each start
---   keptAt, keptOf         an accepted reading, or 2^32; the list of them
---   usedOf                 the used values
+--   keptValue, keptAt, keptOf  what is kept of a reading; the list of it
 --   agreedOf               the accepted count, the estimate and the new value
-use mathlib.Core.Bool.{Bool, not, cond, _||_}
+use mathlib.Core.Bool.{Bool, cond}
 use mathlib.Core.List.{List}
 use mathlib.Core.Logic.{_⊎_}
 use mathlib.Core.Path.{_≡_}
@@ -15,8 +14,8 @@ use Rattle.arithmetic.specs.Counting.{bit, count}
 use Rattle.arithmetic.specs.Writing.{table}
 use Rattle.arithmetic.proofs.Sums.{total}
 use Rattle.rounds.proofs.Shifted.{spans, accepted-nat, estimate-nat, used-nat, mean-nat}
-use Rattle.estimates.specs.Values.{valueAt, presentAt}
-use Rattle.agreement.specs.declared.Agreed.{Agreed}
+use Rattle.estimates.specs.Values.{valueAt, presentAt, nothing}
+use Rattle.estimates.specs.declared.Estimated.{Estimated}
 
 -- t's reading lies in the span of width w that starts at a's
 unfoldable pub spansAt : ℕ → List ℕ → ℕ → ℕ → Bool
@@ -33,16 +32,17 @@ enoughAt w need s a = leb need (count (spansAt w s a) (length s))
 abbrev pub Remembered : ℕ → ℕ → List ℕ → List ℕ → Type 0
 Remembered w need s known = (a : ℕ) → a < length s → (getD known a 0 ≡ 0) ⊎ (getD known a 0 ≡ 1 + bit (enoughAt w need s a))
 
+-- what is kept of a reading: an accepted one as it is, 2^32 + 1 for one that is present and not accepted, 2^32 for a missing one
+abbrev pub keptValue : Bool → ℕ → ℕ
+keptValue accepted v = cond accepted v (cond (ltb v 4294967296) 4294967297 4294967296)
+
 abbrev pub keptAt : ℕ → ℕ → List ℕ → ℕ → ℕ
-keptAt w need s r = cond (acceptedAt w need s r) (getD s r 0) 4294967296
+keptAt w need s r = keptValue (acceptedAt w need s r) (getD s r 0)
 
--- ---- agreement, for lists of at most 64 readings and a lent list as long
+-- ---- agreement, for lists of at most 64 readings
 
-abbrev pub unfit : List ℕ → List ℕ → Bool
-unfit s old = ltb 64 (length s) || not (eqb (length old) (length s))
-
-unfoldable pub keptOf : ℕ → ℕ → List ℕ → List ℕ → List ℕ
-keptOf w need s old = cond (unfit s old) old (table (keptAt w need s) (length s))
+unfoldable pub keptOf : ℕ → ℕ → List ℕ → List ℕ
+keptOf w need s = cond (ltb 64 (length s)) s (table (keptAt w need s) (length s))
 
 unfoldable pub countOf : ℕ → ℕ → List ℕ → ℕ
 countOf w need s = count (acceptedAt w need s) (length s)
@@ -53,12 +53,9 @@ estimateOf w need kind s = estimate-nat 2147483648 kind (acceptedAt w need s) (l
 unfoldable pub valueOf : ℕ → ℕ → List ℕ → ℕ → ℕ
 valueOf w need s e = mean-nat (length s) (total (used-nat (acceptedAt w need s) (valueAt s) e) (length s))
 
-abbrev pub nothing : Agreed
-nothing = record { count = 0; estimate = 0; value = 0 }
-
-unfoldable pub agreedOf : ℕ → ℕ → ℕ → List ℕ → List ℕ → Agreed
-agreedOf w need kind s old =
-    cond (unfit s old) nothing
+unfoldable pub agreedOf : ℕ → ℕ → ℕ → List ℕ → Estimated
+agreedOf w need kind s =
+    cond (ltb 64 (length s)) nothing
     (cond (eqb (countOf w need s) 0) nothing
     (record {
       count = countOf w need s;

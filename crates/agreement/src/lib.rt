@@ -1,51 +1,38 @@
 // The steps of a round on naturals: readings moved up by 2^31; a number from 2^32 on is a missing reading.
 ghost use mathlib.Core.Path.{_≡_};
-ghost use mathlib.Core.Bool.{not, cond, _&&_, _||_};
-ghost use Prim.Native.Nat.{_+_, _-_, _≤_, _<_, min};
+ghost use mathlib.Core.Bool.{not, cond, _&&_};
+ghost use Prim.Native.Nat.{_+_, _-_, _%_, _≤_, _<_, min};
 ghost use lib.Dec.{leb, ltb, eqb};
-ghost use lib.ListN.{length};
+ghost use lib.ListN.{length, getD};
 ghost use mir.Syntax.{w32};
 ghost use mir.Val.{toZ, ofZ};
 ghost use Rattle.arithmetic.specs.Counting.{bit};
-ghost use Rattle.arithmetic.specs.Writing.{table};
+ghost use Rattle.arithmetic.specs.Writing.{table, overwrite};
 ghost use Rattle.arithmetic.proofs.Shift.{down};
 ghost use Rattle.model.specs.Ensemble.{present, missing};
 ghost use Rattle.rounds.proofs.Shifted.{shift, within-nat};
-ghost use Rattle.agreement.specs.Values.{acceptedAt, Remembered, keptAt, keptOf, countOf, agreedOf};
-use estimates::BIAS;
+ghost use Rattle.agreement.specs.Values.{acceptedAt, Remembered, keptValue, keptOf, agreedOf};
+use estimates::Estimated;
 use estimates::LIMIT;
 
-// The accepted count, and the estimate and the new value as naturals.
-pub struct Agreed {
-    pub count: u32,
-    pub estimate: u64,
-    pub value: u64,
-}
+// A reading that is present and not accepted.
+pub const REJECTED: u64 = 4_294_967_297;
+
+// 2^31, which turns the first of 32 bits over.
+const HALF: u32 = 2_147_483_648;
 
 // The natural of a reading: the number that 32 bits in two's complement are, moved up by 2^31.
 pub fn bias(bits: u32) -> u64
     ensures { λ r. ⌜ (toZ w32 bits ≡ down 2147483648 r) × (r < 4294967296) ⌝ }
 {
-    let wide = bits as u64;
-    if wide < BIAS {
-        wide + BIAS
-    } else {
-        wide - BIAS
-    }
+    std::num::wrapping_add_u32(bits, HALF) as u64
 }
 
-// The bits of the reading that a natural is.
+// The bits of the reading that a natural is, of which the lower 32 bits count.
 pub fn unbias(value: u64) -> u32
-    ensures { λ r. ⌜ r ≡ cond (ltb value 4294967296) (ofZ w32 (down 2147483648 value)) 0 ⌝ }
+    ensures { λ r. ⌜ r ≡ ofZ w32 (down 2147483648 (value % 4294967296)) ⌝ }
 {
-    if LIMIT <= value {
-        return 0;
-    }
-    if value < BIAS {
-        (value + BIAS) as u32
-    } else {
-        (value - BIAS) as u32
-    }
+    std::num::wrapping_add_u32((value % LIMIT) as u32, HALF)
 }
 
 // The natural of an entry: of its bits where it is marked present, and else a missing one.
@@ -130,64 +117,60 @@ fn accepts(values: &[u64], window: u32, need: u32, known: &mut [u8], r: usize) -
     found
 }
 
-// An accepted reading as it is, and any other as missing.
-fn kept_value(accepted: bool, value: u64) -> u64
-    ensures { λ r. ⌜ r ≡ cond accepted value 4294967296 ⌝ }
-{
-    if accepted { value } else { LIMIT }
-}
-
-// Keeps the accepted readings, the others missing, and counts them.
-fn keep_accepted(values: &[u64], window: u32, need: u32, known: &mut [u8], kept: &mut [u64]) -> u32
-    requires { ⌜ (length (now values) ≤ 64) × (length (now known) ≡ 64) × (length (now kept) ≡ length (now values)) ⌝ }
+// Marks the accepted readings by 1, the others by 0.
+fn mark_accepted(values: &[u64], window: u32, need: u32, known: &mut [u8], marks: &mut [u8])
+    requires { ⌜ (length (now values) ≤ 64) × (length (now known) ≡ 64) × (length (now values) ≤ length (now marks)) ⌝ }
     requires { ⌜ Remembered window need (now values) (now known) ⌝ }
-    ensures { λ n. ⌜ n ≡ countOf window need (now (values .entry)) ⌝ }
-    ensures { λ n. ⌜ now (kept .exit) ≡ table (keptAt window need (now (values .entry))) (length (now (values .entry))) ⌝ }
+    ensures { λ _. ⌜ now (marks .exit) ≡ overwrite (table (λ r. bit (acceptedAt window need (now (values .entry)) r)) (length (now (values .entry)))) (now (marks .entry)) ⌝ }
 {
-    let mut count: u32 = 0;
     let mut r = 0;
     'readings: while r < values.len() {
-        let accepted = accepts(values, window, need, &mut *known, r);
-        kept[r] = kept_value(accepted, values[r]);
-        count += accepted as u32;
+        marks[r] = accepts(values, window, need, &mut *known, r) as u8;
         r += 1;
     }
-    count
 }
 
-fn misfit(n: usize, room: usize) -> bool
-    ensures { λ r. ⌜ r ≡ (ltb 64 n || not (eqb room n)) ⌝ }
+// What is kept of a reading: an accepted one as it is, else whether it was present.
+fn kept_value(mark: u8, value: u64) -> u64
+    ensures { λ r. ⌜ r ≡ keptValue (eqb mark 1) value ⌝ }
 {
-    (64 < n) | (room != n)
+    if mark == 1 {
+        value
+    } else if value < LIMIT {
+        REJECTED
+    } else {
+        LIMIT
+    }
 }
 
-// The round of at most 64 readings: accepted readings are kept in a lent list as long, and the others are missing there.
-pub fn agree(values: &[u64], window: u32, need: u32, kind: u8, kept: &mut [u64]) -> Agreed
-    ensures { λ r. ⌜ r ≡ agreedOf window need kind (now (values .entry)) (now (kept .entry)) ⌝ }
-    ensures { λ r. ⌜ now (kept .exit) ≡ keptOf window need (now (values .entry)) (now (kept .entry)) ⌝ }
+// Strikes out the readings that are not marked.
+fn strike(values: &mut [u64], marks: &[u8])
+    requires { ⌜ length (now values) ≤ length (now marks) ⌝ }
+    ensures { λ _. ⌜ now (values .exit) ≡ table (λ r. keptValue (eqb (getD (now (marks .entry)) r 0) 1) (getD (now (values .entry)) r 0)) (length (now (values .entry))) ⌝ }
+{
+    let mut r = 0;
+    'readings: while r < values.len() {
+        values[r] = kept_value(marks[r], values[r]);
+        r += 1;
+    }
+}
+
+// The round of at most 64 readings: those that are not accepted are struck out; more readings are left as they are.
+pub fn agree(values: &mut [u64], window: u32, need: u32, kind: u8) -> Estimated
+    ensures { λ r. ⌜ r ≡ agreedOf window need kind (now (values .entry)) ⌝ }
+    ensures { λ _. ⌜ now (values .exit) ≡ keptOf window need (now (values .entry)) ⌝ }
     ensures { λ r. ⌜ (r .count ≤ 64) × (r .estimate < 4294967296) × (r .value < 4294967296) ⌝ }
 {
-    if misfit(values.len(), kept.len()) {
-        return Agreed {
+    if 64 < values.len() {
+        return Estimated {
             count: 0,
             estimate: 0,
             value: 0,
         };
     }
     let mut known = [UNCOUNTED; 64];
-    let count = keep_accepted(values, window, need, &mut known, &mut *kept);
-    if count == 0 {
-        return Agreed {
-            count: 0,
-            estimate: 0,
-            value: 0,
-        };
-    }
-    let estimate = estimates::estimate(kind, &*kept);
-    let value = estimates::new_value(&*kept, estimate);
-    Agreed {
-        count,
-        estimate,
-        value,
-    }
+    let mut marks = [0; 64];
+    mark_accepted(&*values, window, need, &mut known, &mut marks);
+    strike(&mut *values, &marks);
+    estimates::evaluate(kind, &*values)
 }

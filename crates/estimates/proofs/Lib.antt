@@ -1,3 +1,5 @@
 pub mod Selection
 pub mod Narrowing
-pub mod Estimated
+pub mod Gathering
+pub mod Dividing
+pub mod Evaluating

@@ -1,11 +1,8 @@
--- The searches for a present reading by its number from below, for the lowest and for the highest, index by index.
+-- The search for a present reading by its number from below, index by index.
 --   Narrowed h low high t   the indices below t do not fit, nor does any number below low, or from high on
---   Least low t             low is at or below every number passed, and is one of them, or none is present yet
---   Greatest high t         high is at or above every reading passed, and is one of them, or none is above 0 yet
 -- Assumes nothing.
 use mathlib.Core.Bool.{Bool, true, false, _&&_}
 use mathlib.Core.List.{List}
-use mathlib.Core.Logic.{_⊎_, inl, inr, ⊎-elim}
 use mathlib.Core.Path.{_≡_, refl, sym, ap, _∙_}
 use Prim.Native.Nat.{ℕ, _+_, _≤_, _<_, zero-le}
 use native.Mathlib.Nat.{le-refl, not-suc-le-zero}
@@ -15,11 +12,11 @@ use borrow.Author.Tests.{lt-ltb, le-ltb, ltb-true, ltb-false, leb-true, leb-fals
 use lib.Dec.{leb, ltb}
 use lib.ListN.{length, getD}
 use Rattle.arithmetic.specs.Counting.{count}
-use Rattle.arithmetic.proofs.Bools.{iff-eq, and-left, and-right, and-intro, clash}
-use Rattle.arithmetic.proofs.Counting.{count-ext, count-some}
+use Rattle.arithmetic.proofs.Bools.{iff-eq, and-right, and-intro, clash}
+use Rattle.arithmetic.proofs.Counting.{count-ext}
 use Rattle.rounds.proofs.Shifted.{is-numbered, numbered-nat}
 use Rattle.estimates.specs.Values.{valueAt, presentAt}
-use Rattle.estimates.proofs.Selection.{under, upTo, numbered-intro, too-low, too-high, numbered-value, numbered-none, lowest-first, highest-last}
+use Rattle.estimates.proofs.Selection.{under, upTo, numbered-intro, too-low, too-high, numbered-value, numbered-none}
 
 module _ (s : List ℕ) where
   -- a number below a reading is a reading
@@ -125,84 +122,3 @@ module _ (s : List ℕ) where
           (numbered-intro (presentAt s) (length s) (valueAt s) h t (lt-ltb (getD s t 0) 4294967296 v)
           (rw (← count-upTo (getD s t 0) v) m)
           (rw (← count-under (getD s t 0) (omega arith)) l)))
-
-  -- the number of a present reading
-  abbrev pub Taken : ℕ → Type 0
-  Taken v = (i : ℕ) × (i < length s) × (getD s i 0 ≡ v) × (v < 4294967296)
-
-  pub record Least (low t : ℕ) : Type 0 where
-    pub inRange : t ≤ length s
-    pub most : (j : ℕ) → j < t → low ≤ getD s j 0
-    pub at : (low ≡ 4294967296) ⊎ Taken low
-
-  pub least-none : Least 4294967296 0
-  least-none = record { inRange = zero-le; most = λ j l. absurd (not-suc-le-zero l); at = inl refl }
-
-  module _ (low t : ℕ) (so-far : Least low t) where
-    pub least-take : t < length s → getD s t 0 < low → Least (getD s t 0) (t + 1)
-    least-take room l =
-        record {
-          inRange = omega arith;
-          most = below-more (λ (j : ℕ). getD s t 0 ≤ getD s j 0) t (λ j k. omega (arith, so-far .most j k)) (le-refl (getD s t 0));
-          at = inr (t, room, refl, ⊎-elim (λ e. omega arith) (λ w. omega (arith, w .3)) (so-far .at));
-        }
-
-    pub least-keep : t < length s → low ≤ getD s t 0 → Least low (t + 1)
-    least-keep room l =
-        record { inRange = omega arith; most = below-more (λ (j : ℕ). low ≤ getD s j 0) t (so-far .most) l; at = so-far .at }
-
-    pub least-all : length s ≤ t → 0 < count (presentAt s) (length s) → (low ≡ chosen 1) × (low < 4294967296)
-    least-all l c =
-        ⊎-elim
-        (λ e.
-        let i = count-some (presentAt s) (length s) c in
-        absurd (omega (arith, so-far .most (i .0) (omega (arith, i .1)), ltb-true (getD s (i .0) 0) 4294967296 (i .2))))
-        (λ w. (sym (lowest-first (presentAt s) (length s) (valueAt s) 2147483648 (w .0) (w .1) (lt-ltb (getD s (w .0) 0) 4294967296 (rw (w .2) (w .3))) (λ j k _. rw (w .2) (so-far .most j (omega arith))) ∙ w .2), w .3))
-        (so-far .at)
-
-  pub record Greatest (high t : ℕ) : Type 0 where
-    pub inRange : t ≤ length s
-    pub most : (j : ℕ) → j < t → presentAt s j ≡ true → getD s j 0 ≤ high
-    pub at : (high ≡ 0) ⊎ Taken high
-
-  pub greatest-none : Greatest 0 0
-  greatest-none = record { inRange = zero-le; most = λ j l. absurd (not-suc-le-zero l); at = inl refl }
-
-  module _ (high t : ℕ) (so-far : Greatest high t) where
-    module _ (room : t < length s) {b : Bool} (e : b ≡ (leb high (getD s t 0) && ltb (getD s t 0) 4294967296)) where
-      pub greatest-take : b ≡ true → Greatest (getD s t 0) (t + 1)
-      greatest-take f =
-          let both = sym e ∙ f in
-          let l = leb-true high (getD s t 0) (and-left (leb high (getD s t 0)) (ltb (getD s t 0) 4294967296) both) in
-          record {
-            inRange = omega arith;
-            most = below-more (λ (j : ℕ). presentAt s j ≡ true → getD s j 0 ≤ getD s t 0) t (λ j k p. omega (arith, so-far .most j k p)) (λ _. le-refl (getD s t 0));
-            at = inr (t, room, refl, ltb-true (getD s t 0) 4294967296 (and-right (leb high (getD s t 0)) (ltb (getD s t 0) 4294967296) both));
-          }
-
-      pub greatest-keep : b ≡ false → Greatest high (t + 1)
-      greatest-keep f =
-          record {
-            inRange = omega arith;
-            most = below-more (λ (j : ℕ). presentAt s j ≡ true → getD s j 0 ≤ high) t (so-far .most) (λ p. go (leb high (getD s t 0)) refl (rw p at (sym e ∙ f)));
-            at = so-far .at;
-          }
-        where
-          go : (a : Bool) → leb high (getD s t 0) ≡ a → (a && true) ≡ false → getD s t 0 ≤ high
-          go true q z = clash refl z
-          go false q z = omega (arith, leb-false high (getD s t 0) q)
-
-    pub greatest-all : length s ≤ t → 0 < count (presentAt s) (length s) → (high ≡ chosen (count (presentAt s) (length s))) × (high < 4294967296)
-    greatest-all l c = ⊎-elim (λ e. found (zero-taken e)) found (so-far .at)
-      where
-        found : Taken high → (high ≡ chosen (count (presentAt s) (length s))) × (high < 4294967296)
-        found w = (
-          sym (highest-last (presentAt s) (length s) (valueAt s) 2147483648 (w .0) (w .1) (lt-ltb (getD s (w .0) 0) 4294967296 (rw (w .2) (w .3))) (λ j k p. rw (w .2) (so-far .most j (omega arith) p)) ∙ w .2),
-          w .3,
-        )
-
-        zero-taken : high ≡ 0 → Taken high
-        zero-taken e =
-            let i = count-some (presentAt s) (length s) c in
-            let m = so-far .most (i .0) (omega (arith, i .1)) (i .2) in
-            (i .0, i .1, omega arith, omega arith)

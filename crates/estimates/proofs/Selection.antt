@@ -1,6 +1,5 @@
 -- The number h from below among those that a test admits, found by counting. What fits is one number, whichever index has it; the
 -- lowest number is the first, and the highest the last.
---   Narrowed   where some indices are passed, and every number that may fit lies in a range
 -- Assumes nothing.
 use mathlib.Core.Bool.{Bool, true, false, _&&_}
 use mathlib.Core.Logic.{_⊎_, ⊎-elim}

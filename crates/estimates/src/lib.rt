@@ -1,12 +1,11 @@
 // The estimate of readings and the mean of used values, on naturals: readings moved up by 2^31.
 ghost use mathlib.Core.Path.{_≡_};
-ghost use mathlib.Core.Bool.{_&&_, _||_, cond};
-ghost use Prim.Native.Nat.{_*_, _≤_, _<_};
-ghost use lib.Dec.{leb, ltb, eqb};
+ghost use mathlib.Core.Bool.{_&&_};
+ghost use Prim.Native.Nat.{_*_, _/_, min, max, _≤_, _<_};
+ghost use lib.Dec.{leb, ltb};
 ghost use lib.ListN.{length};
-ghost use Rattle.arithmetic.proofs.Sums.{total};
 ghost use Rattle.rounds.proofs.Shifted.{mean-nat};
-ghost use Rattle.estimates.specs.Values.{usedAt, presentCount, countBelow, countUpTo, numberedAt, estimateOf, newValueOf};
+ghost use Rattle.estimates.specs.Values.{countBelow, countUpTo, numberedAt, Summarizes, estimateOf, evaluatedOf};
 
 // The first number that is no reading.
 pub const LIMIT: u64 = 4_294_967_296;
@@ -21,45 +20,65 @@ pub const MEDIAN: u8 = 1;
 
 pub const MIDPOINT: u8 = 2;
 
+// The count of the present readings, their estimate and the new value; all 0 where none is present or there are more than 64.
+pub struct Estimated {
+    pub count: u32,
+    pub estimate: u64,
+    pub value: u64,
+}
+
+// What one pass over the readings gathers of the present ones.
+struct Summary {
+    count: u32,
+    sum: u64,
+    low: u64,
+    high: u64,
+}
+
 // How many numbers of a list are below a number, and at or below it.
 struct Ranks {
     below: u32,
     up_to: u32,
 }
 
-fn used(value: u64, other: u64) -> u64
-    ensures { λ r. ⌜ r ≡ cond (ltb value 4294967296) value other ⌝ }
+fn lower(a: u64, b: u64) -> u64
+    ensures { λ r. ⌜ r ≡ min a b ⌝ }
 {
-    if value < LIMIT { value } else { other }
+    if a < b { a } else { b }
 }
 
-// The sum of the present readings, and of `other` for each missing one.
-fn sum_used(values: &[u64], other: u64) -> u64
-    requires { ⌜ (length (now values) ≤ 64) × (other < 4294967296) ⌝ }
-    ensures { λ r. ⌜ r ≡ total (usedAt (now (values .entry)) other) (length (now (values .entry))) ⌝ }
-    ensures { λ r. ⌜ r ≤ 4294967295 * length (now (values .entry)) ⌝ }
+fn higher(a: u64, b: u64) -> u64
+    ensures { λ r. ⌜ r ≡ max a b ⌝ }
 {
-    let mut sum: u64 = 0;
-    let mut t = 0;
-    'readings: while t < values.len() {
-        sum += used(values[t], other);
-        t += 1;
-    }
-    sum
+    if a < b { b } else { a }
 }
 
-// How many readings are present.
-fn count_present(values: &[u64]) -> u32
+// The lowest is LIMIT and the highest 0 where no reading is present.
+fn summarize(values: &[u64]) -> Summary
     requires { ⌜ length (now values) ≤ 64 ⌝ }
-    ensures { λ r. ⌜ r ≡ presentCount (now (values .entry)) ⌝ }
+    ensures { λ r. ⌜ Summarizes r (now (values .entry)) ⌝ }
 {
-    let mut present: u32 = 0;
+    let mut count: u32 = 0;
+    let mut sum: u64 = 0;
+    let mut low = LIMIT;
+    let mut high: u64 = 0;
     let mut t = 0;
     'readings: while t < values.len() {
-        present += (values[t] < LIMIT) as u32;
+        let v = values[t];
+        if v < LIMIT {
+            count += 1;
+            sum += v;
+            low = lower(v, low);
+            high = higher(high, v);
+        }
         t += 1;
     }
-    present
+    Summary {
+        count,
+        sum,
+        low,
+        high,
+    }
 }
 
 fn rank(values: &[u64], v: u64) -> Ranks
@@ -111,38 +130,17 @@ fn numbered(values: &[u64], h: u32) -> u64
     BIAS
 }
 
-fn lowest(values: &[u64]) -> u64
-    requires { ⌜ 0 < presentCount (now values) ⌝ }
-    ensures { λ r. ⌜ r ≡ numberedAt (now (values .entry)) 1 ⌝ }
-    ensures { λ r. ⌜ r < 4294967296 ⌝ }
+// sum / by. Where the numbers summed are near the reading 0, what is divided is small.
+fn divide(sum: u64, by: u64) -> u64
+    requires { ⌜ (0 < by) × (by ≤ 128) × (sum < 1099511627776) ⌝ }
+    ensures { λ r. ⌜ r ≡ sum / by ⌝ }
 {
-    let mut low = LIMIT;
-    let mut t = 0;
-    'readings: while t < values.len() {
-        let v = values[t];
-        if v < low {
-            low = v;
-        }
-        t += 1;
+    let middle = by * BIAS;
+    if middle <= sum {
+        BIAS + (sum - middle) / by
+    } else {
+        BIAS - (middle - sum + by - 1) / by
     }
-    low
-}
-
-fn highest(values: &[u64]) -> u64
-    requires { ⌜ 0 < presentCount (now values) ⌝ }
-    ensures { λ r. ⌜ r ≡ numberedAt (now (values .entry)) (presentCount (now (values .entry))) ⌝ }
-    ensures { λ r. ⌜ r < 4294967296 ⌝ }
-{
-    let mut high: u64 = 0;
-    let mut t = 0;
-    'readings: while t < values.len() {
-        let v = values[t];
-        if between(high, v, LIMIT) {
-            high = v;
-        }
-        t += 1;
-    }
-    high
 }
 
 // The mean of n numbers with this sum, to the nearest, a half going up.
@@ -150,44 +148,50 @@ fn mean(n: u64, sum: u64) -> u64
     requires { ⌜ (0 < n) × (n ≤ 64) × (sum ≤ 4294967295 * n) ⌝ }
     ensures { λ r. ⌜ (r ≡ mean-nat n sum) × (r < 4294967296) ⌝ }
 {
-    (sum + sum + n) / (2 * n)
+    divide(sum + sum + n, 2 * n)
 }
 
 // Document 01's estimate of the present readings: average, median or midpoint.
-pub fn estimate(kind: u8, values: &[u64]) -> u64
-    ensures { λ r. ⌜ r ≡ estimateOf kind (now (values .entry)) ⌝ }
-    ensures { λ r. ⌜ r < 4294967296 ⌝ }
+fn estimate(kind: u8, values: &[u64], summary: Summary) -> u64
+    requires { ⌜ (length (now values) ≤ 64) × (0 < summary .count) × Summarizes summary (now values) ⌝ }
+    ensures { λ r. ⌜ (r ≡ estimateOf kind (now (values .entry))) × (r < 4294967296) ⌝ }
 {
-    if 64 < values.len() {
-        return 0;
-    }
-    let present = count_present(values);
-    if present == 0 {
-        return 0;
-    }
     if kind == AVERAGE {
-        return sum_used(values, 0) / (present as u64);
+        return divide(summary.sum, summary.count as u64);
     }
     if kind == MEDIAN {
-        return numbered(values, (present + 1) / 2);
+        return numbered(values, (summary.count + 1) / 2);
     }
-    (lowest(values) + highest(values)) / 2
+    (summary.low + summary.high) / 2
 }
 
-fn no_mean(n: usize, estimate: u64) -> bool
-    ensures { λ r. ⌜ r ≡ (eqb n 0 || (ltb 64 n || leb 4294967296 estimate)) ⌝ }
+// The estimate of the present readings, and the mean of all with the missing ones replaced by it.
+pub fn evaluate(kind: u8, values: &[u64]) -> Estimated
+    ensures { λ r. ⌜ r ≡ evaluatedOf kind (now (values .entry)) ⌝ }
+    ensures { λ r. ⌜ (r .count ≤ 64) × (r .estimate < 4294967296) × (r .value < 4294967296) ⌝ }
 {
-    (n == 0) | ((64 < n) | (LIMIT <= estimate))
-}
-
-// The new value: the mean of the readings, the missing ones replaced by the estimate.
-pub fn new_value(values: &[u64], estimate: u64) -> u64
-    ensures { λ r. ⌜ r ≡ newValueOf (now (values .entry)) estimate ⌝ }
-    ensures { λ r. ⌜ r < 4294967296 ⌝ }
-{
-    let n = values.len();
-    if no_mean(n, estimate) {
-        return 0;
+    if 64 < values.len() {
+        return Estimated {
+            count: 0,
+            estimate: 0,
+            value: 0,
+        };
     }
-    mean(n as u64, sum_used(values, estimate))
+    let summary = summarize(values);
+    if summary.count == 0 {
+        return Estimated {
+            count: 0,
+            estimate: 0,
+            value: 0,
+        };
+    }
+    let n = values.len() as u64;
+    let missing = n - (summary.count as u64);
+    let estimate = estimate(kind, values, summary);
+    let value = mean(n, summary.sum + missing * estimate);
+    Estimated {
+        count: summary.count,
+        estimate,
+        value,
+    }
 }

@@ -34,11 +34,11 @@ header-stored b n count e v h =
     six = ap (λ (k : ℕ). Prim.Native.Nat.suc (Prim.Native.Nat.suc k)) (length-bytes4 e)
 
 -- the header's bits are those of the round
-pub answer-parts : (n count e v : ℕ) (values kept : List ℕ) → (headerBytes n count (ofZ w32 (down 2147483648 e)) (ofZ w32 (down 2147483648 v)) ++ table (markIn values kept) n) ++ readingBytes (table (usedIn kept e) n) ≡ answerBytes n (roundIn count e v values kept)
+pub answer-parts : (n count e v : ℕ) (kept : List ℕ) → (headerBytes n count (ofZ w32 (down 2147483648 e)) (ofZ w32 (down 2147483648 v)) ++ table (markIn kept) n) ++ readingBytes (table (usedIn kept e) n) ≡ answerBytes n (roundIn count e v kept)
 unfolding answerBytes answerHeader
-answer-parts n count e v values kept =
-    append-assoc (headerBytes n count (ofZ w32 (down 2147483648 e)) (ofZ w32 (down 2147483648 v))) (table (markIn values kept) n) (readingBytes (table (usedIn kept e) n))
+answer-parts n count e v kept =
+    append-assoc (headerBytes n count (ofZ w32 (down 2147483648 e)) (ofZ w32 (down 2147483648 v))) (table (markIn kept) n) (readingBytes (table (usedIn kept e) n))
 
-pub length-front : (n count e v : ℕ) (values kept : List ℕ) → length (headerBytes n count e v ++ table (markIn values kept) n) ≡ 10 + n
-length-front n count e v values kept =
-    length-append (headerBytes n count e v) (table (markIn values kept) n) ∙ ap₂ (λ (a k : ℕ). a + k) (length-header n count e v) (length-table (markIn values kept) n)
+pub length-front : (n count e v : ℕ) (kept : List ℕ) → length (headerBytes n count e v ++ table (markIn kept) n) ≡ 10 + n
+length-front n count e v kept =
+    length-append (headerBytes n count e v) (table (markIn kept) n) ∙ ap₂ (λ (a k : ℕ). a + k) (length-header n count e v) (length-table (markIn kept) n)

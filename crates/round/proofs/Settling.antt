@@ -23,10 +23,11 @@ use Rattle.model.specs.Steps.{readingsOf, acceptedAt, markOf, Round, roundOf, r
 use Rattle.rounds.proofs.Local.{Agree, Alike, accepted-local, answer-local}
 use Rattle.rounds.proofs.Natural.{accepted-present}
 use Rattle.rounds.proofs.Shifted.{shifted}
-use Rattle.estimates.specs.Values.{valueAt, presentAt}
+use Rattle.estimates.specs.Values.{valueAt, presentAt, nothing}
 use Rattle.agreement.specs.Values as agreement
-use Rattle.agreement.specs.Values.{keptAt, keptOf, agreedOf, countOf, estimateOf, valueOf}
-use Rattle.agreement.specs.declared.Agreed.{Agreed}
+use Rattle.agreement.specs.Values.{keptValue, keptAt, keptOf, agreedOf, countOf, estimateOf, valueOf}
+use Rattle.agreement.proofs.Agreeing.{kept-at, kept-present}
+use Rattle.estimates.specs.declared.Estimated.{Estimated}
 use Rattle.agreement.proofs.Rounds.{count-of-round, mark-of-round, estimate-of-round, value-of-round, used-of-round}
 use mathlib.Core.Option.{none, some}
 use Rattle.arithmetic.proofs.Bools.{and-intro}
@@ -38,20 +39,18 @@ use Rattle.sheets.proofs.Checks.{settings-passed, sheet-length-passed}
 use Rattle.reception.specs.Standing.{Received, fitting, Filled}
 use Rattle.round.specs.Rounds.{markIn, usedIn, roundIn, settledAfter}
 
--- a natural kept where a test passes is present there and nowhere else
-kept-test : (b : Bool) (x : ℕ) → (b ≡ true → ltb x 4294967296 ≡ true) → ltb (cond b x 4294967296) 4294967296 ≡ b
-kept-test true x f = f refl
-kept-test false x f = refl
+-- the mark by what is kept of a reading
+mark-kept : (b : Bool) (v : ℕ) → (b ≡ true → ltb v 4294967296 ≡ true) → _≡_ {A = ℕ} (cond (ltb (keptValue b v) 4294967296) 1 (cond (ltb 4294967296 (keptValue b v)) 2 0)) (cond (ltb v 4294967296) (cond b 1 2) 0)
+mark-kept true v f = rw (f refl)
+mark-kept false v f = go (ltb v 4294967296)
+  where
+    go : (p : Bool) → _≡_ {A = ℕ} (cond (ltb (cond p 4294967297 4294967296) 4294967296) 1 (cond (ltb 4294967296 (cond p 4294967297 4294967296)) 2 0)) (cond p 2 0)
+    go true = refl
+    go false = refl
 
-mark-order : (b p : Bool) → (b ≡ true → p ≡ true) → _≡_ {A = ℕ} (cond b 1 (cond p 2 0)) (cond p (cond b 1 2) 0)
-mark-order true true f = refl
-mark-order true false f = clash (f refl) refl
-mark-order false true f = refl
-mark-order false false f = refl
-
-kept-or : (b : Bool) (x e : ℕ) → cond b (cond b x 4294967296) e ≡ cond b x e
-kept-or true x e = refl
-kept-or false x e = refl
+kept-or : (b : Bool) (v e : ℕ) → cond b (keptValue b v) e ≡ cond b v e
+kept-or true v e = refl
+kept-or false v e = refl
 
 module _ (c : Settings) (v : Readings) (values : List ℕ) (long : length values ≡ c .n) (same : Agree (c .n) v (shifted 2147483648 (presentAt values) (valueAt values))) where
   accepts-present : (r : ℕ) → agreement.acceptedAt (c .window) (quorum c) values r ≡ true → presentAt values r ≡ true
@@ -59,30 +58,25 @@ module _ (c : Settings) (v : Readings) (values : List ℕ) (long : length values
   accepts-present r = accepted-present (c .window) (presentAt values) (valueAt values) (quorum c) (length values) r
 
   module _ (some-n : 0 < c .n) (some-acc : 0 < countOf (c .window) (quorum c) values) (kept : List ℕ) (keeps : kept ≡ table (keptAt (c .window) (quorum c) values) (length values)) where
-    kept-at : (r : ℕ) → r < c .n → getD kept r 0 ≡ cond (agreement.acceptedAt (c .window) (quorum c) values r) (valueAt values r) 4294967296
-    kept-at r l =
-        ap (λ (k : List ℕ). getD k r 0) keeps
-        ∙ getD-table (keptAt (c .window) (quorum c) values) (length values) r 0 (rw long l)
+    kept-here-at : (r : ℕ) → r < c .n → getD kept r 0 ≡ keptValue (agreement.acceptedAt (c .window) (quorum c) values r) (valueAt values r)
+    kept-here-at r l = ap (λ (k : List ℕ). getD k r 0) keeps ∙ kept-at (c .window) (quorum c) values r (rw long l)
 
-    kept-present : (r : ℕ) → r < c .n → presentAt kept r ≡ agreement.acceptedAt (c .window) (quorum c) values r
-    kept-present r l =
-        ap (λ (x : ℕ). ltb x 4294967296) (kept-at r l)
-        ∙ kept-test (agreement.acceptedAt (c .window) (quorum c) values r) (valueAt values r) (accepts-present r)
-
-    settled-mark : (r : ℕ) → r < c .n → markIn values kept r ≡ roundOf c v .mark r
+    settled-mark : (r : ℕ) → r < c .n → markIn kept r ≡ roundOf c v .mark r
     settled-mark r l =
-        ap (λ (b : Bool). cond b 1 (cond (presentAt values r) 2 0)) (kept-present r l)
-        ∙ mark-order (agreement.acceptedAt (c .window) (quorum c) values r) (presentAt values r) (accepts-present r)
+        ap (λ (k : ℕ). cond (ltb k 4294967296) 1 (cond (ltb 4294967296 k) 2 0)) (kept-here-at r l)
+        ∙ mark-kept (agreement.acceptedAt (c .window) (quorum c) values r) (valueAt values r) (accepts-present r)
         ∙ sym (mark-of-round c v values long same r l)
 
     settled-used : (r : ℕ) → r < c .n → usedIn kept (estimateOf (c .window) (quorum c) (c .estimator) values) r ≡ roundOf c v .used r
     settled-used r l =
-        ap₂ (λ (b : Bool) (x : ℕ). down 2147483648 (cond b x (estimateOf (c .window) (quorum c) (c .estimator) values))) (kept-present r l) (kept-at r l)
+        ap₂ (λ (b : Bool) (x : ℕ). down 2147483648 (cond b x (estimateOf (c .window) (quorum c) (c .estimator) values)))
+        (ap (λ (k : List ℕ). presentAt k r) keeps ∙ kept-present (c .window) (quorum c) values r (rw long l))
+        (kept-here-at r l)
         ∙ ap (down 2147483648) (kept-or (agreement.acceptedAt (c .window) (quorum c) values r) (valueAt values r) (estimateOf (c .window) (quorum c) (c .estimator) values))
         ∙ sym (used-of-round c v values long same some-acc r l)
 
     -- the round that is written is the round of the readings
-    pub settled-alike : Alike (c .n) (roundIn (countOf (c .window) (quorum c) values) (estimateOf (c .window) (quorum c) (c .estimator) values) (valueOf (c .window) (quorum c) values (estimateOf (c .window) (quorum c) (c .estimator) values)) values kept) (roundOf c v)
+    pub settled-alike : Alike (c .n) (roundIn (countOf (c .window) (quorum c) values) (estimateOf (c .window) (quorum c) (c .estimator) values) (valueOf (c .window) (quorum c) values (estimateOf (c .window) (quorum c) (c .estimator) values)) kept) (roundOf c v)
     settled-alike =
         record {
           count = sym (count-of-round c v values long same);
@@ -94,14 +88,13 @@ module _ (c : Settings) (v : Readings) (values : List ℕ) (long : length values
 
 -- ---- what the calls of settling leave, on plain values
 
-pub record Settles (s : List ℕ) (c : Settings) (values₀ values kept₀ kept : List ℕ) (filled : Bool) (a : Agreed) : Type 0 where
+pub record Settles (s : List ℕ) (c : Settings) (values₀ values kept : List ℕ) (filled : Bool) (a : Estimated) : Type 0 where
   pub room : length values₀ ≡ c .n
-  pub place : length kept₀ ≡ c .n
   pub long : length values ≡ length values₀
   pub fits : filled ≡ fitting c (length s) (length values₀)
   pub fills : Filled s c values₀ filled values
-  pub agrees : a ≡ agreedOf (c .window) (quorum c) (c .estimator) values kept₀
-  pub keeps : kept ≡ keptOf (c .window) (quorum c) values kept₀
+  pub agrees : a ≡ agreedOf (c .window) (quorum c) (c .estimator) values
+  pub keeps : kept ≡ keptOf (c .window) (quorum c) values
 
 module _ (s : List ℕ) (pass : firstOf (sheetChecks s) ≡ none) where
   within : Limits (settingsAt s)
@@ -110,7 +103,7 @@ module _ (s : List ℕ) (pass : firstOf (sheetChecks s) ≡ none) where
   some-cabinet : 0 < settingsAt s .n
   some-cabinet = within .someCabinet
 
-  module _ (values₀ values kept₀ kept : List ℕ) (filled : Bool) (a : Agreed) (h : Settles s (settingsAt s) values₀ values kept₀ kept filled a) where
+  module _ (values₀ values kept : List ℕ) (filled : Bool) (a : Estimated) (h : Settles s (settingsAt s) values₀ values kept filled a) where
     fitting-here : fitting (settingsAt s) (length s) (length values₀) ≡ true
     unfolding fitting
     fitting-here =
@@ -125,11 +118,8 @@ module _ (s : List ℕ) (pass : firstOf (sheetChecks s) ≡ none) where
     long-here : length values ≡ settingsAt s .n
     long-here = h .long ∙ h .room
 
-    fit-here : agreement.unfit values kept₀ ≡ false
-    fit-here =
-        let small : ltb 64 (length values) ≡ false = le-ltb 64 (length values) (rw long-here (within .cabinets)) in
-        let equal : eqb (length kept₀) (length values) ≡ true = eq-eqb (length kept₀) (length values) (h .place ∙ sym long-here) in
-        rw (small, equal)
+    fit-here : ltb 64 (length values) ≡ false
+    fit-here = le-ltb 64 (length values) (rw long-here (within .cabinets))
 
     same-here : Agree (settingsAt s .n) (readingsOf (settingsAt s) (entryAt s (entryCount (settingsAt s)))) (shifted 2147483648 (presentAt values) (valueAt values))
     same-here = received-here .each
@@ -138,7 +128,7 @@ module _ (s : List ℕ) (pass : firstOf (sheetChecks s) ≡ none) where
     unfolding roundAt
     counted-here = sym (count-of-round (settingsAt s) (readingsOf (settingsAt s) (entryAt s (entryCount (settingsAt s)))) values long-here same-here)
 
-    agreed-here : a ≡ cond (eqb (countOf (settingsAt s .window) (quorum (settingsAt s)) values) 0) agreement.nothing (record { count = countOf (settingsAt s .window) (quorum (settingsAt s)) values; estimate = estimateOf (settingsAt s .window) (quorum (settingsAt s)) (settingsAt s .estimator) values; value = valueOf (settingsAt s .window) (quorum (settingsAt s)) values (estimateOf (settingsAt s .window) (quorum (settingsAt s)) (settingsAt s .estimator) values) })
+    agreed-here : a ≡ cond (eqb (countOf (settingsAt s .window) (quorum (settingsAt s)) values) 0) nothing (record { count = countOf (settingsAt s .window) (quorum (settingsAt s)) values; estimate = estimateOf (settingsAt s .window) (quorum (settingsAt s)) (settingsAt s .estimator) values; value = valueOf (settingsAt s .window) (quorum (settingsAt s)) values (estimateOf (settingsAt s .window) (quorum (settingsAt s)) (settingsAt s .estimator) values) })
     unfolding agreedOf
     agreed-here = h .agrees ∙ rw fit-here
 
@@ -146,15 +136,18 @@ module _ (s : List ℕ) (pass : firstOf (sheetChecks s) ≡ none) where
     unfolding keptOf
     kept-here = h .keeps ∙ rw fit-here
 
+    kept-long-here : length kept ≡ settingsAt s .n
+    kept-long-here = ap length kept-here ∙ length-table (keptAt (settingsAt s .window) (quorum (settingsAt s)) values) (length values) ∙ long-here
+
     -- where something is counted, the three numbers are those of the round
     agreed-some : (countOf (settingsAt s .window) (quorum (settingsAt s)) values ≡ 0 → ⊥) → a ≡ record { count = countOf (settingsAt s .window) (quorum (settingsAt s)) values; estimate = estimateOf (settingsAt s .window) (quorum (settingsAt s)) (settingsAt s .estimator) values; value = valueOf (settingsAt s .window) (quorum (settingsAt s)) values (estimateOf (settingsAt s .window) (quorum (settingsAt s)) (settingsAt s .estimator) values) }
     agreed-some d = agreed-here ∙ rw (ne-eqb (countOf (settingsAt s .window) (quorum (settingsAt s)) values) 0 d)
 
-    nothing-agreed : countOf (settingsAt s .window) (quorum (settingsAt s)) values ≡ 0 → a ≡ agreement.nothing
+    nothing-agreed : countOf (settingsAt s .window) (quorum (settingsAt s)) values ≡ 0 → a ≡ nothing
     nothing-agreed e = agreed-here ∙ rw (eq-eqb (countOf (settingsAt s .window) (quorum (settingsAt s)) values) 0 e)
 
     agreed-none : countOf (settingsAt s .window) (quorum (settingsAt s)) values ≡ 0 → a .count ≡ 0
-    agreed-none e = ap (λ (x : Agreed). x .count) (nothing-agreed e)
+    agreed-none e = ap (λ (x : Estimated). x .count) (nothing-agreed e)
 
     count-some : (a .count ≡ 0 → ⊥) → countOf (settingsAt s .window) (quorum (settingsAt s)) values ≡ 0 → ⊥
     count-some d e = d (agreed-none e)
@@ -166,7 +159,7 @@ module _ (s : List ℕ) (pass : firstOf (sheetChecks s) ≡ none) where
         go Prim.Native.Nat.zero e = sym counted-here ∙ e
         go (Prim.Native.Nat.suc k) e =
             let d : countOf (settingsAt s .window) (quorum (settingsAt s)) values ≡ 0 → ⊥ = λ q. absurd (apart k (sym e ∙ q)) in
-            absurd (apart k (sym e ∙ sym (ap (λ (x : Agreed). x .count) (agreed-some d)) ∙ z))
+            absurd (apart k (sym e ∙ sym (ap (λ (x : Estimated). x .count) (agreed-some d)) ∙ z))
           where
             apart : (k : ℕ) → Prim.Native.Nat.suc k ≡ 0 → ⊥
             apart k q = omega arith
@@ -175,7 +168,7 @@ module _ (s : List ℕ) (pass : firstOf (sheetChecks s) ≡ none) where
     unfolding tooManyFaults
     none-settled old z = rw (eq-eqb (roundAt s .count) 0 (count-none z))
 
-    alike-here : (a .count ≡ 0 → ⊥) → Alike (settingsAt s .n) (roundIn (a .count) (a .estimate) (a .value) values kept) (roundAt s)
+    alike-here : (a .count ≡ 0 → ⊥) → Alike (settingsAt s .n) (roundIn (a .count) (a .estimate) (a .value) kept) (roundAt s)
     unfolding roundAt
     alike-here d =
         rw (agreed-some (count-some d))
@@ -184,29 +177,26 @@ module _ (s : List ℕ) (pass : firstOf (sheetChecks s) ≡ none) where
         positive : (k : ℕ) → (k ≡ 0 → ⊥) → 0 < k
         positive k f = pos-of-ne-zero f
 
-    pub some-settled : (old : List ℕ) → (a .count ≡ 0 → ⊥) → record { verdict = granted (10 + 5 * settingsAt s .n); buffer = overwrite (answerBytes (length values) (roundIn (a .count) (a .estimate) (a .value) values kept)) old } ≡ settledAfter s old
+    pub some-settled : (old : List ℕ) → (a .count ≡ 0 → ⊥) → record { verdict = granted (10 + 5 * settingsAt s .n); buffer = overwrite (answerBytes (length kept) (roundIn (a .count) (a .estimate) (a .value) kept)) old } ≡ settledAfter s old
     unfolding tooManyFaults
     some-settled old d =
-        rw (ne-eqb (roundAt s .count) 0 (λ z. d (ap (λ (x : Agreed). x .count) (agreed-some (count-some d)) ∙ counted-here ∙ z)), long-here)
-        (λ i. record { verdict = granted (10 + 5 * settingsAt s .n); buffer = overwrite (answer-local (settingsAt s .n) (roundIn (a .count) (a .estimate) (a .value) values kept) (roundAt s) (alike-here d) i) old })
+        rw (ne-eqb (roundAt s .count) 0 (λ z. d (ap (λ (x : Estimated). x .count) (agreed-some (count-some d)) ∙ counted-here ∙ z)), kept-long-here)
+        (λ i. record { verdict = granted (10 + 5 * settingsAt s .n); buffer = overwrite (answer-local (settingsAt s .n) (roundIn (a .count) (a .estimate) (a .value) kept) (roundAt s) (alike-here d) i) old })
 
 -- the same for settings that are known to be the sheet's
-module _ (s : List ℕ) (c : Settings) (e : c ≡ settingsAt s) (pass : firstOf (sheetChecks s) ≡ none) (values₀ values kept₀ kept : List ℕ) (filled : Bool) (a : Agreed) (h : Settles s c values₀ values kept₀ kept filled a) where
-  moved : Settles s (settingsAt s) values₀ values kept₀ kept filled a
-  moved = subst (λ (d : Settings). Settles s d values₀ values kept₀ kept filled a) e h
+module _ (s : List ℕ) (c : Settings) (e : c ≡ settingsAt s) (pass : firstOf (sheetChecks s) ≡ none) (values₀ values kept : List ℕ) (filled : Bool) (a : Estimated) (h : Settles s c values₀ values kept filled a) where
+  moved : Settles s (settingsAt s) values₀ values kept filled a
+  moved = subst (λ (d : Settings). Settles s d values₀ values kept filled a) e h
 
   pub refuses : (old : List ℕ) → a .count ≡ 0 → record { verdict = refused (refusal 10 0); buffer = old } ≡ settledAfter s old
-  refuses = none-settled s pass values₀ values kept₀ kept filled a moved
+  refuses = none-settled s pass values₀ values kept filled a moved
 
-  pub settles : (old : List ℕ) → (a .count ≡ 0 → ⊥) → record { verdict = granted (10 + 5 * c .n); buffer = overwrite (answerBytes (length values) (roundIn (a .count) (a .estimate) (a .value) values kept)) old } ≡ settledAfter s old
-  settles old d = rw e (some-settled s pass values₀ values kept₀ kept filled a moved old d)
+  pub settles : (old : List ℕ) → (a .count ≡ 0 → ⊥) → record { verdict = granted (10 + 5 * c .n); buffer = overwrite (answerBytes (length kept) (roundIn (a .count) (a .estimate) (a .value) kept)) old } ≡ settledAfter s old
+  settles old d = rw e (some-settled s pass values₀ values kept filled a moved old d)
 
-  -- sizes that writing the answer asks for
-  pub kept-long : length kept ≡ length values
-  kept-long = ap length (kept-here s pass values₀ values kept₀ kept filled a moved) ∙ length-table (keptAt (settingsAt s .window) (quorum (settingsAt s)) values) (length values)
-
-  pub values-long : length values ≡ c .n
-  values-long = h .long ∙ h .room
+  -- the size that writing the answer asks for
+  pub kept-long : length kept ≡ c .n
+  kept-long = rw e (kept-long-here s pass values₀ values kept filled a moved)
 
 -- settings that pass checks 2 to 5
 pub few-faults : (s : List ℕ) (c : Settings) → c ≡ settingsAt s → firstOf (sheetChecks s) ≡ none → (c .m ≤ c .n) × (c .n ≤ 64)

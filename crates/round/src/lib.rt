@@ -16,7 +16,7 @@ ghost use Rattle.model.specs.Refusals.{firstOf, sheetChecks};
 ghost use Rattle.model.specs.Calls.{settle};
 ghost use Rattle.round.specs.Answers.{settledAs};
 ghost use Rattle.round.specs.Rounds.{markIn, usedIn, roundIn, headerBytes, settledAfter};
-use agreement::Agreed;
+use estimates::Estimated;
 use estimates::LIMIT;
 use inspection::Opened;
 use model::Refusal;
@@ -28,13 +28,13 @@ pub enum Settled {
     Refused(Refusal),
 }
 
-// The mark of a cabinet: 0 missing, 1 accepted, 2 present and not accepted.
-fn mark(value: u64, kept: u64) -> u8
-    ensures { λ r. ⌜ r ≡ cond (ltb kept 4294967296) 1 (cond (ltb value 4294967296) 2 0) ⌝ }
+// The mark of a cabinet by what is kept of its reading: 0 missing, 1 accepted, 2 present and not accepted.
+fn mark(kept: u64) -> u8
+    ensures { λ r. ⌜ r ≡ cond (ltb kept 4294967296) 1 (cond (ltb 4294967296 kept) 2 0) ⌝ }
 {
     if kept < LIMIT {
         1
-    } else if value < LIMIT {
+    } else if LIMIT < kept {
         2
     } else {
         0
@@ -66,13 +66,13 @@ fn put_used(kept: &[u64], estimate: u64, tail: &mut [u8])
 }
 
 // Fills the marks.
-fn put_marks(values: &[u64], kept: &[u64], marks: &mut [u8])
-    requires { ⌜ (length (now kept) ≡ length (now values)) × (length (now values) ≤ length (now marks)) ⌝ }
-    ensures { λ _. ⌜ now (marks .exit) ≡ overwrite (table (markIn (now (values .entry)) (now (kept .entry))) (length (now (values .entry)))) (now (marks .entry)) ⌝ }
+fn put_marks(kept: &[u64], marks: &mut [u8])
+    requires { ⌜ length (now kept) ≤ length (now marks) ⌝ }
+    ensures { λ _. ⌜ now (marks .exit) ≡ overwrite (table (markIn (now (kept .entry))) (length (now (kept .entry)))) (now (marks .entry)) ⌝ }
 {
     let mut r: usize = 0;
-    'marks: while r < values.len() {
-        marks[r] = mark(values[r], kept[r]);
+    'marks: while r < kept.len() {
+        marks[r] = mark(kept[r]);
         r += 1;
     }
 }
@@ -89,12 +89,12 @@ fn put_header(n: u8, count: u8, estimate: u32, value: u32, answer: &mut [u8])
 }
 
 // The answer sheet of a settled round: the header, the marks, and the used values in the tail from byte 10 + N on.
-fn put_answer(settled: Agreed, values: &[u64], kept: &[u64], answer: &mut [u8])
-    requires { ⌜ (length (now values) ≤ 64) × (length (now kept) ≡ length (now values)) × (10 + 5 * length (now values) ≤ length (now answer)) ⌝ }
+fn put_answer(settled: Estimated, kept: &[u64], answer: &mut [u8])
+    requires { ⌜ (length (now kept) ≤ 64) × (10 + 5 * length (now kept) ≤ length (now answer)) ⌝ }
     requires { ⌜ (settled .count ≤ 64) × (settled .estimate < 4294967296) × (settled .value < 4294967296) ⌝ }
-    ensures { λ _. ⌜ now (answer .exit) ≡ overwrite (answerBytes (length (now (values .entry))) (roundIn (settled .count) (settled .estimate) (settled .value) (now (values .entry)) (now (kept .entry)))) (now (answer .entry)) ⌝ }
+    ensures { λ _. ⌜ now (answer .exit) ≡ overwrite (answerBytes (length (now (kept .entry))) (roundIn (settled .count) (settled .estimate) (settled .value) (now (kept .entry)))) (now (answer .entry)) ⌝ }
 {
-    let n = values.len();
+    let n = kept.len();
     let estimate = settled.estimate;
     put_header(
         n as u8,
@@ -103,31 +103,24 @@ fn put_answer(settled: Agreed, values: &[u64], kept: &[u64], answer: &mut [u8])
         agreement::unbias(settled.value),
         answer,
     );
-    put_marks(values, kept, &mut answer[10..]);
+    put_marks(kept, &mut answer[10..]);
     let tail = 10 + n;
     put_used(kept, estimate, &mut answer[tail..]);
 }
 
-// Settles a sheet that passes checks 1 to 9, with a lent place for each cabinet's reading and for each reading kept.
-fn settle_in(
-    sheet: &[u8],
-    settings: Settings,
-    values: &mut [u64],
-    kept: &mut [u64],
-    answer: &mut [u8],
-) -> Settled
+// Settles a sheet that passes checks 1 to 9, with a lent place for each cabinet's reading.
+fn settle_in(sheet: &[u8], settings: Settings, values: &mut [u64], answer: &mut [u8]) -> Settled
     requires { ⌜ (firstOf (sheetChecks (now sheet)) ≡ none) × (settings ≡ settingsAt (now sheet)) × (10 + 5 * settings .n ≤ length (now answer)) ⌝ }
-    requires { ⌜ (length (now values) ≡ settings .n) × (length (now kept) ≡ settings .n) ⌝ }
+    requires { ⌜ length (now values) ≡ settings .n ⌝ }
     ensures { λ r. ⌜ settledAs r (now (answer .exit)) ≡ settledAfter (now (sheet .entry)) (now (answer .entry)) ⌝ }
 {
-    reception::receive(sheet, settings, values);
+    reception::receive(sheet, settings, &mut *values);
     let need = settings.n - settings.m;
     let settled = agreement::agree(
-        values,
+        &mut *values,
         settings.window,
         need as u32,
         settings.estimator,
-        kept,
     );
     if settled.count == 0 {
         return Settled::Refused(Refusal {
@@ -135,7 +128,7 @@ fn settle_in(
             place: 0,
         });
     }
-    put_answer(settled, values, kept, answer);
+    put_answer(settled, &*values, answer);
     Settled::Granted(10 + 5 * (settings.n as usize))
 }
 
@@ -146,8 +139,7 @@ fn settle_valid(sheet: &[u8], settings: Settings, answer: &mut [u8]) -> Settled
 {
     let n = settings.n as usize;
     let mut values = [LIMIT; 64];
-    let mut kept = [LIMIT; 64];
-    settle_in(sheet, settings, &mut values[..n], &mut kept[..n], answer)
+    settle_in(sheet, settings, &mut values[..n], answer)
 }
 
 // Settles a round sheet: the answer sheet in the lent buffer, or the first refusal of checks 1 to 10, which changes nothing.

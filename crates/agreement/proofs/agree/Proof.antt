@@ -1,68 +1,62 @@
--- `agreement::agree` meets its contract: at each `return` the tests that led there, and what the calls promise, say what is answered.
+-- `agreement::agree` meets its contract: the marks are those of acceptance, so what is struck out by them and evaluated is the round.
 -- Assumes nothing.
+use mathlib.Core.List.{List}
 use mathlib.Core.Path.{refl}
 use native.Mathlib.Omega.{arith}
-use Rattle.agreement.proofs.Agreeing.{agreed-unfit, kept-unfit, fit-few, fit-room, kept-answer, count-small, agreed-none, agreed-some, remember-none}
+use lib.ListN.{replicate}
+use Rattle.agreement.proofs.Agreeing.{agreed-many, kept-many, agreed-few, kept-few, remember-none}
 use borrow.Author.Needs.{needs}
 use Rattle.agreement.proofs.agree.Statement.{statement}
 use Rattle.agreement.proofs.agree.Tie as tie
 
-misfit-requires : tie.Need-misfit-requires
-misfit-requires c κs = search needs
-
 returns : tie.Need-returns
 returns c =
-    let a = c .before .before .before .before .args in
-    (agreed-unfit (a .window) (a .need) (a .kind) (a .values .now) (a .kept .now) (c .before .misfit .ensures) (c .if1 .taken), (kept-unfit (a .window) (a .need) (a .kind) (a .values .now) (a .kept .now) (c .before .misfit .ensures) (c .if1 .taken), omega arith))
+    let a = c .before .before .args in
+    (agreed-many (a .window) (a .need) (a .values .now) (a .kind) (c .if1 .taken), (kept-many (a .window) (a .need) (a .values .now) (c .if1 .taken), omega arith))
 
-slice-aggregate-keep-accepted : tie.Need-slice-aggregate-keep-accepted
-slice-aggregate-keep-accepted c = search needs
+slice-aggregate-mark-accepted : tie.Need-slice-aggregate-mark-accepted
+slice-aggregate-mark-accepted c = search needs
 
-keep-accepted-requires : tie.Need-keep-accepted-requires
-keep-accepted-requires c κs =
-    let a = c .before .before .before .before .before .before .args in
-    let few = fit-few (a .window) (a .need) (a .kind) (a .values .now) (a .kept .now) (c .before .before .before .misfit .ensures) (c .before .before .if1 .left) in
-    ((few, refl, fit-room (a .window) (a .need) (a .kind) (a .values .now) (a .kept .now) (c .before .before .before .misfit .ensures) (c .before .before .if1 .left)), remember-none (a .window) (a .need) (a .values .now) few)
+slice-aggregate-mark-accepted-2 : tie.Need-slice-aggregate-mark-accepted-2
+slice-aggregate-mark-accepted-2 c = search needs
+
+mark-accepted-requires : tie.Need-mark-accepted-requires
+mark-accepted-requires c κs =
+    let a = c .before .before .before .before .before .args in
+    let few = c .before .before .before .if1 .left in
+    ((few, refl, few), remember-none (a .window) (a .need) (a .values .now) few)
+
+slice-aggregate-strike : tie.Need-slice-aggregate-strike
+slice-aggregate-strike c = search needs
+
+strike-requires : tie.Need-strike-requires
+strike-requires c κs = search needs
+
+evaluate-requires : tie.Need-evaluate-requires
+evaluate-requires c κs = search needs
 
 same-length : tie.Need-same-length
 same-length c = search needs
 
 returns-2 : tie.Need-returns-2
 returns-2 c =
-    let a = c .before .before .before .before .before .before .before .before .before .before .before .args in
-    let k = c .before .before .before .before .keep-accepted in
-    (agreed-none (a .window) (a .need) (a .kind) (a .values .now) (a .kept .now) (c .before .before .before .before .before .before .before .before .misfit .ensures) (c .before .before .before .before .before .before .before .if1 .left) (k .last .1 .1 .1 .1 .0) (k .result) (k .ensures .1) (k .ensures .0) (c .if2 .taken), (kept-answer (a .window) (a .need) (a .kind) (a .values .now) (a .kept .now) (c .before .before .before .before .before .before .before .before .misfit .ensures) (c .before .before .before .before .before .before .before .if1 .left) (k .last .1 .1 .1 .1 .0) (k .result) (k .ensures .1) (k .ensures .0), omega arith))
-
-estimate-requires : tie.Need-estimate-requires
-estimate-requires c κs = search needs
-
-new-value-requires : tie.Need-new-value-requires
-new-value-requires c κs = search needs
-
-same-length-2 : tie.Need-same-length-2
-same-length-2 c = search needs
-
-returns-3 : tie.Need-returns-3
-returns-3 c =
     let a = c .before .before .before .before .before .before .before .before .before .before .before .before .before .before .before .args in
-    let k = c .before .before .before .before .before .before .before .before .keep-accepted in
-    let e = c .before .before .estimate in
-    let v = c .new-value in (
-      agreed-some (a .window) (a .need) (a .kind) (a .values .now) (a .kept .now) (c .before .before .before .before .before .before .before .before .before .before .before .before .misfit .ensures) (c .before .before .before .before .before .before .before .before .before .before .before .if1 .left) (k .last .1 .1 .1 .1 .0) (k .result) (k .ensures .1) (k .ensures .0) (c .before .before .before .before .if2 .left) (e .result) (v .result) (e .ensures .0) (e .ensures .1) (v .ensures .0),
-      (kept-answer (a .window) (a .need) (a .kind) (a .values .now) (a .kept .now) (c .before .before .before .before .before .before .before .before .before .before .before .before .misfit .ensures) (c .before .before .before .before .before .before .before .before .before .before .before .if1 .left) (k .last .1 .1 .1 .1 .0) (k .result) (k .ensures .1) (k .ensures .0), (count-small (a .window) (a .need) (a .kind) (a .values .now) (a .kept .now) (c .before .before .before .before .before .before .before .before .before .before .before .before .misfit .ensures) (c .before .before .before .before .before .before .before .before .before .before .before .if1 .left) (k .last .1 .1 .1 .1 .0) (k .result) (k .ensures .1) (k .ensures .0), e .ensures .1, v .ensures .1)),
-    )
+    let few = c .before .before .before .before .before .before .before .before .before .before .before .before .before .if1 .left in
+    let m = c .before .before .before .before .before .before .before .before .before .mark-accepted in
+    let s = c .before .before .before .before .strike in
+    let e = c .evaluate in
+    (agreed-few (a .window) (a .need) (a .values .now) few (replicate 64 0) (m .last .1 .1 .1 .1 .0) (s .last .0) few (m .ensures) (s .ensures) (a .kind) (e .result) (e .ensures .0), (kept-few (a .window) (a .need) (a .values .now) few (replicate 64 0) (m .last .1 .1 .1 .1 .0) (s .last .0) few (m .ensures) (s .ensures), e .ensures .1))
 
 pub agree-spec : {M : Type 1} → statement M
 agree-spec =
     tie.close
     (tie.spec
-    misfit-requires
     returns
-    slice-aggregate-keep-accepted
-    keep-accepted-requires
+    slice-aggregate-mark-accepted
+    slice-aggregate-mark-accepted-2
+    mark-accepted-requires
+    slice-aggregate-strike
+    strike-requires
+    evaluate-requires
     same-length
-    returns-2
-    estimate-requires
-    new-value-requires
-    same-length-2
-    returns-3)
+    returns-2)

@@ -1,19 +1,21 @@
--- `agreement::bias` meets its contract, by the laws of numbers moved up by 2^31.
+-- `agreement::bias` meets its contract: an addition of 2^31 that wraps moves a reading up.
 -- Assumes nothing.
+use mathlib.Core.Path.{sym, ap, _∙_}
 use native.Mathlib.Omega.{arith}
-use Rattle.arithmetic.proofs.Biased.{toZ-low, toZ-high}
+use Rattle.arithmetic.proofs.Shift.{down}
+use Rattle.agreement.proofs.Biasing.{wrapped-up}
 use borrow.Author.Needs.{needs}
 use Rattle.agreement.proofs.bias.Statement.{statement}
 use Rattle.agreement.proofs.bias.Tie as tie
 
-add-result : tie.Need-add-result
-add-result c = search needs
+wrapping-add-u32-requires : tie.Need-wrapping-add-u32-requires
+wrapping-add-u32-requires c κs = search needs
+
+cast-result : tie.Need-cast-result
+cast-result c = search needs
 
 returns : tie.Need-returns
-returns c = (toZ-low (c .before .args .bits) (c .if1 .taken), omega arith)
-
-returns-2 : tie.Need-returns-2
-returns-2 c = (toZ-high (c .before .args .bits) (c .if1 .left) (omega arith), omega arith)
+returns c = (wrapped-up (c .before .args .bits) (omega arith) ∙ ap (down 2147483648) (sym (c .wrapping-add-u32 .ensures)), omega arith)
 
 pub bias-spec : {M : Type 1} → statement M
-bias-spec = tie.close (tie.spec add-result returns returns-2)
+bias-spec = tie.close (tie.spec wrapping-add-u32-requires cast-result returns)

@@ -1,33 +1,21 @@
--- `agreement::unbias` meets its contract, by the laws of numbers moved up by 2^31.
+-- `agreement::unbias` meets its contract: an addition of 2^31 that wraps moves a reading back.
 -- Assumes nothing.
-use mathlib.Core.Path.{sym}
-use borrow.Author.Tests.{lt-ltb, le-ltb}
-use Rattle.arithmetic.proofs.Biased.{ofZ-low, ofZ-high}
+use mathlib.Core.Path.{_∙_}
+use Prim.Native.Nat.{_%_}
+use native.Mathlib.Omega.{arith}
+use Rattle.agreement.proofs.Biasing.{wrapped-down}
 use borrow.Author.Needs.{needs}
 use Rattle.agreement.proofs.unbias.Statement.{statement}
 use Rattle.agreement.proofs.unbias.Tie as tie
 
+cast-wrapping-add-u32 : tie.Need-cast-wrapping-add-u32
+cast-wrapping-add-u32 c = search needs
+
+wrapping-add-u32-requires : tie.Need-wrapping-add-u32-requires
+wrapping-add-u32-requires c κs = search needs
+
 returns : tie.Need-returns
-returns c = rw (le-ltb (c .before .args .value) 4294967296 (c .if1 .taken))
-
-add-result : tie.Need-add-result
-add-result c = search needs
-
-cast-result : tie.Need-cast-result
-cast-result c = search needs
-
-cast-result-2 : tie.Need-cast-result-2
-cast-result-2 c = search needs
-
-returns-2 : tie.Need-returns-2
-returns-2 c =
-    let v = c .before .before .args .value in
-    rw (lt-ltb v 4294967296 (c .before .if1 .left)) (sym (ofZ-low v (c .if2 .taken)))
-
-returns-3 : tie.Need-returns-3
-returns-3 c =
-    let v = c .before .before .args .value in
-    rw (lt-ltb v 4294967296 (c .before .if1 .left)) (sym (ofZ-high v (c .if2 .left)))
+returns c = c .wrapping-add-u32 .ensures ∙ wrapped-down (c .before .args .value % 4294967296) (omega arith)
 
 pub unbias-spec : {M : Type 1} → statement M
-unbias-spec = tie.close (tie.spec returns add-result cast-result cast-result-2 returns-2 returns-3)
+unbias-spec = tie.close (tie.spec cast-wrapping-add-u32 wrapping-add-u32-requires returns)

@@ -1,5 +1,5 @@
 -- `round::put_marks` meets its contract. The loop's invariant: the first r marks are written, and the others are as they were. The measure is what
--- is left of the readings.
+-- is left of the list.
 -- Assumes nothing.
 use borrow.Author.Needs.{needs}
 use mathlib.Core.Path.{_≡_, refl, sym, ap, _∙_}
@@ -13,25 +13,19 @@ use Rattle.round.proofs.put_marks.Statement.{statement}
 use Rattle.round.proofs.put_marks.Tie as tie
 
 abbrev Inv-marks : tie.InvT-marks
-Inv-marks values kept marks₀ r₀ marks r = (r ≤ length values) × (marks ≡ overwrite (table (markIn values kept) r) marks₀) × (length marks ≡ length marks₀)
+Inv-marks kept marks₀ r₀ marks r = (r ≤ length kept) × (marks ≡ overwrite (table (markIn kept) r) marks₀) × (length marks ≡ length marks₀)
 
 abbrev μ-marks : tie.MeasureT-marks
-μ-marks values kept marks₀ r₀ marks r = length values - r
+μ-marks kept marks₀ r₀ marks r = length kept - r
 
 marks-holds : tie.Need-marks-holds Inv-marks μ-marks
-marks-holds c = (search needs, store-none (markIn (c .before .before .before .args .values .now) (c .before .before .before .args .kept .now)) (c .before .before .before .args .marks .now), refl)
+marks-holds c = (search needs, store-none (markIn (c .before .before .args .kept .now)) (c .before .before .args .marks .now), refl)
 
 mul-mark : tie.Need-mul-mark Inv-marks μ-marks
 mul-mark c = search needs
 
 shared-slice-read-mark : tie.Need-shared-slice-read-mark Inv-marks μ-marks
 shared-slice-read-mark c = search needs
-
-mul-mark-2 : tie.Need-mul-mark-2 Inv-marks μ-marks
-mul-mark-2 c = search needs
-
-shared-slice-read-mark-2 : tie.Need-shared-slice-read-mark-2 Inv-marks μ-marks
-shared-slice-read-mark-2 c = search needs
 
 mark-requires : tie.Need-mark-requires Inv-marks μ-marks
 mark-requires c κs = search needs
@@ -48,11 +42,11 @@ marks-less c = search needs
 marks-again : tie.Need-marks-again Inv-marks μ-marks
 marks-again c = (
   search needs,
-  store-next (markIn (c .before .before .before .before .before .before .before .before .args .values .now) (c .before .before .before .before .before .before .before .before .args .kept .now)) (c .before .before .before .before .marks .r) (c .before .before .before .before .before .before .before .before .args .marks .now) (c .before .before .before .before .marks .marks) (c .mark .result)
-      (c .before .before .before .before .marks .inv .1)
+  store-next (markIn (c .before .before .before .before .before .before .args .kept .now)) (c .before .before .before .marks .r) (c .before .before .before .before .before .before .args .marks .now) (c .before .before .before .marks .marks) (c .mark .result)
+      (c .before .before .before .marks .inv .1)
       (c .mark .ensures)
-      (omega (arith, c .before .before .before .marks-test .taken, c .before .before .before .before .before .before .before .before .pre .1)),
-  length-set (c .before .before .before .before .marks .marks) (c .before .before .before .before .marks .r) (c .mark .result) ∙ c .before .before .before .before .marks .inv .2,
+      (omega (arith, c .before .before .marks-test .taken, c .before .before .before .before .before .before .pre)),
+  length-set (c .before .before .before .marks .marks) (c .before .before .before .marks .r) (c .mark .result) ∙ c .before .before .before .marks .inv .2,
 )
 
 same-length : tie.Need-same-length Inv-marks μ-marks
@@ -60,7 +54,7 @@ same-length c = search needs
 
 returns : tie.Need-returns Inv-marks μ-marks
 returns c =
-    store-ended (markIn (c .before .before .before .before .before .args .values .now) (c .before .before .before .before .before .args .kept .now)) (length (c .before .before .before .before .before .args .values .now)) (c .before .marks .r) (c .before .before .before .before .before .args .marks .now) (c .before .marks .marks)
+    store-ended (markIn (c .before .before .before .before .args .kept .now)) (length (c .before .before .before .before .args .kept .now)) (c .before .marks .r) (c .before .before .before .before .args .marks .now) (c .before .marks .marks)
     (c .before .marks .inv .0)
     (c .marks-test .left)
     (c .before .marks .inv .1)
@@ -74,8 +68,6 @@ put-marks-spec =
     marks-holds
     mul-mark
     shared-slice-read-mark
-    mul-mark-2
-    shared-slice-read-mark-2
     mark-requires
     slice-write-marks
     add-r

@@ -1,7 +1,9 @@
 -- `round::used` meets its contract: what is kept is a reading, and so is the estimate.
 -- Assumes nothing.
 use borrow.Author.Tests.{lt-ltb, le-ltb}
-use mathlib.Core.Path.{_∙_}
+use mathlib.Core.Path.{_≡_, _∙_}
+use Prim.Native.Nat.{_%_}
+use native.Mathlib.Omega.{arith}
 use borrow.Author.Needs.{needs}
 use Rattle.round.proofs.used.Statement.{statement}
 use Rattle.round.proofs.used.Tie as tie
@@ -13,10 +15,17 @@ unbias-requires-2 : tie.Need-unbias-requires-2
 unbias-requires-2 c κs = search needs
 
 returns : tie.Need-returns
-returns c = c .unbias .ensures ∙ rw (lt-ltb _ _ (c .before .if1 .taken))
+returns c =
+    let kept = c .before .before .args .kept in
+    let low : kept % 4294967296 ≡ kept = omega (arith, c .before .if1 .taken) in
+    c .unbias .ensures ∙ rw (lt-ltb kept 4294967296 (c .before .if1 .taken), low)
 
 returns-2 : tie.Need-returns-2
-returns-2 c = c .unbias2 .ensures ∙ rw (le-ltb _ _ (c .before .if1 .left), lt-ltb _ _ (c .before .before .pre))
+returns-2 c =
+    let kept = c .before .before .args .kept in
+    let estimate = c .before .before .args .estimate in
+    let low : estimate % 4294967296 ≡ estimate = omega (arith, c .before .before .pre) in
+    c .unbias2 .ensures ∙ rw (le-ltb kept 4294967296 (c .before .if1 .left), low)
 
 pub used-spec : {M : Type 1} → statement M
 used-spec = tie.close (tie.spec unbias-requires unbias-requires-2 returns returns-2)

@@ -2,9 +2,9 @@
 -- Assumes nothing.
 use mathlib.Core.List.{List, [], _∷_, _++_, append-assoc}
 use mathlib.Core.Path.{_≡_, refl, sym, ap, ap₂, _∙_}
-use Prim.Native.Nat.{ℕ, _+_, _*_, _≤_, _<_}
+use Prim.Native.Nat.{ℕ, _+_, _-_, _*_, _%_, _≤_, _<_}
 use native.Mathlib.Omega.{arith}
-use lib.ListN.{length, set, length-append}
+use lib.ListN.{length, set, take, drop, length-append}
 use mir.Syntax.{w32}
 use mir.Val.{ofZ}
 use Rattle.arithmetic.specs.Writing.{table, overwrite}
@@ -14,7 +14,7 @@ use Rattle.model.specs.RoundSheet.{bytes4, readingBytes}
 use Rattle.model.specs.AnswerSheet.{answerHeader, answerBytes}
 use Rattle.sheets.specs.Storing.{putWord}
 use Rattle.sheets.proofs.Readings.{length-bytes4}
-use Rattle.sheets.proofs.Storing.{put-word-next}
+use Rattle.sheets.proofs.Storing.{put-word-next, tail-written}
 use Rattle.round.specs.Rounds.{headerBytes, markIn, usedIn, roundIn}
 
 pub length-header : (n count e v : ℕ) → length (headerBytes n count e v) ≡ 10
@@ -42,3 +42,44 @@ answer-parts n count e v kept =
 pub length-front : (n count e v : ℕ) (kept : List ℕ) → length (headerBytes n count e v ++ table (markIn kept) n) ≡ 10 + n
 length-front n count e v kept =
     length-append (headerBytes n count e v) (table (markIn kept) n) ∙ ap₂ (λ (a k : ℕ). a + k) (length-header n count e v) (length-table (markIn kept) n)
+
+-- ---- the answer sheet, as the calls write it
+
+-- the lower 32 bits of a number of 32 bits
+low-bits : (x : ℕ) → x < 4294967296 → x % 4294967296 ≡ x
+low-bits x h = omega arith
+
+-- a list with the part from k on replaced
+abbrev spliced : ℕ → List ℕ → List ℕ → List ℕ
+spliced k b t = take k b ++ (t ++ drop (length b - k) (drop k b))
+
+-- the header, the marks behind it and the used values in the tail
+pub answer-written :
+    (kept old : List ℕ) (count e v e-bits v-bits : ℕ)
+    → e < 4294967296
+    → v < 4294967296
+    → e-bits ≡ ofZ w32 (down 2147483648 (e % 4294967296))
+    → v-bits ≡ ofZ w32 (down 2147483648 (v % 4294967296))
+    → (after-header marked filled : List ℕ)
+    → after-header ≡ overwrite (headerBytes (length kept) count e-bits v-bits) old
+    → marked ≡ overwrite (table (markIn kept) (length kept)) (take (length after-header - 10) (drop 10 after-header))
+    → filled ≡ overwrite (readingBytes (table (usedIn kept e) (length kept))) (take (length (spliced 10 after-header marked) - (10 + length kept)) (drop (10 + length kept) (spliced 10 after-header marked)))
+    → spliced (10 + length kept) (spliced 10 after-header marked) filled ≡ overwrite (answerBytes (length kept) (roundIn count e v kept)) old
+answer-written kept old count e v e-bits v-bits l m p q after-header marked filled h r u =
+    tail-written (header ++ marks) used old (spliced 10 after-header marked) filled (10 + length kept) (length-front (length kept) count e-bits v-bits kept)
+    (tail-written header marks old after-header marked 10 (length-header (length kept) count e-bits v-bits) h r)
+    u
+    ∙ ap (λ (x : List ℕ). overwrite x old)
+    (ap₂ (λ (a d : ℕ). (headerBytes (length kept) count a d ++ marks) ++ used)
+    (p ∙ ap (λ (x : ℕ). ofZ w32 (down 2147483648 x)) (low-bits e l))
+    (q ∙ ap (λ (x : ℕ). ofZ w32 (down 2147483648 x)) (low-bits v m))
+    ∙ answer-parts (length kept) count e v kept)
+  where
+    header : List ℕ
+    header = headerBytes (length kept) count e-bits v-bits
+
+    marks : List ℕ
+    marks = table (markIn kept) (length kept)
+
+    used : List ℕ
+    used = readingBytes (table (usedIn kept e) (length kept))

@@ -1,18 +1,6 @@
 -- `round::put_answer` meets its contract: the header, the marks behind it and the used values in the tail are the answer sheet.
 -- Assumes nothing.
-use borrow.Author.Tests.{lt-ltb}
-use mathlib.Core.List.{List, _++_}
-use mathlib.Core.Path.{_≡_, ap, ap₂, _∙_}
-use Prim.Native.Nat.{ℕ, _+_, _-_}
-use lib.ListN.{length, take, drop}
-use mir.Syntax.{w32}
-use mir.Val.{ofZ}
-use Rattle.arithmetic.specs.Writing.{table, overwrite}
-use Rattle.arithmetic.proofs.Shift.{down}
-use Rattle.model.specs.RoundSheet.{readingBytes}
-use Rattle.sheets.proofs.Storing.{tail-written}
-use Rattle.round.specs.Rounds.{headerBytes, markIn, usedIn}
-use Rattle.round.proofs.Bytes.{length-header, length-front, answer-parts}
+use Rattle.round.proofs.Bytes.{answer-written}
 use borrow.Author.Needs.{needs}
 use Rattle.round.proofs.put_answer.Statement.{statement}
 use Rattle.round.proofs.put_answer.Tie as tie
@@ -64,49 +52,19 @@ same-length c = search needs
 
 returns : tie.Need-returns
 returns c =
-    tail-written front used old after-marks (c .before .before .put-used .last .1 .1 .0) (10 + length values) (length-front (length values) (c .before .before .before .before .before .before .before .before .before .before .before .before .before .before .before .before .before .before .args .settled .count) (c .before .before .before .before .before .before .before .before .before .before .before .before .before .unbias .result) (c .before .before .before .before .before .before .before .before .before .before .before .before .unbias2 .result) values kept)
-    marked
-    (c .before .before .put-used .ensures ∙ ap (λ (k : ℕ). overwrite (readingBytes (table (usedIn kept (c .before .before .before .before .before .before .before .before .before .before .before .before .before .before .before .before .before .before .args .settled .estimate)) k)) (take (length after-marks - (10 + length values)) (drop (10 + length values) after-marks))) (c .before .before .before .before .before .before .before .before .before .before .before .before .before .before .before .before .before .before .pre .0 .1))
-    ∙ ap (λ (l : List ℕ). overwrite l old)
-    (ap₂ (λ (a d : ℕ). (headerBytes (length values) (c .before .before .before .before .before .before .before .before .before .before .before .before .before .before .before .before .before .before .args .settled .count) a d ++ table (markIn values kept) (length values)) ++ used) estimate-bits value-bits
-    ∙ answer-parts (length values) (c .before .before .before .before .before .before .before .before .before .before .before .before .before .before .before .before .before .before .args .settled .count) (c .before .before .before .before .before .before .before .before .before .before .before .before .before .before .before .before .before .before .args .settled .estimate) (c .before .before .before .before .before .before .before .before .before .before .before .before .before .before .before .before .before .before .args .settled .value) values kept)
-  where
-    values : List ℕ
-    values = c .before .before .before .before .before .before .before .before .before .before .before .before .before .before .before .before .before .before .args .values .now
-
-    kept : List ℕ
-    kept = c .before .before .before .before .before .before .before .before .before .before .before .before .before .before .before .before .before .before .args .kept .now
-
-    old : List ℕ
-    old = c .before .before .before .before .before .before .before .before .before .before .before .before .before .before .before .before .before .before .args .answer .now
-
-    used : List ℕ
-    used = readingBytes (table (usedIn kept (c .before .before .before .before .before .before .before .before .before .before .before .before .before .before .before .before .before .before .args .settled .estimate)) (length values))
-
-    header : List ℕ
-    header = headerBytes (length values) (c .before .before .before .before .before .before .before .before .before .before .before .before .before .before .before .before .before .before .args .settled .count) (c .before .before .before .before .before .before .before .before .before .before .before .before .before .unbias .result) (c .before .before .before .before .before .before .before .before .before .before .before .before .unbias2 .result)
-
-    front : List ℕ
-    front = header ++ table (markIn values kept) (length values)
-
-    after-header : List ℕ
-    after-header = c .before .before .before .before .before .before .before .before .before .before .put-header .last .1 .1 .1 .1 .0
-
-    after-marks : List ℕ
-    after-marks = take 10 after-header ++ (c .before .before .before .before .before .before .put-marks .last .1 .1 .0 ++ drop (length after-header - 10) (drop 10 after-header))
-
-    marked : after-marks ≡ overwrite front old
-    marked =
-        tail-written header (table (markIn values kept) (length values)) old after-header (c .before .before .before .before .before .before .put-marks .last .1 .1 .0) 10
-        (length-header (length values) (c .before .before .before .before .before .before .before .before .before .before .before .before .before .before .before .before .before .before .args .settled .count) (c .before .before .before .before .before .before .before .before .before .before .before .before .before .unbias .result) (c .before .before .before .before .before .before .before .before .before .before .before .before .unbias2 .result))
-        (c .before .before .before .before .before .before .before .before .before .before .put-header .ensures)
-        (c .before .before .before .before .before .before .put-marks .ensures)
-
-    estimate-bits : c .before .before .before .before .before .before .before .before .before .before .before .before .before .unbias .result ≡ ofZ w32 (down 2147483648 (c .before .before .before .before .before .before .before .before .before .before .before .before .before .before .before .before .before .before .args .settled .estimate))
-    estimate-bits = c .before .before .before .before .before .before .before .before .before .before .before .before .before .unbias .ensures ∙ rw (lt-ltb (c .before .before .before .before .before .before .before .before .before .before .before .before .before .before .before .before .before .before .args .settled .estimate) 4294967296 (c .before .before .before .before .before .before .before .before .before .before .before .before .before .before .before .before .before .before .pre .1 .1))
-
-    value-bits : c .before .before .before .before .before .before .before .before .before .before .before .before .unbias2 .result ≡ ofZ w32 (down 2147483648 (c .before .before .before .before .before .before .before .before .before .before .before .before .before .before .before .before .before .before .args .settled .value))
-    value-bits = c .before .before .before .before .before .before .before .before .before .before .before .before .unbias2 .ensures ∙ rw (lt-ltb (c .before .before .before .before .before .before .before .before .before .before .before .before .before .before .before .before .before .before .args .settled .value) 4294967296 (c .before .before .before .before .before .before .before .before .before .before .before .before .before .before .before .before .before .before .pre .1 .2))
+    let a = c .before .before .before .before .before .before .before .before .before .before .before .before .before .before .before .before .before .args in
+    let count = a .settled .count in
+    let estimate = a .settled .estimate in
+    let value = a .settled .value in
+    let e = c .before .before .before .before .before .before .before .before .before .before .before .before .before .unbias in
+    let v = c .before .before .before .before .before .before .before .before .before .before .before .before .unbias2 in
+    let h = c .before .before .before .before .before .before .before .before .before .before .put-header in
+    let m = c .before .before .before .before .before .before .put-marks in
+    let u = c .before .before .put-used in
+    answer-written (a .kept .now) (a .answer .now) count estimate value (e .result) (v .result)
+    (c .before .before .before .before .before .before .before .before .before .before .before .before .before .before .before .before .before .pre .1 .1) (c .before .before .before .before .before .before .before .before .before .before .before .before .before .before .before .before .before .pre .1 .2) (e .ensures) (v .ensures)
+    (h .last .1 .1 .1 .1 .0) (m .last .1 .0) (u .last .1 .1 .0)
+    (h .ensures) (m .ensures) (u .ensures)
 
 pub put-answer-spec : {M : Type 1} → statement M
 put-answer-spec =

@@ -1,4 +1,4 @@
--- `round::settle_valid` meets its contract: it lends the first N places of its two arrays.
+-- `round::settle_valid` meets its contract: it lends the first N places of its array.
 -- Assumes nothing.
 use mathlib.Core.Path.{sym}
 use Rattle.round.proofs.Settling.{few-faults, first-places}
@@ -10,19 +10,19 @@ cast-n : tie.Need-cast-n
 cast-n c = search needs
 
 array-borrow-prefix-values : tie.Need-array-borrow-prefix-values
-array-borrow-prefix-values c = few-faults (c .before .before .before .args .sheet .now) (c .before .before .before .args .settings) (c .before .before .before .pre .1) (c .before .before .before .pre .0) .1
+array-borrow-prefix-values c =
+    let s = c .before .before .before in
+    few-faults (s .args .sheet .now) (s .args .settings) (s .pre .1) (s .pre .0) .1
 
 slice-aggregate-settle-in : tie.Need-slice-aggregate-settle-in
-slice-aggregate-settle-in c = sym (first-places (c .before .before .before .before .args .settings .n) (few-faults (c .before .before .before .before .args .sheet .now) (c .before .before .before .before .args .settings) (c .before .before .before .before .pre .1) (c .before .before .before .before .pre .0) .1))
-
-array-borrow-prefix-kept : tie.Need-array-borrow-prefix-kept
-array-borrow-prefix-kept c = few-faults (c .before .before .before .before .args .sheet .now) (c .before .before .before .before .args .settings) (c .before .before .before .before .pre .1) (c .before .before .before .before .pre .0) .1
-
-slice-aggregate-settle-in-2 : tie.Need-slice-aggregate-settle-in-2
-slice-aggregate-settle-in-2 c = sym (first-places (c .before .before .before .before .before .args .settings .n) (few-faults (c .before .before .before .before .before .args .sheet .now) (c .before .before .before .before .before .args .settings) (c .before .before .before .before .before .pre .1) (c .before .before .before .before .before .pre .0) .1))
+slice-aggregate-settle-in c =
+    let s = c .before .before .before .before in
+    sym (first-places (s .args .settings .n) (few-faults (s .args .sheet .now) (s .args .settings) (s .pre .1) (s .pre .0) .1))
 
 settle-in-requires : tie.Need-settle-in-requires
-settle-in-requires c κs = (c .before .before .before .before .before .before .pre, (first-places (c .before .before .before .before .before .before .args .settings .n) (few-faults (c .before .before .before .before .before .before .args .sheet .now) (c .before .before .before .before .before .before .args .settings) (c .before .before .before .before .before .before .pre .1) (c .before .before .before .before .before .before .pre .0) .1), first-places (c .before .before .before .before .before .before .args .settings .n) (few-faults (c .before .before .before .before .before .before .args .sheet .now) (c .before .before .before .before .before .before .args .settings) (c .before .before .before .before .before .before .pre .1) (c .before .before .before .before .before .before .pre .0) .1)))
+settle-in-requires c κs =
+    let s = c .before .before .before .before .before in
+    (s .pre, first-places (s .args .settings .n) (few-faults (s .args .sheet .now) (s .args .settings) (s .pre .1) (s .pre .0) .1))
 
 same-length : tie.Need-same-length
 same-length c = search needs
@@ -37,8 +37,6 @@ settle-valid-spec =
     cast-n
     array-borrow-prefix-values
     slice-aggregate-settle-in
-    array-borrow-prefix-kept
-    slice-aggregate-settle-in-2
     settle-in-requires
     same-length
     returns)

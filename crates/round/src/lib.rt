@@ -17,6 +17,7 @@ ghost use Rattle.model.specs.Calls.{settle};
 ghost use Rattle.round.specs.Answers.{settledAs};
 ghost use Rattle.round.specs.Rounds.{markIn, usedIn, roundIn, headerBytes, settledAfter};
 use agreement::Agreed;
+use ensemble::Screened;
 use estimates::LIMIT;
 use inspection::Opened;
 use model::Refusal;
@@ -164,9 +165,9 @@ pub fn settle(sheet: &[u8], answer: &mut [u8]) -> Settled
                     place: 0,
                 });
             }
-            match inspection::validate(sheet) {
-                Opened::Refused(r) => Settled::Refused(r),
-                Opened::Granted(_) => settle_valid(sheet, settings, answer),
+            match inspection::check_entries(sheet, settings) {
+                Screened::Refused(r) => Settled::Refused(r),
+                Screened::Passed => settle_valid(sheet, settings, answer),
             }
         }
     }

@@ -1,15 +1,16 @@
 // Document 01, "The round sheet" and "Numbers of refusal": the checks of a sheet.
 ghost use mathlib.Core.Path.{_≡_};
-ghost use Prim.Native.Nat.{_+_, _*_, _≤_, _<_};
+ghost use Prim.Native.Nat.{_*_, _<_};
 ghost use lib.Dec.{ltb};
 ghost use lib.ListN.{length};
 ghost use Rattle.arithmetic.specs.Counting.{lowest};
 ghost use Rattle.ensemble.specs.Answers.{rowOf};
-ghost use Rattle.model.specs.RoundSheet.{byte, word, settingsAt, entryCount, markAt, bitsAt};
-ghost use Rattle.model.specs.Refusals.{orNext, firstOf, sheetChecks, rowChecks, badMark, badMissing};
+ghost use Rattle.model.specs.RoundSheet.{byte, word, settingsAt, entryCount};
+ghost use Rattle.model.specs.Refusals.{firstOf, sheetChecks, rowChecks};
 ghost use Rattle.model.specs.Calls.{verdict};
 ghost use Rattle.sheets.specs.Entries.{notZero};
 ghost use Rattle.inspection.specs.Answers.{openedAs, foundAs};
+ghost use Rattle.inspection.specs.Checks.{bodyChecks};
 use ensemble::Screened;
 use model::Refusal;
 use model::Settings;
@@ -127,14 +128,17 @@ fn bad_missing(marks: &[u8], readings: &[u8]) -> Found
     Found::Nothing
 }
 
-// Checks 8 and 9 of a sheet of that many entries.
-fn check_entries(sheet: &[u8], entries: usize) -> Screened
-    requires { ⌜ (length (now sheet) ≡ 8 + 5 * entries) × (entries ≤ 4096) ⌝ }
-    ensures { λ r.
-        ⌜ rowOf r
-        ≡ orNext (badMark (markAt (now (sheet .entry))) entries)
-        (badMissing (markAt (now (sheet .entry))) (bitsAt (now (sheet .entry)) entries) entries) ⌝ }
+// Checks 6, 8 and 9 of a sheet with these settings.
+pub fn check_entries(sheet: &[u8], settings: Settings) -> Screened
+    ensures { λ r. ⌜ rowOf r ≡ firstOf (bodyChecks settings (now (sheet .entry))) ⌝ }
 {
+    let entries = entry_count(settings);
+    if sheet.len() != 8 + 5 * entries {
+        return Screened::Refused(Refusal {
+            number: 6,
+            place: 0,
+        });
+    }
     let body = 8 + entries;
     let marks = &sheet[8..body];
     match bad_mark(marks) {
@@ -163,7 +167,7 @@ pub fn validate(sheet: &[u8]) -> Opened
     match inspect(sheet) {
         Opened::Refused(r) => Opened::Refused(r),
         Opened::Granted(settings) => {
-            match check_entries(sheet, entry_count(settings)) {
+            match check_entries(sheet, settings) {
                 Screened::Refused(r) => Opened::Refused(r),
                 Screened::Passed => Opened::Granted(settings),
             }

@@ -48,6 +48,10 @@ cut a k = omega arith
 pub marks-long : (s : List ℕ) (n : ℕ) → 8 + n ≤ length s → length (take (8 + n - 8) (drop 8 s)) ≡ n
 marks-long s n h = rw (cut 8 n) (length-part s 8 n h)
 
+-- four bytes for each mark
+pub row-long : (s : List ℕ) (n : ℕ) → 8 + n + 4 * n ≤ length s → length (take (8 + n + 4 * n - (8 + n)) (drop (8 + n) s)) ≡ 4 * length (take (8 + n - 8) (drop 8 s))
+row-long s n h = rw (cut (8 + n) (4 * n), marks-long s n (omega arith)) (length-part s (8 + n) (4 * n) h)
+
 -- entry e of a sheet, from a part of the marks and a part of the readings
 entry-part : (s : List ℕ) (E j k i l e t : ℕ) → t < k → 4 * t + 4 ≤ l → 8 + e ≡ j + t → 8 + E + 4 * e ≡ i + 4 * t → entryAt s E e ≡ copyAt (take k (drop j s)) (take l (drop i s)) t
 unfolding entryAt

@@ -12,12 +12,14 @@ use model::Settings;
 
 // The readings as sent: their marks, and four bytes each.
 fn receive_direct(marks: &[u8], row: &[u8], values: &mut [u64])
-    requires { ⌜ (length (now marks) ≤ length (now values)) × (length (now marks) ≤ 64) ⌝ }
+    requires { ⌜ (length (now marks) ≤ length (now values)) × (length (now marks) ≤ 64) × (length (now row) ≡ 4 * length (now marks)) ⌝ }
     ensures { λ _. ⌜ Stands (copyAt (now (marks .entry)) (now (row .entry))) (now (values .exit)) (length (now (marks .entry))) ⌝ }
 {
     let mut t: usize = 0;
     'readings: while t < marks.len() {
-        values[t] = agreement::entry_value(marks[t], words::word_at(row, 4 * t));
+        let at = 4 * t;
+        let bits = words::join(row[at], row[at + 1], row[at + 2], row[at + 3]);
+        values[t] = agreement::entry_value(marks[t], bits);
         t += 1;
     }
 }

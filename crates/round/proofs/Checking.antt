@@ -10,11 +10,14 @@ use Rattle.model.specs.declared.Settings.{Settings}
 use Rattle.model.specs.declared.Refusal.{Refusal}
 use Rattle.model.specs.RoundSheet.{settingsAt}
 use Rattle.model.specs.AnswerSheet.{answerLength, answerBytes}
-use Rattle.model.specs.Refusals.{Row, refusal, orNext, firstOf, sheetChecks, entryChecks, rowChecks, settleChecks, noRoom, tooManyFaults}
+use Rattle.model.specs.Refusals.{Row, refusal, orNext, firstOf, sheetChecks, entryChecks, settleChecks, noRoom, tooManyFaults}
 use Rattle.model.specs.Calls.{Written, writtenAfter, granted, refused, verdict, settle}
 use Rattle.model.specs.Steps.{roundAt}
 use Rattle.sheets.proofs.Checks.{room-pass}
-use Rattle.sheets.proofs.Outcomes.{refused-some, granted-none, granted-same, row-rows, settle-rows}
+use Rattle.sheets.proofs.Outcomes.{refused-some, granted-none, granted-same, settle-rows}
+use Rattle.sheets.proofs.Inspection.{inspected}
+use Rattle.inspection.specs.Checks.{bodyChecks}
+use Rattle.inspection.proofs.Body.{body-entries}
 use Rattle.round.specs.Rounds.{settledAfter}
 
 module _ (s answer : List ℕ) where
@@ -55,17 +58,17 @@ module _ (s answer : List ℕ) where
           rest
           ∙ ap (λ (row : Row). orNext row (orNext (firstOf (entryChecks s)) (tooManyFaults (roundAt s .count)))) (room-pass (length answer) (answerLength (settingsAt s .n)) (rw opened-settings at room))
 
-      entries : firstOf (rowChecks s) ≡ firstOf (entryChecks s)
-      entries = row-rows s ∙ ap (λ (row : Row). orNext row (firstOf (entryChecks s))) opened-passes
+      entries : firstOf (bodyChecks c s) ≡ firstOf (entryChecks s)
+      entries = body-entries s c (inspected s c (sym opened))
 
       -- checks 8 and 9
-      pub entries-refuse : (r : Refusal) → refused r ≡ verdict (firstOf (rowChecks s)) (settingsAt s) → record { verdict = refused r; buffer = answer } ≡ settle s answer
+      pub entries-refuse : (r : Refusal) → some r ≡ firstOf (bodyChecks c s) → record { verdict = refused r; buffer = answer } ≡ settle s answer
       entries-refuse r e =
           by-rows (some r)
-          (last ∙ ap (λ (row : Row). orNext row (tooManyFaults (roundAt s .count))) (sym entries ∙ refused-some (firstOf (rowChecks s)) (settingsAt s) r (sym e)))
+          (last ∙ ap (λ (row : Row). orNext row (tooManyFaults (roundAt s .count))) (sym (e ∙ entries)))
 
       -- only row 10 is left
-      pub passes-settle : (d : Settings) → granted d ≡ verdict (firstOf (rowChecks s)) (settingsAt s) → settledAfter s answer ≡ settle s answer
-      passes-settle d e =
+      pub passes-settle : none ≡ firstOf (bodyChecks c s) → settledAfter s answer ≡ settle s answer
+      passes-settle e =
           by-rows (tooManyFaults (roundAt s .count))
-          (last ∙ ap (λ (row : Row). orNext row (tooManyFaults (roundAt s .count))) (sym entries ∙ granted-none (firstOf (rowChecks s)) (settingsAt s) d (sym e)))
+          (last ∙ ap (λ (row : Row). orNext row (tooManyFaults (roundAt s .count))) (sym (e ∙ entries)))

@@ -9,13 +9,13 @@ ghost use mir.Syntax.{w32};
 ghost use mir.Val.{ofZ};
 ghost use Rattle.arithmetic.specs.Writing.{table, overwrite};
 ghost use Rattle.arithmetic.proofs.Shift.{down};
-ghost use Rattle.model.specs.RoundSheet.{readingBytes};
-ghost use Rattle.model.specs.RoundSheet.{settingsAt};
+ghost use Rattle.model.specs.RoundSheet.{readingBytes, settingsAt};
 ghost use Rattle.model.specs.AnswerSheet.{answerBytes};
 ghost use Rattle.model.specs.Refusals.{firstOf, sheetChecks};
 ghost use Rattle.model.specs.Calls.{settle};
 ghost use Rattle.round.specs.Answers.{settledAs};
 ghost use Rattle.round.specs.Rounds.{markIn, usedIn, roundIn, headerBytes, settledAfter};
+use ensemble::Screened;
 use estimates::Estimated;
 use estimates::LIMIT;
 use inspection::Opened;
@@ -156,9 +156,9 @@ pub fn settle(sheet: &[u8], answer: &mut [u8]) -> Settled
                     place: 0,
                 });
             }
-            match inspection::validate(sheet) {
-                Opened::Refused(r) => Settled::Refused(r),
-                Opened::Granted(_) => settle_valid(sheet, settings, answer),
+            match inspection::check_entries(sheet, settings) {
+                Screened::Refused(r) => Settled::Refused(r),
+                Screened::Passed => settle_valid(sheet, settings, answer),
             }
         }
     }

@@ -17,14 +17,6 @@ use Rattle.sheets.proofs.Shown.{row-within, row-part, row-empty}
 use Rattle.rows.specs.Parts.{rowEnd, partAt}
 
 module _ (c : Settings) (small : c .n ≤ 255) where
-  pub entries-most : entryCount c ≤ 65025
-  unfolding entryCount
-  entries-most = go (eqb (c .rule) cca)
-    where
-      go : (b : Bool) → cond b (c .n * c .n) (c .n) ≤ 65025
-      go true = mul-le-mul small small
-      go false = omega arith
-
   pub row-entries-most : rowEntries c ≤ 255
   unfolding rowEntries
   row-entries-most = go (eqb (c .rule) cca)

@@ -10,6 +10,7 @@ ghost use Rattle.model.specs.Calls.{verdict, row, read};
 ghost use Rattle.sheets.specs.Entries.{readRows};
 ghost use Rattle.inspection.specs.Answers.{openedAs};
 ghost use Rattle.sheet.specs.Answers.{readAs};
+use ensemble::Screened;
 use ensemble::Tick;
 use inspection::Opened;
 use model::Refusal;
@@ -65,7 +66,10 @@ fn open(sheet: &[u8], marks: usize, readings: usize) -> Opened
                     place: 0,
                 });
             }
-            inspection::validate(sheet)
+            match inspection::check_entries(sheet, settings) {
+                Screened::Refused(r) => Opened::Refused(r),
+                Screened::Passed => Opened::Granted(settings),
+            }
         }
     }
 }

@@ -91,19 +91,17 @@ module _ (s : List ℕ) where
       (ap (orNext (badMark (markAt s) (entryCount (settingsAt s))))
       (next-none (badMissing (markAt s) (bitsAt s (entryCount (settingsAt s))) (entryCount (settingsAt s)))))
 
-  module _ (pass : firstOf (sheetChecks s) ≡ none) (E : ℕ) (same : E ≡ entryCount (settingsAt s)) where
-    rows-after-sizes : firstOf (rowChecks s) ≡ orNext (badMark (markAt s) E) (badMissing (markAt s) (bitsAt s E) E)
+  module _ (pass : firstOf (sheetChecks s) ≡ none) where
+    rows-after-sizes : firstOf (rowChecks s) ≡ firstOf (entryChecks s)
     unfolding rowChecks
-    rows-after-sizes = rw (first-append, pass) (entry-rows E same)
+    rows-after-sizes = rw (first-append, pass)
 
     pub entries-refused :
-        (r : Refusal) → orNext (badMark (markAt s) E) (badMissing (markAt s) (bitsAt s E) E) ≡ some r
-        → refused r ≡ verdict (firstOf (rowChecks s)) (settingsAt s)
+        (r : Refusal) → firstOf (entryChecks s) ≡ some r → refused r ≡ verdict (firstOf (rowChecks s)) (settingsAt s)
     entries-refused r h = rw (rows-after-sizes, h)
 
     pub validation-passes :
-        (c : Settings) → c ≡ settingsAt s
-        → orNext (badMark (markAt s) E) (badMissing (markAt s) (bitsAt s E) E) ≡ none
+        (c : Settings) → c ≡ settingsAt s → firstOf (entryChecks s) ≡ none
         → granted c ≡ verdict (firstOf (rowChecks s)) (settingsAt s)
     validation-passes c e h = rw (rows-after-sizes, h) (ap granted e)
 

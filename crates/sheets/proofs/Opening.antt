@@ -13,12 +13,12 @@ use Rattle.arithmetic.specs.Writing.{table, overwrite}
 use Rattle.model.specs.declared.Settings.{Settings}
 use Rattle.model.specs.declared.Refusal.{Refusal}
 use Rattle.model.specs.RoundSheet.{settingsAt, entryCount, markAt, bitsAt}
-use Rattle.model.specs.Refusals.{Row, refusal, orNext, firstOf, sheetChecks, entryChecks, rowChecks, noRoom}
+use Rattle.model.specs.Refusals.{refusal, orNext, firstOf, sheetChecks, entryChecks, noRoom}
 use Rattle.model.specs.Calls.{granted, refused, verdict, read, Read}
 use Rattle.sheets.specs.Entries.{readRows}
 use Rattle.refusals.proofs.Rows.{next-none-left, next-none-right}
 use Rattle.sheets.proofs.Checks.{room-pass, room-passed}
-use Rattle.sheets.proofs.Outcomes.{granted-none, granted-same, read-rows, read-grants, row-rows}
+use Rattle.sheets.proofs.Outcomes.{granted-none, granted-same, read-rows, read-grants}
 use Rattle.sheets.proofs.Inspection.{Inspected, inspected}
 
 module _ (s : List ℕ) (m r : ℕ) where
@@ -42,12 +42,16 @@ module _ (s : List ℕ) (m r : ℕ) where
     unfolding noRoom
     short-readings a h = rw (rows-after-sizes, le-ltb m E a, lt-ltb r E h)
 
-    pub opening-validated :
-        E ≤ m → E ≤ r → verdict (firstOf (rowChecks s)) (settingsAt s) ≡ verdict (readRows s m r) (settingsAt s)
-    opening-validated a b = ap (λ (x : Row). verdict x (settingsAt s)) same-rows
-      where
-        same-rows : firstOf (rowChecks s) ≡ readRows s m r
-        same-rows = row-rows s ∙ rw (i .passes, rows-after-sizes, room-pass m E a, room-pass r E b)
+    module _ (a : E ≤ m) (b : E ≤ r) where
+      rows-after-room : readRows s m r ≡ firstOf (entryChecks s)
+      rows-after-room = rows-after-sizes ∙ rw (room-pass m E a, room-pass r E b)
+
+      pub opening-entries-refused :
+          (x : Refusal) → firstOf (entryChecks s) ≡ some x → refused x ≡ verdict (readRows s m r) (settingsAt s)
+      opening-entries-refused x h = rw (rows-after-room, h)
+
+      pub opening-passes : firstOf (entryChecks s) ≡ none → granted c ≡ verdict (readRows s m r) (settingsAt s)
+      opening-passes h = rw (rows-after-room, h) (ap granted (sym (i .settings)))
 
   -- what it means that checks 1 to 9 grant settings
   pub record Openable (c : Settings) : Type 0 where

@@ -2,19 +2,19 @@
 -- Assumes nothing.
 use borrow.Author.Needs.{needs}
 use mathlib.Core.Path.{_≡_, sym, ap, _∙_}
-use Prim.Native.Nat.{ℕ, _+_, _*_}
 use Rattle.ensemble.specs.Answers.{rowOf}
-use Rattle.model.specs.RoundSheet.{settingsAt, entryCount}
-use Rattle.model.specs.Refusals.{firstOf, sheetChecks}
+use Rattle.model.specs.RoundSheet.{settingsAt}
+use Rattle.model.specs.Refusals.{firstOf, sheetChecks, entryChecks}
 use Rattle.inspection.specs.Answers.{openedAs}
 use Rattle.sheets.proofs.Outcomes.{refused-some}
 use Rattle.sheets.proofs.Inspection.{Inspected, inspected, first-refused, entries-refused, validation-passes}
+use Rattle.inspection.proofs.Body.{body-entries}
 use Rattle.inspection.proofs.validate.Statement.{statement}
 use Rattle.inspection.proofs.validate.Tie as tie
 
 -- what `inspect` granted
 seen :
-    (c : tie.After-entry-count)
+    (c : tie.After-check-entries)
     → Inspected (c .before .before .before .before .before .before .args .sheet .now)
     (c .before .before .settings .given .0 .0)
 seen c =
@@ -23,6 +23,14 @@ seen c =
     let inspect = c .before .before .before .before .inspect in
     inspected (a .sheet .now) (settings .given .0 .0)
     (sym (inspect .ensures) ∙ ap openedAs (settings .given .1))
+
+-- what `check_entries` answered, of the sheet's own entries
+checked :
+    (c : tie.After-check-entries)
+    → rowOf (c .check-entries .result) ≡ firstOf (entryChecks (c .before .before .before .before .before .before .args .sheet .now))
+checked c =
+    c .check-entries .ensures
+    ∙ body-entries (c .before .before .before .before .before .before .args .sheet .now) (c .before .before .settings .given .0 .0) (seen c)
 
 inspect-requires : tie.Need-inspect-requires
 inspect-requires c κs = search needs
@@ -33,15 +41,8 @@ enum-known-r c = search needs
 enum-known-settings : tie.Need-enum-known-settings
 enum-known-settings c = search needs
 
-entry-count-requires : tie.Need-entry-count-requires
-entry-count-requires c κs = search needs
-
 check-entries-requires : tie.Need-check-entries-requires
-check-entries-requires c κs =
-    let settings = c .before .before .settings in
-    let i = seen c in
-    let e : c .entry-count .result ≡ entryCount (settings .given .0 .0) = c .entry-count .ensures in
-    (i .long ∙ ap (λ (k : ℕ). 8 + 5 * k) (sym e), rw e (i .few))
+check-entries-requires c κs = search needs
 
 enum-known-r-2 : tie.Need-enum-known-r-2
 enum-known-r-2 c = search needs
@@ -59,25 +60,17 @@ returns c =
 
 returns-2 : tie.Need-returns-2
 returns-2 c =
-    let a = c .before .before .before .before .before .before .before .before .before .before .args in
-    let entry-count = c .before .before .before .before .entry-count in
-    let check-entries = c .before .before .before .check-entries in
-    entries-refused (a .sheet .now) (seen (c .before .before .before .before) .passes) (entry-count .result)
-    (entry-count .ensures ∙ ap entryCount (sym (seen (c .before .before .before .before) .settings)))
-    (c .before .r2 .given .0 .0)
-    (sym (check-entries .ensures) ∙ ap rowOf (c .before .r2 .given .1))
+    let a = c .before .before .before .before .before .before .before .before .before .args in
+    entries-refused (a .sheet .now) (seen (c .before .before .before) .passes) (c .before .r2 .given .0 .0)
+    (sym (checked (c .before .before .before)) ∙ ap rowOf (c .before .r2 .given .1))
 
 returns-3 : tie.Need-returns-3
 returns-3 c =
-    let a = c .before .before .before .before .before .before .before .before .before .args in
-    let entry-count = c .before .before .before .entry-count in
-    let settings = c .before .before .before .before .before .settings in
-    let check-entries = c .before .before .check-entries in
-    validation-passes (a .sheet .now) (seen (c .before .before .before) .passes) (entry-count .result)
-    (entry-count .ensures ∙ ap entryCount (sym (seen (c .before .before .before) .settings)))
-    (settings .given .0 .0)
-    (sym (seen (c .before .before .before) .settings))
-    (sym (check-entries .ensures) ∙ ap rowOf (c .enum-told .given .1))
+    let a = c .before .before .before .before .before .before .before .before .args in
+    let settings = c .before .before .before .before .settings in
+    validation-passes (a .sheet .now) (seen (c .before .before) .passes) (settings .given .0 .0)
+    (sym (seen (c .before .before) .settings))
+    (sym (checked (c .before .before)) ∙ ap rowOf (c .enum-told .given .1))
 
 pub validate-spec : {M : Type 1} → statement M
 validate-spec =
@@ -86,7 +79,6 @@ validate-spec =
     inspect-requires
     enum-known-r
     enum-known-settings
-    entry-count-requires
     check-entries-requires
     enum-known-r-2
     enum-told

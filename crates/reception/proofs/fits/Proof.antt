@@ -5,7 +5,7 @@ use mathlib.Core.Path.{ap}
 use native.Mathlib.Omega.{arith}
 use Prim.Native.Nat.{ℕ, _+_, _*_, _≤_}
 use lib.Dec.{leb, ltb, eqb}
-use Rattle.rows.proofs.Parts.{entries-most}
+use Rattle.inspection.proofs.Body.{entries-most}
 use Rattle.reception.specs.Standing.{fitting}
 use borrow.Author.Needs.{needs}
 use Rattle.reception.proofs.fits.Statement.{statement}

@@ -5,7 +5,7 @@ use mathlib.Core.Path.{_≡_, refl, sym, ap, _∙_}
 use native.Mathlib.Omega.{arith}
 use Prim.Native.Nat.{ℕ, _+_, _*_, _-_, _≤_}
 use lib.ListN.{length, take, drop}
-use Rattle.reception.proofs.Sheets.{Fit, fit, entries-relayed, entries-direct, marks-long, direct-cut, relayed-received}
+use Rattle.reception.proofs.Sheets.{Fit, fit, entries-relayed, entries-direct, marks-long, row-long, direct-cut, relayed-received}
 use borrow.Author.Needs.{needs}
 use Rattle.reception.proofs.receive.Statement.{statement}
 use Rattle.reception.proofs.receive.Tie as tie
@@ -66,10 +66,11 @@ part-receive-direct-end-2 c = let f = fit-here (c .before .before .before) in le
 
 receive-direct-requires : tie.Need-receive-direct-requires
 receive-direct-requires c κs =
+    let a = c .before .before .before .before .before .before .before .before .before .before .args in
     let f = fit-here (c .before .before .before .before .before) in
-    let e = entries-direct (c .before .before .before .before .before .before .before .before .before .before .args .settings) (ne-eqb (c .before .before .before .before .before .before .before .before .before .before .args .settings .rule) 1 (c .before .before .before .if2 .left)) in
-    let l = marks-long (c .before .before .before .before .before .before .before .before .before .before .args .sheet .now) (c .before .before .before .before .before .before .before .before .before .before .args .settings .n) (omega (arith, f .long)) in
-    (omega (arith, f .room), omega (arith, f .small))
+    let e = entries-direct (a .settings) (ne-eqb (a .settings .rule) 1 (c .before .before .before .if2 .left)) in
+    let l = marks-long (a .sheet .now) (a .settings .n) (omega (arith, f .long)) in
+    (omega (arith, f .room), omega (arith, f .small), row-long (a .sheet .now) (a .settings .n) (omega (arith, f .long)))
 
 same-length : tie.Need-same-length
 same-length c = search needs

@@ -5,12 +5,13 @@ use borrow.Author.Needs.{needs}
 use mathlib.Core.Bool.{cond}
 use mathlib.Core.Path.{_≡_, refl, sym, ap, _∙_}
 use native.Mathlib.Omega.{arith}
-use Prim.Native.Nat.{ℕ, _-_, _≤_}
+use Prim.Native.Nat.{ℕ, _*_, _-_, _≤_}
 use lib.Dec.{eqb}
 use lib.ListN.{length, getD, length-set}
 use mir.Syntax.{w32}
 use mir.Val.{toZ}
 use Rattle.model.specs.Ensemble.{missing, present}
+use Rattle.model.specs.RoundSheet.{word}
 use Rattle.decisions.specs.Rows.{copyAt}
 use Rattle.reception.specs.Standing.{Stands}
 use Rattle.reception.proofs.Standing.{stands-none, stands-next, stands-ended}
@@ -23,17 +24,45 @@ Inv-readings marks row values₀ t₀ values t = (t ≤ length marks) × Stands 
 abbrev μ-readings : tie.MeasureT-readings
 μ-readings marks row values₀ t₀ values t = length marks - t
 
+-- the four bytes read are the copy's number
+read :
+    (c : tie.After-join Inv-readings μ-readings)
+    → c .join .result ≡ word (c .before .before .before .before .before .before .before .before .before .before .args .row .now) (4 * c .before .before .before .before .before .before .readings .t)
+unfolding word
+read c = c .join .ensures
+
 readings-holds : tie.Need-readings-holds Inv-readings μ-readings
 readings-holds c = (search needs, stands-none (copyAt (c .before .before .before .args .marks .now) (c .before .before .before .args .row .now)) (c .before .before .before .args .values .now), refl)
 
+mul-at : tie.Need-mul-at Inv-readings μ-readings
+mul-at c = search needs
+
+shared-slice-read-join : tie.Need-shared-slice-read-join Inv-readings μ-readings
+shared-slice-read-join c = search needs
+
+add-join : tie.Need-add-join Inv-readings μ-readings
+add-join c = search needs
+
+shared-slice-read-join-2 : tie.Need-shared-slice-read-join-2 Inv-readings μ-readings
+shared-slice-read-join-2 c = search needs
+
+add-join-2 : tie.Need-add-join-2 Inv-readings μ-readings
+add-join-2 c = search needs
+
+shared-slice-read-join-3 : tie.Need-shared-slice-read-join-3 Inv-readings μ-readings
+shared-slice-read-join-3 c = search needs
+
+add-join-3 : tie.Need-add-join-3 Inv-readings μ-readings
+add-join-3 c = search needs
+
+shared-slice-read-join-4 : tie.Need-shared-slice-read-join-4 Inv-readings μ-readings
+shared-slice-read-join-4 c = search needs
+
+join-requires : tie.Need-join-requires Inv-readings μ-readings
+join-requires c κs = search needs
+
 shared-slice-read-entry-value : tie.Need-shared-slice-read-entry-value Inv-readings μ-readings
 shared-slice-read-entry-value c = search needs
-
-mul-word-at : tie.Need-mul-word-at Inv-readings μ-readings
-mul-word-at c = search needs
-
-word-at-requires : tie.Need-word-at-requires Inv-readings μ-readings
-word-at-requires c κs = search needs
 
 entry-value-requires : tie.Need-entry-value-requires Inv-readings μ-readings
 entry-value-requires c κs = search needs
@@ -51,14 +80,16 @@ readings-less : tie.Need-readings-less Inv-readings μ-readings
 readings-less c = search needs
 
 readings-again : tie.Need-readings-again Inv-readings μ-readings
-readings-again c = (
-  search needs,
-  stands-next (copyAt (c .before .before .before .before .before .before .before .before .args .marks .now) (c .before .before .before .before .before .before .before .before .args .row .now)) (c .before .before .before .before .readings .values) (c .before .before .before .before .readings .t) (c .entry-value .result)
-      (c .before .before .before .before .readings .inv .1)
-      (omega (arith, c .before .before .before .readings-test .taken, c .before .before .before .before .before .before .before .before .pre .0, c .before .before .before .before .readings .inv .2))
-      (ap (λ (bits : ℕ). cond (eqb (getD (c .before .before .before .before .before .before .before .before .args .marks .now) (c .before .before .before .before .readings .t) 0) 1) (present (toZ w32 bits)) missing) (sym (c .before .word-at .ensures)) ∙ c .entry-value .ensures),
-  length-set (c .before .before .before .before .readings .values) (c .before .before .before .before .readings .t) (c .entry-value .result) ∙ c .before .before .before .before .readings .inv .2,
-)
+readings-again c =
+    let a = c .before .before .before .before .before .before .before .before .before .before .before .before .args in
+    let readings = c .before .before .before .before .before .before .before .before .readings in (
+      search needs,
+      stands-next (copyAt (a .marks .now) (a .row .now)) (readings .values) (readings .t) (c .entry-value .result)
+          (readings .inv .1)
+          (omega (arith, c .before .before .before .before .before .before .before .readings-test .taken, c .before .before .before .before .before .before .before .before .before .before .before .before .pre .0, readings .inv .2))
+          (ap (λ (bits : ℕ). cond (eqb (getD (a .marks .now) (readings .t) 0) 1) (present (toZ w32 bits)) missing) (sym (read (c .before .before))) ∙ c .entry-value .ensures),
+      length-set (readings .values) (readings .t) (c .entry-value .result) ∙ readings .inv .2,
+    )
 
 same-length : tie.Need-same-length Inv-readings μ-readings
 same-length c = search needs
@@ -77,9 +108,16 @@ receive-direct-spec =
     Inv-readings
     μ-readings
     readings-holds
+    mul-at
+    shared-slice-read-join
+    add-join
+    shared-slice-read-join-2
+    add-join-2
+    shared-slice-read-join-3
+    add-join-3
+    shared-slice-read-join-4
+    join-requires
     shared-slice-read-entry-value
-    mul-word-at
-    word-at-requires
     entry-value-requires
     mul-values
     slice-write-values

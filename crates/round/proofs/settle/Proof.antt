@@ -1,11 +1,22 @@
 -- `round::settle` meets its contract: at each answer the inspections that led there say which row refuses first, or that only row 10 is left.
 -- Assumes nothing.
-use mathlib.Core.Path.{sym, ap, _∙_}
+use mathlib.Core.Path.{_≡_, sym, ap, _∙_}
+use Rattle.model.specs.RoundSheet.{settingsAt}
+use Rattle.model.specs.Refusals.{firstOf, sheetChecks}
+use Rattle.model.specs.Calls.{granted, verdict}
+use Rattle.ensemble.specs.Answers.{rowOf}
 use Rattle.inspection.specs.Answers.{openedAs}
 use Rattle.round.proofs.Checking.{inspection-refuses, opened-passes, opened-settings, room-refuses, entries-refuse, passes-settle}
 use borrow.Author.Needs.{needs}
 use Rattle.round.proofs.settle.Statement.{statement}
 use Rattle.round.proofs.settle.Tie as tie
+
+-- what `inspect` granted
+opened :
+    (c : tie.After-settings)
+    → granted (c .settings .given .0 .0)
+    ≡ verdict (firstOf (sheetChecks (c .before .before .before .before .before .args .sheet .now))) (settingsAt (c .before .before .before .before .before .args .sheet .now))
+opened c = sym (ap openedAs (c .settings .given .1)) ∙ c .before .before .inspect .ensures
 
 inspect-requires : tie.Need-inspect-requires
 inspect-requires c κs = search needs
@@ -26,10 +37,12 @@ add-size : tie.Need-add-size
 add-size c = search needs
 
 returns : tie.Need-returns
-returns c = room-refuses (c .before .before .before .before .before .before .before .before .args .sheet .now) (c .before .before .before .before .before .before .before .before .args .answer .now) (c .before .before .before .settings .given .0 .0) (sym (ap openedAs (c .before .before .before .settings .given .1)) ∙ c .before .before .before .before .before .inspect .ensures) (c .if1 .taken)
+returns c =
+    room-refuses (c .before .before .before .before .before .before .before .before .args .sheet .now) (c .before .before .before .before .before .before .before .before .args .answer .now) (c .before .before .before .settings .given .0 .0) (opened (c .before .before .before))
+    (c .if1 .taken)
 
-validate-requires : tie.Need-validate-requires
-validate-requires c κs = search needs
+check-entries-requires : tie.Need-check-entries-requires
+check-entries-requires c κs = search needs
 
 enum-known-r-2 : tie.Need-enum-known-r-2
 enum-known-r-2 c = search needs
@@ -38,13 +51,22 @@ enum-told : tie.Need-enum-told
 enum-told c = search needs
 
 settle-valid-requires : tie.Need-settle-valid-requires
-settle-valid-requires c κs = (opened-passes (c .before .before .before .before .before .before .before .before .before .before .before .before .args .sheet .now) (c .before .before .before .before .before .before .before .before .before .before .before .before .args .answer .now) (c .before .before .before .before .before .before .before .settings .given .0 .0) (sym (ap openedAs (c .before .before .before .before .before .before .before .settings .given .1)) ∙ c .before .before .before .before .before .before .before .before .before .inspect .ensures), opened-settings (c .before .before .before .before .before .before .before .before .before .before .before .before .args .sheet .now) (c .before .before .before .before .before .before .before .before .before .before .before .before .args .answer .now) (c .before .before .before .before .before .before .before .settings .given .0 .0) (sym (ap openedAs (c .before .before .before .before .before .before .before .settings .given .1)) ∙ c .before .before .before .before .before .before .before .before .before .inspect .ensures), c .before .before .before .before .if1 .left)
+settle-valid-requires c κs = (
+  opened-passes (c .before .before .before .before .before .before .before .before .before .before .before .before .args .sheet .now) (c .before .before .before .before .before .before .before .before .before .before .before .before .args .answer .now) (c .before .before .before .before .before .before .before .settings .given .0 .0) (opened (c .before .before .before .before .before .before .before)),
+  opened-settings (c .before .before .before .before .before .before .before .before .before .before .before .before .args .sheet .now) (c .before .before .before .before .before .before .before .before .before .before .before .before .args .answer .now) (c .before .before .before .before .before .before .before .settings .given .0 .0) (opened (c .before .before .before .before .before .before .before)),
+  c .before .before .before .before .if1 .left,
+)
 
 returns-2 : tie.Need-returns-2
-returns-2 c = inspection-refuses (c .before .before .before .before .before .before .args .sheet .now) (c .before .before .before .before .before .before .args .answer .now) (c .before .r .given .0 .0) (sym (ap openedAs (c .before .r .given .1)) ∙ c .before .before .before .inspect .ensures)
+returns-2 c =
+    inspection-refuses (c .before .before .before .before .before .before .args .sheet .now) (c .before .before .before .before .before .before .args .answer .now) (c .before .r .given .0 .0)
+    (sym (ap openedAs (c .before .r .given .1)) ∙ c .before .before .before .inspect .ensures)
 
 returns-3 : tie.Need-returns-3
-returns-3 c = entries-refuse (c .before .before .before .before .before .before .before .before .before .before .before .before .args .sheet .now) (c .before .before .before .before .before .before .before .before .before .before .before .before .args .answer .now) (c .before .before .before .before .before .before .before .settings .given .0 .0) (sym (ap openedAs (c .before .before .before .before .before .before .before .settings .given .1)) ∙ c .before .before .before .before .before .before .before .before .before .inspect .ensures) (c .before .before .before .before .if1 .left) (c .before .r2 .given .0 .0) (sym (ap openedAs (c .before .r2 .given .1)) ∙ c .before .before .before .validate .ensures)
+returns-3 c =
+    entries-refuse (c .before .before .before .before .before .before .before .before .before .before .before .before .args .sheet .now) (c .before .before .before .before .before .before .before .before .before .before .before .before .args .answer .now) (c .before .before .before .before .before .before .before .settings .given .0 .0) (opened (c .before .before .before .before .before .before .before))
+    (c .before .before .before .before .if1 .left) (c .before .r2 .given .0 .0)
+    (sym (ap rowOf (c .before .r2 .given .1)) ∙ c .before .before .before .check-entries .ensures)
 
 same-length : tie.Need-same-length
 same-length c = search needs
@@ -52,7 +74,9 @@ same-length c = search needs
 returns-4 : tie.Need-returns-4
 returns-4 c =
     c .before .before .settle-valid .ensures
-    ∙ passes-settle (c .before .before .before .before .before .before .before .before .before .before .before .before .before .before .before .args .sheet .now) (c .before .before .before .before .before .before .before .before .before .before .before .before .before .before .before .args .answer .now) (c .before .before .before .before .before .before .before .before .before .before .settings .given .0 .0) (sym (ap openedAs (c .before .before .before .before .before .before .before .before .before .before .settings .given .1)) ∙ c .before .before .before .before .before .before .before .before .before .before .before .before .inspect .ensures) (c .before .before .before .before .before .before .before .if1 .left) (c .before .before .before .before .enum-told .given .0 .0) (sym (ap openedAs (c .before .before .before .before .enum-told .given .1)) ∙ c .before .before .before .before .before .before .validate .ensures)
+    ∙ passes-settle (c .before .before .before .before .before .before .before .before .before .before .before .before .before .before .before .args .sheet .now) (c .before .before .before .before .before .before .before .before .before .before .before .before .before .before .before .args .answer .now) (c .before .before .before .before .before .before .before .before .before .before .settings .given .0 .0) (opened (c .before .before .before .before .before .before .before .before .before .before))
+    (c .before .before .before .before .before .before .before .if1 .left)
+    (sym (ap rowOf (c .before .before .before .before .enum-told .given .1)) ∙ c .before .before .before .before .before .before .check-entries .ensures)
 
 pub settle-spec : {M : Type 1} → statement M
 settle-spec =
@@ -65,7 +89,7 @@ settle-spec =
     mul-size
     add-size
     returns
-    validate-requires
+    check-entries-requires
     enum-known-r-2
     enum-told
     settle-valid-requires

@@ -7,7 +7,8 @@ use mathlib.Core.List.{List}
 use native.Mathlib.Omega.{arith}
 use Prim.Native.Nat.{ℕ, _+_, _*_, _-_, _≤_}
 use lib.ListN.{take, drop}
-use Rattle.rows.proofs.Parts.{entries-most, row-entries-most, row-most, past-last, past-end, row-lies}
+use Rattle.inspection.proofs.Body.{entries-most}
+use Rattle.rows.proofs.Parts.{row-entries-most, row-most, past-last, past-end, row-lies}
 use Rattle.rows.proofs.row_part.Statement.{statement}
 use Rattle.rows.proofs.row_part.Tie as tie
 

@@ -1,13 +1,15 @@
--- `sheet::open` meets its contract: what `inspect` and `validate` answer, and the lengths, say which of checks 1 to 9 refuses first.
+-- `sheet::open` meets its contract: what `inspect` and `check_entries` answer, and the lengths, say which of checks 1 to 9 refuses first.
 -- Assumes nothing.
 use borrow.Author.Needs.{needs}
-use mathlib.Core.Path.{sym, ap, _∙_}
+use mathlib.Core.Path.{_≡_, sym, ap, _∙_}
+use Rattle.ensemble.specs.Answers.{rowOf}
 use Rattle.model.specs.RoundSheet.{settingsAt}
-use Rattle.model.specs.Refusals.{firstOf, sheetChecks}
+use Rattle.model.specs.Refusals.{firstOf, sheetChecks, entryChecks}
 use Rattle.inspection.specs.Answers.{openedAs}
+use Rattle.inspection.proofs.Body.{body-entries}
 use Rattle.sheets.proofs.Outcomes.{refused-some}
 use Rattle.sheets.proofs.Inspection.{Inspected, inspected}
-use Rattle.sheets.proofs.Opening.{opening-refused, short-marks, short-readings, opening-validated}
+use Rattle.sheets.proofs.Opening.{opening-refused, short-marks, short-readings, opening-entries-refused, opening-passes}
 use Rattle.sheet.proofs.open.Statement.{statement}
 use Rattle.sheet.proofs.open.Tie as tie
 
@@ -22,6 +24,16 @@ seen c =
     let inspect = c .before .before .before .before .inspect in
     inspected (a .sheet .now) (settings .given .0 .0)
     (sym (inspect .ensures) ∙ ap openedAs (settings .given .1))
+
+-- what `check_entries` answered, of the sheet's own entries
+checked :
+    (c : tie.After-check-entries)
+    → rowOf (c .check-entries .result)
+    ≡ firstOf (entryChecks (c .before .before .before .before .before .before .before .before .before .args .sheet .now))
+checked c =
+    c .check-entries .ensures
+    ∙ body-entries (c .before .before .before .before .before .before .before .before .before .args .sheet .now)
+    (c .before .before .before .before .before .settings .given .0 .0) (seen (c .before .before .before))
 
 inspect-requires : tie.Need-inspect-requires
 inspect-requires c κs = search needs
@@ -50,8 +62,14 @@ returns-2 c =
     short-readings (a .sheet .now) (a .marks) (a .readings) (settings .given .0 .0) (seen (c .before .before))
     (entry-count .result) (entry-count .ensures) (c .before .if1 .left) (c .if2 .taken)
 
-validate-requires : tie.Need-validate-requires
-validate-requires c κs = search needs
+check-entries-requires : tie.Need-check-entries-requires
+check-entries-requires c κs = search needs
+
+enum-known-r-2 : tie.Need-enum-known-r-2
+enum-known-r-2 c = search needs
+
+enum-told : tie.Need-enum-told
+enum-told c = search needs
 
 returns-3 : tie.Need-returns-3
 returns-3 c =
@@ -63,14 +81,24 @@ returns-3 c =
 
 returns-4 : tie.Need-returns-4
 returns-4 c =
-    let a = c .before .before .before .before .before .before .before .before .before .args in
-    let settings = c .before .before .before .before .before .settings in
-    let entry-count = c .before .before .before .entry-count in
-    let if1 = c .before .before .if1 in
-    c .validate .ensures
-    ∙ opening-validated (a .sheet .now) (a .marks) (a .readings) (settings .given .0 .0)
-    (seen (c .before .before .before))
-    (entry-count .result) (entry-count .ensures) (if1 .left) (c .before .if2 .left)
+    let a = c .before .before .before .before .before .before .before .before .before .before .before .before .args in
+    let settings = c .before .before .before .before .before .before .before .before .settings in
+    let entry-count = c .before .before .before .before .before .before .entry-count in
+    opening-entries-refused (a .sheet .now) (a .marks) (a .readings) (settings .given .0 .0)
+    (seen (c .before .before .before .before .before .before))
+    (entry-count .result) (entry-count .ensures) (c .before .before .before .before .before .if1 .left) (c .before .before .before .before .if2 .left)
+    (c .before .r2 .given .0 .0)
+    (sym (checked (c .before .before .before)) ∙ ap rowOf (c .before .r2 .given .1))
+
+returns-5 : tie.Need-returns-5
+returns-5 c =
+    let a = c .before .before .before .before .before .before .before .before .before .before .before .args in
+    let settings = c .before .before .before .before .before .before .before .settings in
+    let entry-count = c .before .before .before .before .before .entry-count in
+    opening-passes (a .sheet .now) (a .marks) (a .readings) (settings .given .0 .0)
+    (seen (c .before .before .before .before .before))
+    (entry-count .result) (entry-count .ensures) (c .before .before .before .before .if1 .left) (c .before .before .before .if2 .left)
+    (sym (checked (c .before .before)) ∙ ap rowOf (c .enum-told .given .1))
 
 pub open-spec : {M : Type 1} → statement M
 open-spec =
@@ -82,6 +110,9 @@ open-spec =
     entry-count-requires
     returns
     returns-2
-    validate-requires
+    check-entries-requires
+    enum-known-r-2
+    enum-told
     returns-3
-    returns-4)
+    returns-4
+    returns-5)

@@ -7,7 +7,7 @@ use mathlib.Core.Option.{Option, none, some}
 use mathlib.Core.Path.{_≡_, refl, sym, ap, ap₂, _∙_}
 use Prim.Native.Nat.{ℕ, _+_, _/_, _≤_, _<_}
 use native.Mathlib.Omega.{arith}
-use borrow.Author.Tests.{le-ltb, lt-ltb}
+use borrow.Author.Tests.{le-ltb, lt-ltb, eq-eqb, ne-eqb}
 use lib.Dec.{leb, ltb, eqb}
 use lib.ListN.{length, getD, replicate, getD-replicate}
 use Rattle.arithmetic.specs.Counting.{count, lowest}
@@ -22,7 +22,7 @@ use Rattle.estimates.specs.Values.{valueAt, presentAt, usedAt, newValueOf, eval
 use Rattle.estimates.specs.Values.{estimateOf as estimateOfPresent}
 use Rattle.estimates.specs.declared.Estimated.{Estimated}
 use Rattle.agreement.specs.Values.{acceptedAt, Remembered, keptValue, keptAt, keptOf, countOf, estimateOf, valueOf, agreedOf}
-use Rattle.agreement.proofs.Kept.{marked, struck, struck-kept}
+use Rattle.agreement.proofs.Kept.{struck, struck-kept}
 
 -- two conjunctions are equal where their first parts are, and the second where the first passes
 and-ext : {a b c d : Bool} → a ≡ b → (a ≡ true → c ≡ d) → (a && c) ≡ (b && d)
@@ -139,20 +139,29 @@ module _ (w need : ℕ) (s : List ℕ) where
   unfolding keptOf
   kept-many h = rw (lt-ltb 64 (length s) h)
 
-  -- the lists as the calls left them
-  module _ (few : length s ≤ 64) (marks₀ marks values : List ℕ) (room : length s ≤ length marks₀) (marked-as : marks ≡ overwrite (table (marked w need s marks₀) (length s)) marks₀) (struck-as : values ≡ table (struck marks s) (length s)) where
-    kept-as : values ≡ kept
-    kept-as =
-        struck-as
-        ∙ ap (λ (m : List ℕ). table (struck m s) (length s)) marked-as
-        ∙ struck-kept w need s marks₀ room
+  module _ (few : length s ≤ 64) (n : ℕ) (counted : n ≡ countOf w need s) where
+    pub agreed-none : (kind : ℕ) → n ≡ 0 → nothing ≡ agreedOf w need kind s
+    unfolding agreedOf
+    agreed-none kind e = rw (le-ltb 64 (length s) few, eq-eqb (countOf w need s) 0 (sym counted ∙ e))
 
-    pub kept-few : values ≡ keptOf w need s
+    pub kept-none : n ≡ 0 → s ≡ keptOf w need s
     unfolding keptOf
-    kept-few = kept-as ∙ rw (le-ltb 64 (length s) few)
+    kept-none e = rw (le-ltb 64 (length s) few, eq-eqb (countOf w need s) 0 (sym counted ∙ e))
 
-    pub agreed-few : (kind : ℕ) (a : Estimated) → a ≡ evaluatedOf kind values → a ≡ agreedOf w need kind s
-    agreed-few kind a e = e ∙ ap (evaluatedOf kind) kept-as ∙ evaluated-kept kind few
+    -- the lists as the calls left them
+    module _ (some : n ≡ 0 → ⊥) (flags₀ flags : List Bool) (values : List ℕ) (tested : flags ≡ overwrite (table (acceptedAt w need s) (length s)) flags₀) (struck-as : values ≡ table (struck flags s) (length s)) where
+      kept-as : values ≡ kept
+      kept-as =
+          struck-as
+          ∙ ap (λ (f : List Bool). table (struck f s) (length s)) tested
+          ∙ struck-kept w need s flags₀
+
+      pub kept-some : values ≡ keptOf w need s
+      unfolding keptOf
+      kept-some = kept-as ∙ rw (le-ltb 64 (length s) few, ne-eqb (countOf w need s) 0 (λ z. some (counted ∙ z)))
+
+      pub agreed-some : (kind : ℕ) (a : Estimated) → a ≡ evaluatedOf kind values → a ≡ agreedOf w need kind s
+      agreed-some kind a e = e ∙ ap (evaluatedOf kind) kept-as ∙ evaluated-kept kind few
 
 -- nothing is remembered of any start
 pub remember-none : (w need : ℕ) (s : List ℕ) → length s ≤ 64 → Remembered w need s (replicate 64 0)

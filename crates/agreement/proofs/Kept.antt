@@ -1,60 +1,79 @@
--- The accepted readings marked one after the other, and the others struck out in their place.
+-- The readings tested one after the other, and those that are not accepted struck out in their place.
 -- Assumes nothing.
-use mathlib.Core.Bool.{Bool, true, false}
+use mathlib.Core.Bool.{Bool, false}
 use mathlib.Core.List.{List}
-use mathlib.Core.Path.{_≡_, refl, sym, ap, _∙_}
+use mathlib.Core.Path.{_≡_, refl, sym, ap, ap₂, _∙_}
 use Prim.Native.Nat.{ℕ, _+_, _≤_, _<_, zero-le}
 use native.Mathlib.Nat.{add-zero}
 use native.Mathlib.Omega.{arith}
-use lib.Dec.{eqb}
 use lib.ListN.{length, getD, set, drop}
 use lib.Seq.{getD-append-add, getD-drop}
 use mir.Val.{boolByte}
-use Rattle.arithmetic.specs.Counting.{bit}
+use Rattle.arithmetic.specs.Counting.{bit, count}
 use Rattle.arithmetic.specs.Writing.{table, overwrite}
+use Rattle.arithmetic.proofs.Counting.{count-le}
 use Rattle.arithmetic.proofs.Writing.{length-table, length-overwrite, getD-table, getD-overwrite, overwrite-whole, table-ext}
-use Rattle.agreement.specs.Values.{acceptedAt, keptValue, keptAt, Remembered}
-use Rattle.loops.proofs.Loops.{flag, store-none, store-next, store-ended}
+use Rattle.agreement.specs.Values.{acceptedAt, keptValue, keptAt, countOf, Remembered}
+use Rattle.loops.proofs.Loops.{flag, count-next, store-none, store-next, store-ended}
 
-module _ (w need : ℕ) (values marks₀ : List ℕ) where
-  -- the mark of a reading
-  abbrev pub marked : ℕ → ℕ
-  marked r = bit (acceptedAt w need values r)
-
-  -- where the readings below r are marked
-  pub record Marking (known marks : List ℕ) (r : ℕ) : Type 0 where
+module _ (w need : ℕ) (values : List ℕ) (flags₀ : List Bool) where
+  -- where the readings below r are tested
+  pub record Testing (known : List ℕ) (flags : List Bool) (counted r : ℕ) : Type 0 where
     pub upTo : r ≤ length values
     pub few : length values ≤ 64
     pub long : length known ≡ 64
-    pub room : length values ≤ length marks₀
+    pub room : length values ≤ length flags₀
     pub memory : Remembered w need values known
-    pub written : marks ≡ overwrite (table marked r) marks₀
+    pub exact : counted ≡ count (acceptedAt w need values) r
+    pub written : flags ≡ overwrite (table (acceptedAt w need values) r) flags₀
 
-  pub mark-none : (known : List ℕ) → length values ≤ 64 → length known ≡ 64 → length values ≤ length marks₀ → Remembered w need values known → Marking known marks₀ 0
-  mark-none known f l s m =
-      record { upTo = zero-le; few = f; long = l; room = s; memory = m; written = store-none marked marks₀ }
+  pub test-none : (known : List ℕ) → length values ≤ 64 → length known ≡ 64 → length values ≤ length flags₀ → Remembered w need values known → Testing known flags₀ 0 0
+  unfolding count
+  test-none known f l s m =
+      record {
+        upTo = zero-le;
+        few = f;
+        long = l;
+        room = s;
+        memory = m;
+        exact = refl;
+        written = store-none (acceptedAt w need values) flags₀;
+      }
 
-  module _ (known marks : List ℕ) (r : ℕ) (so-far : Marking known marks r) where
-    pub marks-long : length marks ≡ length marks₀
-    marks-long =
-        let t = length-table marked r in
+  module _ (known : List ℕ) (flags : List Bool) (c r : ℕ) (so-far : Testing known flags c r) where
+    pub flags-long : length flags ≡ length flags₀
+    flags-long =
+        let t = length-table (acceptedAt w need values) r in
         let e = so-far .room in
         let u = so-far .upTo in
-        ap length (so-far .written) ∙ length-overwrite (table marked r) marks₀ (omega arith)
+        ap length (so-far .written) ∙ length-overwrite (table (acceptedAt w need values) r) flags₀ (omega arith)
 
-    pub mark-one : r < length values → (known′ : List ℕ) → length known′ ≡ length known → Remembered w need values known′ → (b : Bool) → b ≡ acceptedAt w need values r → Marking known′ (set marks r (boolByte b)) (r + 1)
-    mark-one h known′ l m b e =
+    pub test-small : c ≤ 64
+    test-small =
+        let l = count-le (acceptedAt w need values) r in
+        let e = so-far .exact in
+        let u = so-far .upTo in
+        let f = so-far .few in
+        omega arith
+
+    pub test-one : r < length values → (known′ : List ℕ) → length known′ ≡ length known → Remembered w need values known′ → (b : Bool) → b ≡ acceptedAt w need values r → Testing known′ (set flags r b) (c + boolByte b) (r + 1)
+    test-one h known′ l m b e =
         record {
           upTo = omega arith;
           few = so-far .few;
           long = l ∙ so-far .long;
           room = so-far .room;
           memory = m;
-          written = store-next marked r marks₀ marks (boolByte b) (so-far .written) (flag b ∙ ap bit e) (omega (arith, so-far .room));
+          exact = ap₂ (λ (x y : ℕ). x + y) (so-far .exact) (flag b ∙ ap bit e) ∙ sym (count-next (acceptedAt w need values) r);
+          written = store-next (acceptedAt w need values) r flags₀ flags b (so-far .written) e (omega (arith, so-far .room));
         }
 
-    pub all-marked : length values ≤ r → marks ≡ overwrite (table marked (length values)) marks₀
-    all-marked h = store-ended marked (length values) r marks₀ marks (so-far .upTo) h (so-far .written)
+    pub all-counted : length values ≤ r → c ≡ countOf w need values
+    unfolding countOf
+    all-counted h = let e : r ≡ length values = omega (arith, so-far .upTo) in rw (← e) (so-far .exact)
+
+    pub all-tested : length values ≤ r → flags ≡ overwrite (table (acceptedAt w need values) (length values)) flags₀
+    all-tested h = store-ended (acceptedAt w need values) (length values) r flags₀ flags (so-far .upTo) h (so-far .written)
 
 -- ---- striking out
 
@@ -68,17 +87,17 @@ getD-behind f r old =
     ∙ getD-drop (length (table f r)) old 0 0
     ∙ ap (λ (k : ℕ). getD old k 0) (add-zero (length (table f r)) ∙ long)
 
-module _ (marks values₀ : List ℕ) where
+module _ (flags : List Bool) (values₀ : List ℕ) where
   abbrev pub struck : ℕ → ℕ
-  struck r = keptValue (eqb (getD marks r 0) 1) (getD values₀ r 0)
+  struck r = keptValue (getD flags r false) (getD values₀ r 0)
 
   -- where the readings below r are struck out
   pub record Striking (values : List ℕ) (r : ℕ) : Type 0 where
     pub upTo : r ≤ length values₀
-    pub room : length values₀ ≤ length marks
+    pub room : length values₀ ≤ length flags
     pub written : values ≡ overwrite (table struck r) values₀
 
-  pub strike-none : length values₀ ≤ length marks → Striking values₀ 0
+  pub strike-none : length values₀ ≤ length flags → Striking values₀ 0
   strike-none s = record { upTo = zero-le; room = s; written = store-none struck values₀ }
 
   module _ (values : List ℕ) (r : ℕ) (so-far : Striking values r) where
@@ -88,7 +107,7 @@ module _ (marks values₀ : List ℕ) where
         let u = so-far .upTo in
         ap length (so-far .written) ∙ length-overwrite (table struck r) values₀ (omega arith)
 
-    pub strike-one : r < length values → (x : ℕ) → x ≡ keptValue (eqb (getD marks r 0) 1) (getD values r 0) → Striking (set values r x) (r + 1)
+    pub strike-one : r < length values → (x : ℕ) → x ≡ keptValue (getD flags r false) (getD values r 0) → Striking (set values r x) (r + 1)
     strike-one h x e =
         let long = values-long in
         record {
@@ -96,7 +115,7 @@ module _ (marks values₀ : List ℕ) where
           room = so-far .room;
           written =
               store-next struck r values₀ values x (so-far .written)
-              (e ∙ ap (λ (v : ℕ). keptValue (eqb (getD marks r 0) 1) v) (ap (λ (l : List ℕ). getD l r 0) (so-far .written) ∙ getD-behind struck r values₀))
+              (e ∙ ap (λ (v : ℕ). keptValue (getD flags r false) v) (ap (λ (l : List ℕ). getD l r 0) (so-far .written) ∙ getD-behind struck r values₀))
               (omega arith);
         }
 
@@ -107,17 +126,13 @@ module _ (marks values₀ : List ℕ) where
         store-ended struck (length values₀) r values₀ values (so-far .upTo) (omega arith) (so-far .written)
         ∙ overwrite-whole (table struck (length values₀)) values₀ (omega arith)
 
--- the readings struck out by the marks of acceptance
-pub struck-kept : (w need : ℕ) (s marks₀ : List ℕ) → length s ≤ length marks₀ → table (struck (overwrite (table (marked w need s marks₀) (length s)) marks₀) s) (length s) ≡ table (keptAt w need s) (length s)
-struck-kept w need s marks₀ room =
-    table-ext (struck (overwrite (table (marked w need s marks₀) (length s)) marks₀) s) (keptAt w need s) (length s)
-    (λ r l. ap (λ (b : Bool). keptValue b (getD s r 0)) (ap (λ (k : ℕ). eqb k 1) (at r l) ∙ one (acceptedAt w need s r)))
+-- the readings struck out by the flags of acceptance
+pub struck-kept : (w need : ℕ) (s : List ℕ) (flags₀ : List Bool) → table (struck (overwrite (table (acceptedAt w need s) (length s)) flags₀) s) (length s) ≡ table (keptAt w need s) (length s)
+struck-kept w need s flags₀ =
+    table-ext (struck (overwrite (table (acceptedAt w need s) (length s)) flags₀) s) (keptAt w need s) (length s)
+    (λ r l. ap (λ (b : Bool). keptValue b (getD s r 0)) (at r l))
   where
-    one : (b : Bool) → eqb (bit b) 1 ≡ b
-    one true = refl
-    one false = refl
-
-    at : (r : ℕ) → r < length s → getD (overwrite (table (marked w need s marks₀) (length s)) marks₀) r 0 ≡ bit (acceptedAt w need s r)
+    at : (r : ℕ) → r < length s → getD (overwrite (table (acceptedAt w need s) (length s)) flags₀) r false ≡ acceptedAt w need s r
     at r l =
-        getD-overwrite (table (marked w need s marks₀) (length s)) marks₀ r 0 (rw (length-table (marked w need s marks₀) (length s)) l)
-        ∙ getD-table (marked w need s marks₀) (length s) r 0 l
+        getD-overwrite (table (acceptedAt w need s) (length s)) flags₀ r false (rw (length-table (acceptedAt w need s) (length s)) l)
+        ∙ getD-table (acceptedAt w need s) (length s) r false l

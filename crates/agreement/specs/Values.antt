@@ -41,11 +41,12 @@ keptAt w need s r = keptValue (acceptedAt w need s r) (getD s r 0)
 
 -- ---- agreement, for lists of at most 64 readings
 
-unfoldable pub keptOf : ℕ → ℕ → List ℕ → List ℕ
-keptOf w need s = cond (ltb 64 (length s)) s (table (keptAt w need s) (length s))
-
 unfoldable pub countOf : ℕ → ℕ → List ℕ → ℕ
 countOf w need s = count (acceptedAt w need s) (length s)
+
+-- the list is left as it is where nothing is accepted
+unfoldable pub keptOf : ℕ → ℕ → List ℕ → List ℕ
+keptOf w need s = cond (ltb 64 (length s)) s (cond (eqb (countOf w need s) 0) s (table (keptAt w need s) (length s)))
 
 unfoldable pub estimateOf : ℕ → ℕ → ℕ → List ℕ → ℕ
 estimateOf w need kind s = estimate-nat 2147483648 kind (acceptedAt w need s) (length s) (valueAt s)

@@ -1,6 +1,6 @@
 // The steps of a round on naturals: readings moved up by 2^31; a number from 2^32 on is a missing reading.
 ghost use mathlib.Core.Path.{_≡_};
-ghost use mathlib.Core.Bool.{not, cond, _&&_};
+ghost use mathlib.Core.Bool.{false, not, cond, _&&_};
 ghost use Prim.Native.Nat.{_+_, _-_, _%_, _≤_, _<_, min};
 ghost use lib.Dec.{leb, ltb, eqb};
 ghost use lib.ListN.{length, getD};
@@ -11,7 +11,7 @@ ghost use Rattle.arithmetic.specs.Writing.{table, overwrite};
 ghost use Rattle.arithmetic.proofs.Shift.{down};
 ghost use Rattle.model.specs.Ensemble.{present, missing};
 ghost use Rattle.rounds.proofs.Shifted.{shift, within-nat};
-ghost use Rattle.agreement.specs.Values.{acceptedAt, Remembered, keptValue, keptOf, agreedOf};
+ghost use Rattle.agreement.specs.Values.{acceptedAt, Remembered, keptValue, keptOf, countOf, agreedOf};
 use estimates::Estimated;
 use estimates::LIMIT;
 
@@ -117,24 +117,35 @@ fn accepts(values: &[u64], window: u32, need: u32, known: &mut [u8], r: usize) -
     found
 }
 
-// Marks the accepted readings by 1, the others by 0.
-fn mark_accepted(values: &[u64], window: u32, need: u32, known: &mut [u8], marks: &mut [u8])
-    requires { ⌜ (length (now values) ≤ 64) × (length (now known) ≡ 64) × (length (now values) ≤ length (now marks)) ⌝ }
+// Says of each reading whether it is accepted, and counts the accepted ones.
+fn accept_each(
+    values: &[u64],
+    window: u32,
+    need: u32,
+    known: &mut [u8],
+    accepted: &mut [bool],
+) -> u32
+    requires { ⌜ (length (now values) ≤ 64) × (length (now known) ≡ 64) × (length (now values) ≤ length (now accepted)) ⌝ }
     requires { ⌜ Remembered window need (now values) (now known) ⌝ }
-    ensures { λ _. ⌜ now (marks .exit) ≡ overwrite (table (λ r. bit (acceptedAt window need (now (values .entry)) r)) (length (now (values .entry)))) (now (marks .entry)) ⌝ }
+    ensures { λ n. ⌜ n ≡ countOf window need (now (values .entry)) ⌝ }
+    ensures { λ _. ⌜ now (accepted .exit) ≡ overwrite (table (acceptedAt window need (now (values .entry))) (length (now (values .entry)))) (now (accepted .entry)) ⌝ }
 {
+    let mut count: u32 = 0;
     let mut r = 0;
     'readings: while r < values.len() {
-        marks[r] = accepts(values, window, need, &mut *known, r) as u8;
+        let passes = accepts(values, window, need, &mut *known, r);
+        accepted[r] = passes;
+        count += passes as u32;
         r += 1;
     }
+    count
 }
 
 // What is kept of a reading: an accepted one as it is, else whether it was present.
-fn kept_value(mark: u8, value: u64) -> u64
-    ensures { λ r. ⌜ r ≡ keptValue (eqb mark 1) value ⌝ }
+fn kept_value(accepted: bool, value: u64) -> u64
+    ensures { λ r. ⌜ r ≡ keptValue accepted value ⌝ }
 {
-    if mark == 1 {
+    if accepted {
         value
     } else if value < LIMIT {
         REJECTED
@@ -143,19 +154,20 @@ fn kept_value(mark: u8, value: u64) -> u64
     }
 }
 
-// Strikes out the readings that are not marked.
-fn strike(values: &mut [u64], marks: &[u8])
-    requires { ⌜ length (now values) ≤ length (now marks) ⌝ }
-    ensures { λ _. ⌜ now (values .exit) ≡ table (λ r. keptValue (eqb (getD (now (marks .entry)) r 0) 1) (getD (now (values .entry)) r 0)) (length (now (values .entry))) ⌝ }
+// Strikes out the readings that are not accepted.
+fn strike(values: &mut [u64], accepted: &[bool])
+    requires { ⌜ length (now values) ≤ length (now accepted) ⌝ }
+    ensures { λ _. ⌜ now (values .exit) ≡ table (λ r. keptValue (getD (now (accepted .entry)) r false) (getD (now (values .entry)) r 0)) (length (now (values .entry))) ⌝ }
 {
     let mut r = 0;
     'readings: while r < values.len() {
-        values[r] = kept_value(marks[r], values[r]);
+        values[r] = kept_value(accepted[r], values[r]);
         r += 1;
     }
 }
 
-// The round of at most 64 readings: those that are not accepted are struck out; more readings are left as they are.
+// The round of at most 64 readings: those that are not accepted are struck out. Where none is accepted, or more are given, the list is left
+// as it is.
 pub fn agree(values: &mut [u64], window: u32, need: u32, kind: u8) -> Estimated
     ensures { λ r. ⌜ r ≡ agreedOf window need kind (now (values .entry)) ⌝ }
     ensures { λ _. ⌜ now (values .exit) ≡ keptOf window need (now (values .entry)) ⌝ }
@@ -169,8 +181,15 @@ pub fn agree(values: &mut [u64], window: u32, need: u32, kind: u8) -> Estimated
         };
     }
     let mut known = [UNCOUNTED; 64];
-    let mut marks = [0; 64];
-    mark_accepted(&*values, window, need, &mut known, &mut marks);
-    strike(&mut *values, &marks);
+    let mut accepted = [false; 64];
+    let count = accept_each(&*values, window, need, &mut known, &mut accepted);
+    if count == 0 {
+        return Estimated {
+            count: 0,
+            estimate: 0,
+            value: 0,
+        };
+    }
+    strike(&mut *values, &accepted);
     estimates::evaluate(kind, &*values)
 }

@@ -132,13 +132,6 @@ module _ (s : List ℕ) (pass : firstOf (sheetChecks s) ≡ none) where
     unfolding agreedOf
     agreed-here = h .agrees ∙ rw fit-here
 
-    kept-here : kept ≡ table (keptAt (settingsAt s .window) (quorum (settingsAt s)) values) (length values)
-    unfolding keptOf
-    kept-here = h .keeps ∙ rw fit-here
-
-    kept-long-here : length kept ≡ settingsAt s .n
-    kept-long-here = ap length kept-here ∙ length-table (keptAt (settingsAt s .window) (quorum (settingsAt s)) values) (length values) ∙ long-here
-
     -- where something is counted, the three numbers are those of the round
     agreed-some : (countOf (settingsAt s .window) (quorum (settingsAt s)) values ≡ 0 → ⊥) → a ≡ record { count = countOf (settingsAt s .window) (quorum (settingsAt s)) values; estimate = estimateOf (settingsAt s .window) (quorum (settingsAt s)) (settingsAt s .estimator) values; value = valueOf (settingsAt s .window) (quorum (settingsAt s)) values (estimateOf (settingsAt s .window) (quorum (settingsAt s)) (settingsAt s .estimator) values) }
     agreed-some d = agreed-here ∙ rw (ne-eqb (countOf (settingsAt s .window) (quorum (settingsAt s)) values) 0 d)
@@ -151,6 +144,13 @@ module _ (s : List ℕ) (pass : firstOf (sheetChecks s) ≡ none) where
 
     count-some : (a .count ≡ 0 → ⊥) → countOf (settingsAt s .window) (quorum (settingsAt s)) values ≡ 0 → ⊥
     count-some d e = d (agreed-none e)
+
+    kept-here : (a .count ≡ 0 → ⊥) → kept ≡ table (keptAt (settingsAt s .window) (quorum (settingsAt s)) values) (length values)
+    unfolding keptOf
+    kept-here d = h .keeps ∙ rw (fit-here, ne-eqb (countOf (settingsAt s .window) (quorum (settingsAt s)) values) 0 (count-some d))
+
+    pub kept-long-here : (a .count ≡ 0 → ⊥) → length kept ≡ settingsAt s .n
+    kept-long-here d = ap length (kept-here d) ∙ length-table (keptAt (settingsAt s .window) (quorum (settingsAt s)) values) (length values) ∙ long-here
 
     count-none : a .count ≡ 0 → roundAt s .count ≡ 0
     count-none z = go (countOf (settingsAt s .window) (quorum (settingsAt s)) values) refl
@@ -172,7 +172,7 @@ module _ (s : List ℕ) (pass : firstOf (sheetChecks s) ≡ none) where
     unfolding roundAt
     alike-here d =
         rw (agreed-some (count-some d))
-        (settled-alike (settingsAt s) (readingsOf (settingsAt s) (entryAt s (entryCount (settingsAt s)))) values long-here same-here some-cabinet (positive (countOf (settingsAt s .window) (quorum (settingsAt s)) values) (count-some d)) kept kept-here)
+        (settled-alike (settingsAt s) (readingsOf (settingsAt s) (entryAt s (entryCount (settingsAt s)))) values long-here same-here some-cabinet (positive (countOf (settingsAt s .window) (quorum (settingsAt s)) values) (count-some d)) kept (kept-here d))
       where
         positive : (k : ℕ) → (k ≡ 0 → ⊥) → 0 < k
         positive k f = pos-of-ne-zero f
@@ -180,7 +180,7 @@ module _ (s : List ℕ) (pass : firstOf (sheetChecks s) ≡ none) where
     pub some-settled : (old : List ℕ) → (a .count ≡ 0 → ⊥) → record { verdict = granted (10 + 5 * settingsAt s .n); buffer = overwrite (answerBytes (length kept) (roundIn (a .count) (a .estimate) (a .value) kept)) old } ≡ settledAfter s old
     unfolding tooManyFaults
     some-settled old d =
-        rw (ne-eqb (roundAt s .count) 0 (λ z. d (ap (λ (x : Estimated). x .count) (agreed-some (count-some d)) ∙ counted-here ∙ z)), kept-long-here)
+        rw (ne-eqb (roundAt s .count) 0 (λ z. d (ap (λ (x : Estimated). x .count) (agreed-some (count-some d)) ∙ counted-here ∙ z)), kept-long-here d)
         (λ i. record { verdict = granted (10 + 5 * settingsAt s .n); buffer = overwrite (answer-local (settingsAt s .n) (roundIn (a .count) (a .estimate) (a .value) kept) (roundAt s) (alike-here d) i) old })
 
 -- the same for settings that are known to be the sheet's
@@ -195,8 +195,8 @@ module _ (s : List ℕ) (c : Settings) (e : c ≡ settingsAt s) (pass : firstOf 
   settles old d = rw e (some-settled s pass values₀ values kept filled a moved old d)
 
   -- the size that writing the answer asks for
-  pub kept-long : length kept ≡ c .n
-  kept-long = rw e (kept-long-here s pass values₀ values kept filled a moved)
+  pub kept-long : (a .count ≡ 0 → ⊥) → length kept ≡ c .n
+  kept-long d = rw e (kept-long-here s pass values₀ values kept filled a moved d)
 
 -- settings that pass checks 2 to 5
 pub few-faults : (s : List ℕ) (c : Settings) → c ≡ settingsAt s → firstOf (sheetChecks s) ≡ none → (c .m ≤ c .n) × (c .n ≤ 64)

@@ -9,21 +9,21 @@ use Rattle.agreement.proofs.strike.Statement.{statement}
 use Rattle.agreement.proofs.strike.Tie as tie
 
 abbrev Inv-readings : tie.InvT-readings
-Inv-readings values₀ marks r₀ values r = Striking marks values₀ values r
+Inv-readings values₀ accepted r₀ values r = Striking accepted values₀ values r
 
 abbrev μ-readings : tie.MeasureT-readings
-μ-readings values₀ marks r₀ values r = length values₀ - r
+μ-readings values₀ accepted r₀ values r = length values₀ - r
 
 readings-holds : tie.Need-readings-holds Inv-readings μ-readings
 readings-holds c =
     let s = c .before .before in
-    strike-none (s .args .marks .now) (s .args .values .now) (s .pre)
+    strike-none (s .args .accepted .now) (s .args .values .now) (s .pre)
 
 shared-slice-read-kept-value : tie.Need-shared-slice-read-kept-value Inv-readings μ-readings
 shared-slice-read-kept-value c =
     let a = c .before .before .before .before .before .args in
     let m = c .before .before .readings in
-    omega (arith, m .inv .room, values-long (a .marks .now) (a .values .now) (m .values) (m .r) (m .inv))
+    omega (arith, m .inv .room, values-long (a .accepted .now) (a .values .now) (m .values) (m .r) (m .inv))
 
 mul-kept-value : tie.Need-mul-kept-value Inv-readings μ-readings
 mul-kept-value c = search needs
@@ -47,25 +47,25 @@ readings-less : tie.Need-readings-less Inv-readings μ-readings
 readings-less c =
     let a = c .before .before .before .before .before .before .before .args in
     let m = c .before .before .before .before .readings in
-    omega (arith, c .before .before .before .readings-test .taken, values-long (a .marks .now) (a .values .now) (m .values) (m .r) (m .inv))
+    omega (arith, c .before .before .before .readings-test .taken, values-long (a .accepted .now) (a .values .now) (m .values) (m .r) (m .inv))
 
 readings-again : tie.Need-readings-again Inv-readings μ-readings
 readings-again c =
     let a = c .before .before .before .before .before .before .before .args in
     let m = c .before .before .before .before .readings in
-    strike-one (a .marks .now) (a .values .now) (m .values) (m .r) (m .inv) (c .before .before .before .readings-test .taken) (c .kept-value .result) (c .kept-value .ensures)
+    strike-one (a .accepted .now) (a .values .now) (m .values) (m .r) (m .inv) (c .before .before .before .readings-test .taken) (c .kept-value .result) (c .kept-value .ensures)
 
 same-length : tie.Need-same-length Inv-readings μ-readings
 same-length c =
     let a = c .before .before .before .before .args in
     let m = c .before .readings in
-    values-long (a .marks .now) (a .values .now) (m .values) (m .r) (m .inv)
+    values-long (a .accepted .now) (a .values .now) (m .values) (m .r) (m .inv)
 
 returns : tie.Need-returns Inv-readings μ-readings
 returns c =
     let a = c .before .before .before .before .args in
     let m = c .before .readings in
-    all-struck (a .marks .now) (a .values .now) (m .values) (m .r) (m .inv) (c .readings-test .left)
+    all-struck (a .accepted .now) (a .values .now) (m .values) (m .r) (m .inv) (c .readings-test .left)
 
 pub strike-spec : {M : Type 1} → statement M
 strike-spec =

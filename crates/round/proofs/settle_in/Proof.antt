@@ -59,7 +59,7 @@ put-answer-requires c κs =
     let r = c .before .before .before .before .before .before .before .before .before .before .before .receive in
     let a = c .before .before .before .before .before .before .agree in
     let long = kept-long (s .args .sheet .now) (s .args .settings) (s .pre .0 .1) (s .pre .0 .0) (s .args .values .now) (r .last .1 .1 .0) (a .last .0) (r .result) (a .result)
-    (left (c .before .before .before .before .before .before)) in
+    (left (c .before .before .before .before .before .before)) (c .before .before .if1 .left) in
     let few = few-faults (s .args .sheet .now) (s .args .settings) (s .pre .0 .1) (s .pre .0 .0) in
     ((omega (arith, few .1), omega (arith, s .pre .0 .2)), a .ensures .1 .1)
 

@@ -1,0 +1,87 @@
+-- `agreement::accept_each` meets its contract: the readings passed are tested and counted, and the memory is sound; the measure is the readings left.
+-- Assumes nothing.
+use borrow.Author.Needs.{needs}
+use native.Mathlib.Omega.{arith}
+use Prim.Native.Nat.{_-_}
+use lib.ListN.{length}
+use Rattle.agreement.proofs.Kept.{Testing, test-none, test-one, test-small, all-counted, all-tested, flags-long}
+use Rattle.loops.proofs.Loops.{flag-small}
+use Rattle.agreement.proofs.accept_each.Statement.{statement}
+use Rattle.agreement.proofs.accept_each.Tie as tie
+
+abbrev Inv-readings : tie.InvT-readings
+Inv-readings values window need known₀ accepted₀ count₀ r₀ known accepted count r = Testing window need values accepted₀ known accepted count r
+
+abbrev μ-readings : tie.MeasureT-readings
+μ-readings values window need known₀ accepted₀ count₀ r₀ known accepted count r = length values - r
+
+readings-holds : tie.Need-readings-holds Inv-readings μ-readings
+readings-holds c =
+    let s = c .before .before .before in
+    let a = s .args in
+    test-none (a .window) (a .need) (a .values .now) (a .accepted .now) (a .known .now) (s .pre .0 .0) (s .pre .0 .1) (s .pre .0 .2) (s .pre .1)
+
+accepts-requires : tie.Need-accepts-requires Inv-readings μ-readings
+accepts-requires c κs = search needs
+
+slice-write-accepted : tie.Need-slice-write-accepted Inv-readings μ-readings
+slice-write-accepted c =
+    let a = c .before .before .before .before .before .before .before .before .before .args in
+    let m = c .before .before .before .before .before .readings in
+    omega (arith, m .inv .room, flags-long (a .window) (a .need) (a .values .now) (a .accepted .now) (m .known) (m .accepted) (m .count) (m .r) (m .inv))
+
+cast-count : tie.Need-cast-count Inv-readings μ-readings
+cast-count c = search needs
+
+add-count : tie.Need-add-count Inv-readings μ-readings
+add-count c =
+    let a = c .before .before .before .before .before .before .before .before .before .args in
+    let m = c .before .before .before .before .before .readings in
+    omega (arith, flag-small (c .before .before .accepts .result), test-small (a .window) (a .need) (a .values .now) (a .accepted .now) (m .known) (m .accepted) (m .count) (m .r) (m .inv))
+
+add-r : tie.Need-add-r Inv-readings μ-readings
+add-r c = search needs
+
+readings-less : tie.Need-readings-less Inv-readings μ-readings
+readings-less c = search needs
+
+readings-again : tie.Need-readings-again Inv-readings μ-readings
+readings-again c =
+    let a = c .before .before .before .before .before .before .before .before .before .args in
+    let m = c .before .before .before .before .before .readings in
+    let b = c .before .before .accepts in
+    test-one (a .window) (a .need) (a .values .now) (a .accepted .now) (m .known) (m .accepted) (m .count) (m .r) (m .inv) (c .before .before .before .before .readings-test .taken)
+    (b .last .1 .1 .1 .0) (b .kept .1 .1 .1 .0) (b .ensures .1) (b .result) (b .ensures .0)
+
+same-length : tie.Need-same-length Inv-readings μ-readings
+same-length c = search needs
+
+same-length-2 : tie.Need-same-length-2 Inv-readings μ-readings
+same-length-2 c =
+    let a = c .before .before .before .before .before .args in
+    let m = c .before .readings in
+    flags-long (a .window) (a .need) (a .values .now) (a .accepted .now) (m .known) (m .accepted) (m .count) (m .r) (m .inv)
+
+returns : tie.Need-returns Inv-readings μ-readings
+returns c =
+    let a = c .before .before .before .before .before .args in
+    let m = c .before .readings in
+    (all-counted (a .window) (a .need) (a .values .now) (a .accepted .now) (m .known) (m .accepted) (m .count) (m .r) (m .inv) (c .readings-test .left), all-tested (a .window) (a .need) (a .values .now) (a .accepted .now) (m .known) (m .accepted) (m .count) (m .r) (m .inv) (c .readings-test .left))
+
+pub accept-each-spec : {M : Type 1} → statement M
+accept-each-spec =
+    tie.close
+    (tie.spec
+    Inv-readings
+    μ-readings
+    readings-holds
+    accepts-requires
+    slice-write-accepted
+    cast-count
+    add-count
+    add-r
+    readings-less
+    readings-again
+    same-length
+    same-length-2
+    returns)

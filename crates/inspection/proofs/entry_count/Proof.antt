@@ -2,7 +2,6 @@
 -- Assumes nothing.
 use borrow.Author.Needs.{needs}
 use borrow.Author.Tests.{eq-eqb, ne-eqb}
-use Prim.Native.Nat.{_≤_}
 use native.Mathlib.Nat.{lt-of-le-of-lt, mul-le-mul}
 use native.Mathlib.Omega.{arith}
 use lib.Dec.{lit<}
@@ -14,10 +13,7 @@ cast-n : tie.Need-cast-n
 cast-n c = search needs
 
 mul-result : tie.Need-mul-result
-mul-result c = record { fits = lt-of-le-of-lt (mul-le-mul small small) (lit< tt) }
-  where
-    small : c .before .before .before .args .settings .n ≤ 255
-    small = omega arith
+mul-result c = record { fits = lt-of-le-of-lt (mul-le-mul {n₂ = 255} {m₂ = 255} (omega arith) (omega arith)) (lit< tt) }
 
 returns : tie.Need-returns
 unfolding entryCount

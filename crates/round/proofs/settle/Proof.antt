@@ -1,6 +1,7 @@
 -- `round::settle` meets its contract: at each answer the inspections that led there say which row refuses first, or that only row 10 is left.
 -- Assumes nothing.
 use mathlib.Core.Path.{_≡_, sym, ap, _∙_}
+use native.Mathlib.Omega.{arith}
 use Rattle.model.specs.RoundSheet.{settingsAt}
 use Rattle.model.specs.Refusals.{firstOf, sheetChecks}
 use Rattle.model.specs.Calls.{granted, verdict}
@@ -39,7 +40,7 @@ add-size c = search needs
 returns : tie.Need-returns
 returns c =
     room-refuses (c .before .before .before .before .before .before .before .before .args .sheet .now) (c .before .before .before .before .before .before .before .before .args .answer .now) (c .before .before .before .settings .given .0 .0) (opened (c .before .before .before))
-    (c .if1 .taken)
+    (omega (arith, c .if1 .taken))
 
 check-entries-requires : tie.Need-check-entries-requires
 check-entries-requires c κs = search needs

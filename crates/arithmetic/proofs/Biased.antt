@@ -1,16 +1,15 @@
 -- The 32 bits of a signed number in two's complement, and the same number moved up by 2^31, which is a natural below 2^32 with the
 -- order, the sums and the distances of the signed one.
 -- Assumes nothing.
-use mathlib.Core.Path.{_≡_, refl, sym, ap, _∙_, subst}
-use Prim.Native.Nat.{ℕ, suc, _+_, _-_, _^_, _≤_, _<_}
+use mathlib.Core.Path.{_≡_, sym, ap, _∙_}
+use Prim.Native.Nat.{ℕ, suc, _+_, _-_, _≤_, _<_}
 use native.Mathlib.Omega.{arith}
 use borrow.Author.Tests.{lt-ltb, le-ltb}
-use lib.IntN.{ℤ, pos, negsuc}
-use lib.Signed.{mag}
+use lib.IntN.{pos, negsuc}
 use mir.Syntax.{w32}
 use mir.Val.{toZ, ofZ}
 use mir.Facts as facts
-use Rattle.arithmetic.proofs.Shift.{down, up, down-pos, down-neg, down-up, down-ind}
+use Rattle.arithmetic.proofs.Shift.{down, down-pos, down-neg}
 
 -- 2^31
 abbrev pub bias : ℕ

@@ -1,8 +1,8 @@
 -- Tests as equations with `true` and `false`: a conjunction or a disjunction taken apart and put together.
 -- Assumes nothing.
-use mathlib.Core.Bool.{Bool, true, false, not, cond, _&&_, _||_}
+use mathlib.Core.Bool.{Bool, true, false, _&&_, _||_}
 use mathlib.Core.Logic.{_⊎_, inl, inr}
-use mathlib.Core.Path.{_≡_, refl, sym, _∙_, subst}
+use mathlib.Core.Path.{_≡_, refl, sym, subst}
 use lib.Dec.{T}
 
 -- a test either passes or fails

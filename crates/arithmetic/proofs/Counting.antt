@@ -4,8 +4,8 @@ use mathlib.Core.Bool.{Bool, true, false, not, _&&_, _||_}
 use mathlib.Core.Logic.{_⊎_, inl, inr, ⊎-elim}
 use mathlib.Core.Option.{Option, none, some}
 use mathlib.Core.Path.{_≡_, refl, sym, ap, ap₂, _∙_}
-use Prim.Native.Nat.{ℕ, zero, suc, _+_, _-_, _≤_, _<_, zero-le}
-use native.Mathlib.Nat.{le-refl, le-trans, add-le-add, lt-suc-self, le-step, not-suc-le-zero, le-suc}
+use Prim.Native.Nat.{ℕ, zero, suc, _+_, _≤_, _<_, zero-le}
+use native.Mathlib.Nat.{le-refl, add-le-add, lt-suc-self, le-step, not-suc-le-zero}
 use native.Mathlib.Omega.{arith}
 use Rattle.arithmetic.specs.Counting.{bit, count, any, lowest, orElse}
 use Rattle.arithmetic.proofs.Bools.{both-ways, clash, and-left, and-right, or-cases, or-inl, or-inr, or-false}

@@ -1,8 +1,8 @@
 -- Laws of quotients that the kit does not have.
 -- Assumes nothing.
-use mathlib.Core.Path.{_≡_, refl, sym, ap, _∙_}
-use Prim.Native.Nat.{ℕ, zero, suc, _+_, _*_, _-_, _/_, _%_, _≤_, _<_}
-use native.Mathlib.Nat.{div-add-mod', mod-lt, le-div-iff-mul-le, div-lt-iff-lt-mul, div-mul-le-self, le-trans, lt-of-le-of-lt, lt-of-mul-lt-mul-right, add-mul, mul-add-div-right, mul-le-mul-right}
+use mathlib.Core.Path.{_≡_, ap, _∙_}
+use Prim.Native.Nat.{ℕ, suc, _+_, _*_, _-_, _/_, _%_, _≤_, _<_}
+use native.Mathlib.Nat.{div-add-mod', mod-lt, le-div-iff-mul-le, div-mul-le-self, le-trans, lt-of-le-of-lt, lt-of-mul-lt-mul-right, add-mul, mul-add-div-right}
 use native.Mathlib.Omega.{arith}
 use lib.Arith.{digits-div}
 

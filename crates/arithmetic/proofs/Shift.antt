@@ -1,19 +1,15 @@
 -- Whole numbers as naturals moved down: `down k a` is a - k. Order, equality, sums, floors and distances of whole numbers are those of
 -- the naturals, so that `omega` can speak of them.
 -- Assumes nothing.
-use mathlib.Core.Bool.{Bool, true, false, cond}
-use mathlib.Core.Path.{_≡_, refl, sym, ap, ap₂, _∙_, subst, subst⁻¹}
-use Prim.Native.Nat.{ℕ, zero, suc, _+_, _*_, _-_, _/_, _%_, _^_, _≤_, _<_}
-use native.Mathlib.Nat.{zero-add, suc-mul, le-refl}
+use mathlib.Core.Bool.{Bool, true, false}
+use mathlib.Core.Path.{_≡_, refl, sym, ap, _∙_, subst⁻¹}
+use Prim.Native.Nat.{ℕ, zero, suc, _+_, _*_, _-_, _/_, _≤_, _<_}
 use native.Mathlib.Omega.{arith}
-use borrow.Author.Tests.{lt-ltb, le-ltb, le-leb, lt-leb, eq-eqb, ne-eqb, ltb-true, ltb-false, leb-true, leb-false, eqb-true}
-use lib.Dec.{leb, ltb, eqb}
+use borrow.Author.Tests.{lt-ltb, le-ltb, le-leb, lt-leb, ltb-true, ltb-false, leb-true}
+use lib.Dec.{leb, ltb}
 use lib.IntN.{ℤ, pos, negsuc, negℤ, natAbs, subℕ, _+ℤ_, _-ℤ_}
 use lib.Signed.{leZ, ltZ, shrZ, mag}
-use mir.Syntax.{w32}
-use mir.Val.{toZ, ofZ}
-use Rattle.arithmetic.specs.Counting.{sum, eqZ}
-use Rattle.arithmetic.proofs.Bools.{both-ways, iff-eq}
+use Rattle.arithmetic.proofs.Bools.{iff-eq}
 use Rattle.arithmetic.proofs.Division.{div-sub-mul, div-from-above}
 
 -- a - k
@@ -110,21 +106,6 @@ lt-down k a b =
     down-ind k b (λ z. ltZ (negsuc (k - suc a)) z ≡ ltb a b)
     (λ i. sym (lt-ltb a b (omega arith)))
     (λ i. leb-iff (suc (k - suc b)) (k - suc a) (suc a) b (λ l. omega arith) (λ l. omega arith)))
-
-eqb-iff : (a b c d : ℕ) → (a ≡ b → c ≡ d) → (c ≡ d → a ≡ b) → eqb a b ≡ eqb c d
-eqb-iff a b c d f g = iff-eq (eqb a b) (eqb c d) (λ e. eq-eqb c d (f (eqb-true a b e))) (λ e. eq-eqb a b (g (eqb-true c d e)))
-
-pub eq-down : (k a b : ℕ) → eqZ (down k a) (down k b) ≡ eqb a b
-eq-down k a b =
-    down-ind k a (λ z. eqZ z (down k b) ≡ eqb a b)
-    (λ h.
-    down-ind k b (λ z. eqZ (pos (a - k)) z ≡ eqb a b)
-    (λ i. eqb-iff (a - k) (b - k) a b (λ l. omega arith) (λ l. omega arith))
-    (λ i. sym (ne-eqb a b (λ e. omega arith))))
-    (λ h.
-    down-ind k b (λ z. eqZ (negsuc (k - suc a)) z ≡ eqb a b)
-    (λ i. sym (ne-eqb a b (λ e. omega arith)))
-    (λ i. eqb-iff (k - suc a) (k - suc b) a b (λ l. omega arith) (λ l. omega arith)))
 
 -- ---- sums
 

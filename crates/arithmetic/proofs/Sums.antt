@@ -1,11 +1,11 @@
 -- Sums of naturals and of whole numbers over the indices below n.
 -- Assumes nothing.
-use mathlib.Core.Bool.{Bool, true, false, cond}
+use mathlib.Core.Bool.{Bool}
 use mathlib.Core.Path.{_≡_, refl, sym, ap, ap₂, _∙_}
 use Prim.Native.Nat.{ℕ, zero, suc, _+_, _*_, _≤_, _<_, zero-le}
 use native.Mathlib.Nat.{zero-mul, suc-mul, add-le-add}
 use native.Mathlib.Omega.{arith}
-use lib.IntN.{ℤ, pos, _+ℤ_}
+use lib.IntN.{ℤ, _+ℤ_}
 use Rattle.arithmetic.specs.Counting.{bit, count, sum}
 use Rattle.arithmetic.proofs.Counting.{below, last}
 use Rattle.arithmetic.proofs.Shift.{down, add-down, down-cong, pos-down}

@@ -1,14 +1,13 @@
--- The majority vote decides a row: over copies that are readings, and over copies that are natural numbers, each standing for a value.
--- A step of the vote is a law for each kind of copy; at the end one count of the candidate decides.
+-- The majority vote decides a row of copies that are natural numbers, each standing for a value. A step of the vote is a law for each kind of
+-- copy; at the end one count of the candidate decides.
 -- Assumes nothing.
 use mathlib.Core.Bool.{Bool, true, false, cond, _&&_}
-use mathlib.Core.List.{List}
 use mathlib.Core.Logic.{_⊎_, inl, inr, ⊎-elim}
 use mathlib.Core.Path.{_≡_, refl, sym, ap, _∙_}
-use Prim.Native.Nat.{ℕ, _+_, _*_, _-_, _≤_, _<_}
-use native.Mathlib.Nat.{le-refl, le-of-eq}
+use Prim.Native.Nat.{ℕ, _+_, _≤_, _<_}
+use native.Mathlib.Nat.{le-of-eq}
 use native.Mathlib.Omega.{arith}
-use borrow.Author.Tests.{leb-true, leb-false, eq-eqb, ne-eqb, eqb-true, eqb-false}
+use borrow.Author.Tests.{leb-true, leb-false, eq-eqb, eqb-true, eqb-false}
 use lib.Dec.{leb, eqb}
 use lib.IntN.{ℤ}
 use mir.Syntax.{w32}
@@ -17,13 +16,11 @@ use mir.Facts.{toZ-inj}
 use Rattle.arithmetic.specs.Counting.{count}
 use Rattle.arithmetic.proofs.Bools.{both-ways, and-left, and-right, and-intro, iff-eq}
 use Rattle.arithmetic.proofs.Counting.{count-ext, count-mono}
-use Rattle.arithmetic.proofs.Shift.{down, eq-down}
 use Rattle.model.specs.Ensemble.{missing, present, Readings}
-use Rattle.model.specs.RoundSheet.{markAt, bitsAt, entryAt}
-use Rattle.model.specs.Steps.{same, decided, knownFaulty, decidedReading, decide}
-use Rattle.crusaders.proofs.Equality.{eq-eqZ, equal-or-not, same-true, eq-same, ne-same, same-unique, present-inj, missing-present}
+use Rattle.model.specs.Steps.{same, decided, knownFaulty, decide}
+use Rattle.crusaders.proofs.Equality.{same-true, eq-same, present-inj, missing-present}
 use Rattle.crusaders.proofs.Decision.{copies, copies-some, decide-value, decide-none}
-use Rattle.crusaders.proofs.Majority.{Candidate, begin, raise, lower, replace, keep, majority}
+use Rattle.crusaders.proofs.Majority.{Candidate, begin, raise, replace, keep, majority}
 
 -- a test that passes where c has need copies, and fails only where no value has, decides the row
 decide-test : (need n : ℕ) (copy : Readings) (c : ℤ) (b : Bool) → n < need + need → (b ≡ true → need ≤ copies copy c n) → (b ≡ false → (z : ℤ) → need ≤ copies copy z n → ⊥) → decide need n copy ≡ cond b (decided c) knownFaulty
@@ -46,52 +43,11 @@ module _ {A : Type 0} (holds : A → ℕ → Bool) (equal : (u v : A) → (u ≡
           let most-c : copies copy z n ≤ count (holds c) n = rw voted at (v .1) in
           omega (arith, leb-false need (count (holds c) n) e)
 
--- ---- copies that are readings
-
-abbrev pub holds : Readings → ℤ → ℕ → Bool
-holds copy z t = same (present z) (copy t)
-
-holds-unique : (copy : Readings) (u v : ℤ) (t : ℕ) → holds copy u t ≡ true → holds copy v t ≡ true → u ≡ v
-holds-unique copy u v t p q = same-unique u v (copy t) p q
-
-pub copy-begins : (copy : Readings) (c : ℤ) → Candidate (holds copy) c 0 0
-copy-begins copy c = begin (holds copy) c
-
-module _ (copy : Readings) (c : ℤ) (k i : ℕ) (w : Candidate (holds copy) c k i) where
-  pub copy-agrees : copy i ≡ present c → Candidate (holds copy) c (k + 1) (i + 1)
-  copy-agrees e = raise (holds copy) c k i w (holds-unique copy) (eq-same c (copy i) e)
-
-  pub copy-differs : 0 < k → (copy i ≡ present c → ⊥) → Candidate (holds copy) c (k - 1) (i + 1)
-  copy-differs h d = lower (holds copy) c k i w h (ne-same c (copy i) d)
-
-  pub copy-replaces : (v : ℤ) → k ≡ 0 → copy i ≡ present v → Candidate (holds copy) v 1 (i + 1)
-  copy-replaces v z e = replace (holds copy) c k i w (holds-unique copy) equal-or-not v z (eq-same v (copy i) e)
-
-  pub copy-missing : k ≡ 0 → copy i ≡ missing → Candidate (holds copy) c k (i + 1)
-  copy-missing z e = keep (holds copy) c k i w z (λ v. ap (same (present v)) e)
-
-  -- a value that more than half of the copies hold is the candidate
-  pub copy-majority : (v : ℤ) → i < 2 * copies copy v i → v ≡ c
-  copy-majority v h = majority (holds copy) c k i w equal-or-not v h
-
-  -- the candidate's count decides
-  pub copy-decides : (need : ℕ) → i < need + need → decide need i copy ≡ cond (leb need (copies copy c i)) (decided c) knownFaulty
-  copy-decides need most =
-      decide-candidate (holds copy) equal-or-not (λ z. z) copy i
-      (λ z. le-refl (copies copy z i))
-      (λ s z l e. (z, le-refl (copies copy z i)))
-      c k w need most
-
 -- ---- copies that are natural numbers
 
 -- the copies: the value of the number bits t where pres t passes, else missing
 abbrev pub encoded : (ℕ → ℤ) → (ℕ → Bool) → (ℕ → ℕ) → Readings
 encoded value pres bits t = cond (pres t) (present (value (bits t))) missing
-
--- the entries of a sheet are such copies
-pub entry-encoded : (s : List ℕ) (E : ℕ) (at : ℕ → ℕ) → _≡_ {A = Readings} (λ t. entryAt s E (at t)) (encoded (toZ w32) (λ t. eqb (markAt s (at t)) 1) (λ t. bitsAt s E (at t)))
-unfolding entryAt
-entry-encoded s E at = refl
 
 -- the copy t is present, and its number is v
 abbrev pub holds-bits : (ℕ → Bool) → (ℕ → ℕ) → ℕ → ℕ → Bool
@@ -101,12 +57,9 @@ holds-bits pres bits v t = pres t && eqb v (bits t)
 pub equal-bits : (a b : ℕ) → (a ≡ b) ⊎ (a ≡ b → ⊥)
 equal-bits a b = ⊎-elim (λ e. inl (eqb-true a b e)) (λ e. inr (eqb-false a b e)) (both-ways (eqb a b))
 
--- numbers of 32 bits in two's complement, and numbers moved down, stand for one value each
+-- numbers of 32 bits in two's complement stand for one value each
 pub toZ-one : (a b : ℕ) → a < 4_294_967_296 → b < 4_294_967_296 → toZ w32 a ≡ toZ w32 b → a ≡ b
 toZ-one a b h l e = toZ-inj {w = w32} (record { fits = h }) (record { fits = l }) e
-
-pub down-one : (k a b : ℕ) → down k a ≡ down k b → a ≡ b
-down-one k a b e = eqb-true a b (sym (eq-down k a b) ∙ eq-eqZ (down k a) (down k b) e)
 
 module _ (pres : ℕ → Bool) (bits : ℕ → ℕ) where
   holds-bits-true : (v t : ℕ) → holds-bits pres bits v t ≡ true → (pres t ≡ true) × (v ≡ bits t)
@@ -125,25 +78,12 @@ module _ (pres : ℕ → Bool) (bits : ℕ → ℕ) where
     pub bits-agree : pres i ≡ true → bits i ≡ c → Candidate (holds-bits pres bits) c (k + 1) (i + 1)
     bits-agree p e = raise (holds-bits pres bits) c k i w holds-bits-unique (and-intro p (eq-eqb c (bits i) (sym e)))
 
-    pub bits-differ : 0 < k → (bits i ≡ c → ⊥) → Candidate (holds-bits pres bits) c (k - 1) (i + 1)
-    bits-differ h d = lower (holds-bits pres bits) c k i w h (go (pres i))
-      where
-        go : (b : Bool) → (b && eqb c (bits i)) ≡ false
-        go true = ne-eqb c (bits i) (λ e. d (sym e))
-        go false = refl
-
-    pub bits-absent : 0 < k → pres i ≡ false → Candidate (holds-bits pres bits) c (k - 1) (i + 1)
-    bits-absent h e = lower (holds-bits pres bits) c k i w h (absent i c e)
-
     pub bits-replace : k ≡ 0 → pres i ≡ true → Candidate (holds-bits pres bits) (bits i) 1 (i + 1)
     bits-replace z p =
         replace (holds-bits pres bits) c k i w holds-bits-unique equal-bits (bits i) z (and-intro p (eq-eqb (bits i) (bits i) refl))
 
     pub bits-missing : k ≡ 0 → pres i ≡ false → Candidate (holds-bits pres bits) c k (i + 1)
     bits-missing z e = keep (holds-bits pres bits) c k i w z (λ v. absent i v e)
-
-    pub bits-majority : (v : ℕ) → i < 2 * count (holds-bits pres bits v) i → v ≡ c
-    bits-majority v h = majority (holds-bits pres bits) c k i w equal-bits v h
 
 -- the numbers below lim stand for one value each
 module _ (value : ℕ → ℤ) (lim : ℕ) (one : (a b : ℕ) → a < lim → b < lim → value a ≡ value b → a ≡ b) (pres : ℕ → Bool) (bits : ℕ → ℕ) where
@@ -190,10 +130,3 @@ module _ (value : ℕ → ℤ) (lim : ℕ) (one : (a b : ℕ) → a < lim → b 
               let p = encoded-present s z e in
               let counted = copies-encoded (bits s) (low s l) in
               (bits s, rw (p .1) at (le-of-eq counted))
-
-      pub bits-read : decidedReading (decide need n (encoded value pres bits)) ≡ cond (leb need (count (holds-bits pres bits c) n)) (present (value c)) missing
-      bits-read = ap decidedReading bits-decide ∙ go (leb need (count (holds-bits pres bits c) n))
-        where
-          go : (b : Bool) → decidedReading (cond b (decided (value c)) knownFaulty) ≡ cond b (present (value c)) missing
-          go true = refl
-          go false = refl

@@ -97,10 +97,6 @@ module _ (need n : ℕ) (copy : Readings) where
       (λ w. not-both e (w .0))
       (decide-cases some-need)
 
-  -- a known faulty row has no value with need copies
-  pub faulty-short : decide need n copy ≡ knownFaulty → 0 < need → (z : ℤ) → copies copy z n < need
-  faulty-short e some-need z = ⊎-elim (λ w. not-both (w .1) e) (λ w. w .1 z) (decide-cases some-need)
-
   pub decide-value : (z : ℤ) → n < need + need → need ≤ copies copy z n → decide need n copy ≡ decided z
   decide-value z most h =
       ⊎-elim

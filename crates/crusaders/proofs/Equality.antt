@@ -8,7 +8,7 @@ use native.Mathlib.Omega.{arith}
 use borrow.Author.Tests.{eq-eqb, eqb-true}
 use lib.IntN.{ℤ, pos, negsuc}
 use Rattle.arithmetic.specs.Counting.{eqZ}
-use Rattle.arithmetic.proofs.Bools.{both-ways, clash, iff-eq, not-true-false}
+use Rattle.arithmetic.proofs.Bools.{both-ways, clash}
 use Rattle.model.specs.Ensemble.{Reading, missing, present}
 use Rattle.model.specs.Steps.{same}
 
@@ -30,13 +30,6 @@ eq-eqZ a b e = ap (eqZ a) (sym e) ∙ eqZ-refl a
 pub eqZ-false : (a b : ℤ) → eqZ a b ≡ false → a ≡ b → ⊥
 eqZ-false a b e q = clash (eq-eqZ a b q) e
 
-pub ne-eqZ : (a b : ℤ) → (a ≡ b → ⊥) → eqZ a b ≡ false
-ne-eqZ a b f = not-true-false (eqZ a b) (λ e. f (eqZ-true a b e))
-
-pub eqZ-sym : (a b : ℤ) → eqZ a b ≡ eqZ b a
-eqZ-sym a b =
-    iff-eq (eqZ a b) (eqZ b a) (λ e. eq-eqZ b a (sym (eqZ-true a b e))) (λ e. eq-eqZ a b (sym (eqZ-true b a e)))
-
 -- two whole numbers are equal or they are not
 pub equal-or-not : (a b : ℤ) → (a ≡ b) ⊎ (a ≡ b → ⊥)
 equal-or-not a b = ⊎-elim (λ e. inl (eqZ-true a b e)) (λ e. inr (eqZ-false a b e)) (both-ways (eqZ a b))
@@ -50,15 +43,6 @@ same-true z (present a) e = ap present (sym (eqZ-true z a e))
 
 pub eq-same : (z : ℤ) (c : Reading) → c ≡ present z → same (present z) c ≡ true
 eq-same z c e = ap (same (present z)) e ∙ eqZ-refl z
-
-pub ne-same : (z : ℤ) (c : Reading) → (c ≡ present z → ⊥) → same (present z) c ≡ false
-ne-same z c f = not-true-false (same (present z) c) (λ e. f (same-true z c e))
-
-pub same-sym : (a b : Reading) → same a b ≡ same b a
-same-sym missing missing = refl
-same-sym missing (present b) = refl
-same-sym (present a) missing = refl
-same-sym (present a) (present b) = eqZ-sym a b
 
 -- two copies that pass are present, and hold one value
 pub same-present : (a b : Reading) → same a b ≡ true → (z : ℤ) × (a ≡ present z) × (b ≡ present z)

@@ -16,7 +16,7 @@ use Rattle.model.specs.Ensemble.{missing, present, Readings, quorum}
 use Rattle.model.specs.RoundSheet.{cca}
 use Rattle.model.specs.Steps.{same, Decision, decided, knownFaulty, decidedReading, decide, readingsOf}
 use Rattle.crusaders.proofs.Equality.{present-inj, missing-present, equal-or-not, same-true, eq-same, same-unique}
-use Rattle.crusaders.proofs.Decision.{copies, decided-need, decided-all, decide-cases, decide-value, decide-none}
+use Rattle.crusaders.proofs.Decision.{copies, decided-need, decided-all, decide-cases, decide-value}
 
 -- how many of the first n relays are not sound
 abbrev pub faults : (ℕ → Bool) → ℕ → ℕ
@@ -31,10 +31,6 @@ Relayed sound n heard copy = (s : ℕ) → s < n → sound s ≡ true → copy s
 pub reading-decided : (d : Decision) (z : ℤ) → decidedReading d ≡ present z → d ≡ decided z
 reading-decided (decided a) z e = ap decided (present-inj e)
 reading-decided knownFaulty z e = missing-present e
-
-pub reading-faulty : (d : Decision) → decidedReading d ≡ missing → d ≡ knownFaulty
-reading-faulty (decided a) e = missing-present (sym e)
-reading-faulty knownFaulty e = refl
 
 -- ---- what sound relays hand on
 
@@ -103,12 +99,6 @@ module _ (sound : ℕ → Bool) (n m : ℕ) (planned : 3 * m < n) where
       others : (z : ℤ) → (z ≡ x → ⊥) → copies copy z n ≤ faults sound n
       others z d = not-handed-on sound n copy z (λ s l e q. d (present-inj (sym q ∙ h s l e)))
 
-  -- a sound transmitter that holds nothing, fewer than n-m faults: nothing is decided
-  pub missing-undecided : (copy : Readings) → Relayed sound n (λ _. missing) copy → faults sound n < n - m → decide (n - m) n copy ≡ knownFaulty
-  missing-undecided copy h few =
-      decide-none (n - m) n copy (omega arith)
-      (λ z. omega (arith, not-handed-on sound n copy z (λ s l e q. missing-present (sym (h s l e) ∙ q))))
-
   -- any transmitter, at most m faults: what two receivers decide is one value
   pub decided-alike : (p q : Readings) (a b : ℤ) → Relayed sound n q p → faults sound n ≤ m → decide (n - m) n p ≡ decided a → decide (n - m) n q ≡ decided b → a ≡ b
   decided-alike p q a b h few da db =
@@ -127,9 +117,6 @@ module _ (sound : ℕ → Bool) (n m : ℕ) (planned : 3 * m < n) where
   pub held-read-or-not : (copy : Readings) (x : ℤ) → Relayed sound n (λ _. present x) copy → faults sound n < n - m → (decidedReading (decide (n - m) n copy) ≡ present x) ⊎ (decidedReading (decide (n - m) n copy) ≡ missing)
   held-read-or-not copy x h few =
       ⊎-elim (λ e. inl (ap decidedReading e)) (λ e. inr (ap decidedReading e)) (held-decided-or-not copy x h few)
-
-  pub missing-read : (copy : Readings) → Relayed sound n (λ _. missing) copy → faults sound n < n - m → decidedReading (decide (n - m) n copy) ≡ missing
-  missing-read copy h few = ap decidedReading (missing-undecided copy h few)
 
   pub read-alike : (p q : Readings) (a b : ℤ) → Relayed sound n q p → faults sound n ≤ m → decidedReading (decide (n - m) n p) ≡ present a → decidedReading (decide (n - m) n q) ≡ present b → a ≡ b
   read-alike p q a b h few ra rb =

@@ -13,11 +13,11 @@ use mir.Val.{toZ}
 use Rattle.arithmetic.specs.Counting.{count}
 use Rattle.arithmetic.proofs.Bools.{and-left, and-right}
 use Rattle.model.specs.RoundSheet.{word}
-use Rattle.model.specs.Steps.{decided, knownFaulty, decide}
+use Rattle.model.specs.Steps.{decided, knownFaulty}
 use Rattle.crusaders.proofs.Majority.{Candidate, lower}
 use Rattle.crusaders.proofs.Candidates.{holds-bits, bits-begin, bits-agree, bits-replace, bits-missing, bits-decide, toZ-one}
 use Rattle.arithmetic.proofs.Bools.{or-left, or-right}
-use Rattle.decisions.specs.Rows.{presentAt, bitsAt, copyAt, Elected, rowDecision}
+use Rattle.decisions.specs.Rows.{presentAt, bitsAt, Elected, rowDecision}
 
 module _ (marks row : List ℕ) where
   -- the copy t is present and holds v
@@ -113,9 +113,3 @@ module _ (marks row : List ℕ) where
 pub bits-low : (row : List ℕ) → ((i : ℕ) → getD row i 0 < 256) → (t : ℕ) → bitsAt row t < 4294967296
 unfolding word
 bits-low row f t = omega (arith, f (4 * t), f (4 * t + 1), f (4 * t + 2), f (4 * t + 3))
-
--- a row of at most 64 copies, four bytes each, of which need are more than half, is decided by document 01's definition
-pub decision-fit : (need : ℕ) (marks row : List ℕ) → length marks ≤ 64 → length row ≡ 4 * length marks → length marks < need + need → rowDecision need marks row ≡ decide need (length marks) (copyAt marks row)
-unfolding rowDecision
-decision-fit need marks row few size most =
-    rw (le-ltb 64 (length marks) few, eq-eqb (length row) (4 * length marks) size, lt-leb need (length marks / 2) (omega arith))

@@ -1,19 +1,17 @@
 -- What the guarantee states, by cases: each outcome of the code, on plain values. Products are small, since the settings pass.
 -- Assumes nothing.
-use mathlib.Core.Bool.{cond}
 use mathlib.Core.Option.{none, some}
-use mathlib.Core.Path.{_≡_, refl, ap, ap₂}
+use mathlib.Core.Path.{_≡_, refl, ap₂}
 use Prim.Native.Nat.{ℕ, _+_, _*_, _-_, _≤_, _<_}
-use native.Mathlib.Nat.{le-trans, mul-le-mul}
+use native.Mathlib.Nat.{mul-le-mul}
 use native.Mathlib.Omega.{arith}
 use borrow.Author.Tests.{le-leb, lt-leb}
-use lib.Dec.{leb}
 use Rattle.model.specs.declared.Settings.{Settings}
 use Rattle.model.specs.declared.Refusal.{Refusal}
 use Rattle.model.specs.Planner.{ceilDiv}
 use Rattle.model.specs.Refusals.{firstOf, settingsChecks, planChecks}
 use Rattle.planning.proofs.Ceiling.{ceil-div-le}
-use Rattle.planning.proofs.Checks.{MayStart, none-may-start}
+use Rattle.planning.proofs.Checks.{none-may-start}
 use Rattle.refusals.proofs.Limits.{Limits, limits, limits-pass}
 use Rattle.degradation.specs.Limits.{Stated, planned, wider, nothing, refused, bounds, stated}
 

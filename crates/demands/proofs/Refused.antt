@@ -6,7 +6,7 @@ use mathlib.Core.List.{List, [], _∷_}
 use mathlib.Core.Logic.{_↔_}
 use mathlib.Core.Option.{Option, none, some}
 use mathlib.Core.Path.{_≡_, refl, sym, ap, _∙_, subst⁻¹}
-use Prim.Native.Nat.{ℕ, zero, suc, _+_, _-_, _*_, _≤_, _<_}
+use Prim.Native.Nat.{ℕ, _+_, _*_, _<_}
 use native.Mathlib.Omega.{arith}
 use borrow.Author.Tests.{eqb-true, eq-eqb}
 use lib.Dec.{eqb, ltb}
@@ -14,16 +14,15 @@ use lib.IntN.{ℤ, pos, _+ℤ_}
 use lib.ListN.{length}
 use lib.Signed.{_≤ℤ_}
 use Rattle.arithmetic.specs.Counting.{lowest}
-use Rattle.model.specs.declared.Refusal.{Refusal}
 use Rattle.model.specs.declared.Settings.{Settings}
-use Rattle.model.specs.Ensemble.{Readings, quorum}
+use Rattle.model.specs.Ensemble.{quorum}
 use Rattle.model.specs.RoundSheet.{settingsAt, entryCount, entryAt, sheetLength, markAt, bitsAt}
 use Rattle.model.specs.AnswerSheet.{answerLength}
 use Rattle.model.specs.Steps.{held, readingsOf, roundAt}
 use Rattle.model.specs.Refusals.{refusal, Row, when, atEntry, orNext, firstOf, tooShort, badCabinets, badFaults, badMethod, badWindow, badLength, noRoom, badMark, badMissing, tooManyFaults, settingsChecks, sheetChecks, entryChecks, settleChecks}
 use Rattle.model.specs.Calls.{verdict, refused, settle}
-use Rattle.refusals.proofs.Rows.{first-append, next-none-left, next-none-right}
-use Rattle.refusals.proofs.Limits.{Limits, limits}
+use Rattle.refusals.proofs.Rows.{first-append, next-none-left}
+use Rattle.refusals.proofs.Limits.{limits}
 use Rattle.sheets.proofs.Checks.{settings-passed}
 use Rattle.sheets.proofs.Outcomes.{refused-some, settle-rows}
 use Rattle.demands.proofs.Spans.{too-many-faults}

@@ -1,18 +1,17 @@
 -- The round of any readings, by naturals: the readings moved up far enough for all of them.
 -- Assumes nothing.
-use mathlib.Core.Bool.{Bool, true}
-use mathlib.Core.Path.{_≡_, refl, sym, ap, _∙_, subst}
-use Prim.Native.Nat.{ℕ, _+_, _≤_, _<_}
-use native.Mathlib.Nat.{lt-of-lt-of-le}
+use mathlib.Core.Bool.{Bool}
+use mathlib.Core.Path.{_≡_, sym, ap, _∙_}
+use Prim.Native.Nat.{ℕ, _≤_, _<_}
 use lib.Dec.{leb}
 use lib.IntN.{ℤ}
 use lib.Signed.{leZ, mag, _≤ℤ_}
-use borrow.Author.Tests.{leb-true, le-leb}
-use Rattle.arithmetic.proofs.Bools.{to-T, of-T}
+use borrow.Author.Tests.{le-leb}
+use Rattle.arithmetic.proofs.Bools.{to-T}
 use Rattle.arithmetic.proofs.Shift.{down, up, down-up, le-down}
-use Rattle.model.specs.Ensemble.{Reading, missing, present, Readings, isPresent, ticks}
+use Rattle.model.specs.Ensemble.{Readings, isPresent}
 use Rattle.model.specs.Steps.{accepted}
-use Rattle.rounds.proofs.Local.{Agree, accepted-local}
+use Rattle.rounds.proofs.Local.{accepted-local}
 use Rattle.rounds.proofs.Represent.{reach, represented, raise}
 use Rattle.rounds.proofs.Shifted.{shifted, accepted-nat, accepted-shifted}
 

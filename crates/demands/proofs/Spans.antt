@@ -2,20 +2,20 @@
 -- at a reading, and these laws say that it is the same for any span. So "too many faults" is said exactly where no span as wide as the
 -- window holds N-m readings.
 -- Assumes nothing.
-use mathlib.Core.Bool.{Bool, true, false, _&&_}
-use mathlib.Core.Logic.{_↔_, ⊎-elim}
+use mathlib.Core.Bool.{Bool, true, _&&_}
+use mathlib.Core.Logic.{_↔_}
 use mathlib.Core.Path.{_≡_, refl, sym, ap, ap₂, _∙_, subst}
-use Prim.Native.Nat.{ℕ, zero, suc, _+_, _-_, _≤_, _<_}
+use Prim.Native.Nat.{ℕ, zero, suc, _+_, _≤_, _<_}
 use native.Mathlib.Nat.{le-trans, lt-of-lt-of-le, lt-of-not-le, not-le-of-lt}
 use native.Mathlib.Omega.{arith}
-use borrow.Author.Tests.{leb-true, le-leb}
+use borrow.Author.Tests.{leb-true}
 use lib.Dec.{leb}
 use lib.IntN.{ℤ, pos, _+ℤ_}
 use lib.Signed.{leZ, mag, _≤ℤ_, ≤ℤ-refl}
-use Rattle.arithmetic.specs.Counting.{count, any}
-use Rattle.arithmetic.proofs.Bools.{clash, to-T, of-T, and-left, and-right, and-intro}
-use Rattle.arithmetic.proofs.Counting.{count-ext, count-mono, count-some, count-pos, any-some}
-use Rattle.arithmetic.proofs.Shift.{down, up, down-up, le-down, add-pos-down}
+use Rattle.arithmetic.specs.Counting.{count}
+use Rattle.arithmetic.proofs.Bools.{clash, of-T, and-left, and-right}
+use Rattle.arithmetic.proofs.Counting.{count-mono, count-some, count-pos, any-some}
+use Rattle.arithmetic.proofs.Shift.{up, down-up, le-down, add-pos-down}
 use Rattle.model.specs.declared.Settings.{Settings}
 use Rattle.model.specs.Ensemble.{Reading, missing, present, Readings, isPresent, ticks, quorum}
 use Rattle.model.specs.Steps.{inside, held, within, accepted, acceptedAt, roundOf}

@@ -2,12 +2,12 @@
 -- value; so 32 bits hold both where they hold the readings.
 -- Assumes nothing.
 use mathlib.Core.Bool.{Bool, true}
-use mathlib.Core.Path.{_≡_, refl, sym, ap, _∙_, subst, subst⁻¹}
-use Prim.Native.Nat.{ℕ, suc, _+_, _≤_, _<_, zero-le}
-use native.Mathlib.Nat.{le-refl, lt-of-lt-of-le}
+use mathlib.Core.Path.{_≡_, refl, sym, _∙_, subst, subst⁻¹}
+use Prim.Native.Nat.{ℕ, _≤_, _<_, zero-le}
+use native.Mathlib.Nat.{le-refl}
 use native.Mathlib.Omega.{arith}
 use lib.IntN.{ℤ, pos, negsuc}
-use lib.Signed.{_≤ℤ_, mag}
+use lib.Signed.{_≤ℤ_}
 use mir.Syntax.{w32}
 use mir.Val.{SFits}
 use Rattle.arithmetic.specs.Counting.{count}
@@ -15,13 +15,13 @@ use Rattle.arithmetic.proofs.Biased.{bias}
 use Rattle.arithmetic.proofs.Counting.{count-pos}
 use Rattle.arithmetic.proofs.Shift.{down, up, down-up, down-ind}
 use Rattle.model.specs.declared.Settings.{Settings}
-use Rattle.model.specs.Ensemble.{Reading, Readings, isPresent, ticks}
-use Rattle.model.specs.Steps.{Round, acceptedAt, roundOf}
+use Rattle.model.specs.Ensemble.{Readings, isPresent, ticks}
+use Rattle.model.specs.Steps.{acceptedAt, roundOf}
 use Rattle.rounds.proofs.Local.{Agree}
 use Rattle.rounds.proofs.Natural.{acc-of, estimate-of, used-of, value-of, round-count, round-estimate, round-used, round-value}
 use Rattle.rounds.proofs.Represent.{reach, reach-above, represented, raise, shift-raise}
-use Rattle.rounds.proofs.Shifted.{shifted, accepted-nat, accepted-shifted}
-use Rattle.limits.proofs.Estimates.{Between, estimate-within, used-within, estimate-between}
+use Rattle.rounds.proofs.Shifted.{shifted}
+use Rattle.limits.proofs.Estimates.{estimate-within, used-within, estimate-between}
 use Rattle.limits.proofs.Extremes.{least, greatest}
 use Rattle.limits.proofs.Means.{mean-above, mean-below}
 use Rattle.demands.proofs.Represented.{le-of-down, accepted-up}

@@ -1,9 +1,9 @@
 -- The first of checks 2 to 5 that refuses, by the tests that failed before it.
 -- Assumes nothing.
-use mathlib.Core.Bool.{Bool, true, false, _||_}
+use mathlib.Core.Bool.{true, false, _||_}
 use mathlib.Core.Option.{none}
-use mathlib.Core.Path.{_≡_, refl}
-use Prim.Native.Nat.{ℕ, _+_, _*_}
+use mathlib.Core.Path.{_≡_}
+use Prim.Native.Nat.{_+_, _*_}
 use lib.Dec.{eqb, ltb}
 use Rattle.model.specs.declared.Settings.{Settings}
 use Rattle.model.specs.Refusals.{when, firstOf, settingsChecks, badCabinets, badFaults, badMethod, badWindow}

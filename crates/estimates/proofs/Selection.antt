@@ -62,9 +62,6 @@ module _ (acc : ℕ → Bool) (n : ℕ) (x : ℕ → ℕ) where
     pub numbered-intro : (r : ℕ) → acc r ≡ true → h ≤ upTo (x r) → under (x r) < h → is-numbered acc n x h r ≡ true
     numbered-intro r a l m = and-intro a (and-intro (le-leb h (upTo (x r)) l) (lt-ltb (under (x r)) h m))
 
-    numbered-acc : (r : ℕ) → is-numbered acc n x h r ≡ true → acc r ≡ true
-    numbered-acc r e = and-left (acc r) _ e
-
     numbered-upTo : (r : ℕ) → is-numbered acc n x h r ≡ true → h ≤ upTo (x r)
     numbered-upTo r e = leb-true h _ (and-left (leb h (upTo (x r))) _ (and-right (acc r) _ e))
 

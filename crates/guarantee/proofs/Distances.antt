@@ -1,14 +1,14 @@
 -- Distances of whole numbers as differences of naturals, and numbers of 32 bits moved up into the naturals.
 -- Assumes nothing.
-use mathlib.Core.Path.{_≡_, refl, sym, ap, ap₂, _∙_, subst, subst⁻¹}
-use Prim.Native.Nat.{ℕ, suc, _+_, _-_, _≤_, _<_}
+use mathlib.Core.Path.{_≡_, sym, ap₂, _∙_}
+use Prim.Native.Nat.{ℕ, _+_, _-_, _≤_, _<_}
 use native.Mathlib.Omega.{arith}
 use lib.IntN.{ℤ, natAbs, _-ℤ_}
 use lib.Signed.{mag}
 use mir.Syntax.{w32}
 use mir.Val.{SFits}
 use Rattle.arithmetic.proofs.Biased.{bias}
-use Rattle.arithmetic.proofs.Shift.{down, up, down-up, down-ind, dist-down}
+use Rattle.arithmetic.proofs.Shift.{down, up, down-up, dist-down}
 
 -- the distance of two numbers that reach no further than k
 pub dist-up : (k : ℕ) (a b : ℤ) → mag a < k → mag b < k → natAbs (a -ℤ b) ≡ up k a - up k b + (up k b - up k a)

@@ -2,7 +2,7 @@
 -- always, by CCA where at most m are faulty; where fewer than N-m are, it is read as z or not at all. Two sound cabinets that both
 -- decide a row decide it alike. All readings are of 32 bits.
 -- Assumes nothing.
-use mathlib.Core.Bool.{Bool, true, false, not, cond}
+use mathlib.Core.Bool.{Bool, true, false, cond}
 use mathlib.Core.Logic.{_⊎_, inl, inr, ⊎-elim}
 use mathlib.Core.Path.{_≡_, refl, sym, ap, _∙_, subst, subst⁻¹}
 use Prim.Native.Nat.{ℕ, _+_, _*_, _-_, _/_, _%_, _≤_, _<_}
@@ -13,10 +13,8 @@ use lib.Dec.{eqb}
 use lib.IntN.{ℤ}
 use mir.Syntax.{w32}
 use mir.Val.{SFits}
-use Rattle.arithmetic.specs.Counting.{count}
-use Rattle.arithmetic.proofs.Bools.{both-ways, clash}
+use Rattle.arithmetic.proofs.Bools.{both-ways}
 use Rattle.crusaders.proofs.Decision.{decide-ext}
-use Rattle.crusaders.proofs.Equality.{present-inj, missing-present}
 use Rattle.crusaders.proofs.Rows.{faults, held-read, held-read-or-not, read-alike, read-direct, read-decided, read-all}
 use Rattle.model.specs.declared.Settings.{Settings}
 use Rattle.model.specs.Ensemble.{Reading, missing, present, Readings, ticks}

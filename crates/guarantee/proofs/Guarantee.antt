@@ -1,11 +1,11 @@
 -- Demand 3 holds: `guarantee` is the theorem that specs/Guarantee.antt states. The good set of the first round is the given one; after it
 -- all sound cabinets are good, for the next window and the next accuracy, and the plan goes forward as the planner's definition iterated.
 -- Assumes nothing.
-use mathlib.Core.Bool.{Bool, true}
+use mathlib.Core.Bool.{Bool}
 use mathlib.Core.List.{List, [], _∷_}
 use mathlib.Core.Option.{none}
 use mathlib.Core.Path.{_≡_, refl, sym, ap, _∙_, subst, subst⁻¹}
-use Prim.Native.Nat.{ℕ, zero, suc, _+_, _-_, _≤_, _<_}
+use Prim.Native.Nat.{ℕ, suc, _+_, _-_, _≤_, _<_}
 use native.Mathlib.Nat.{le-trans, zero-add}
 use native.Mathlib.Omega.{arith}
 use lib.IntN.{ℤ, natAbs, _-ℤ_}
@@ -13,13 +13,13 @@ use lib.ListN.{length}
 use Rattle.model.specs.declared.Settings.{Settings}
 use Rattle.model.specs.Ensemble.{ticks}
 use Rattle.model.specs.Planner.{Plan, planFrom, advance, after, nextWindow, growth, withWindow}
-use Rattle.model.specs.Refusals.{firstOf, settingsChecks, planChecks, stepChecks}
+use Rattle.model.specs.Refusals.{firstOf, settingsChecks, stepChecks}
 use Rattle.model.specs.Calls.{granted, step}
-use Rattle.refusals.proofs.Limits.{Limits, limits, limits-pass}
-use Rattle.planning.proofs.Checks.{MayStart, none-may-start}
+use Rattle.refusals.proofs.Limits.{limits, limits-pass}
+use Rattle.planning.proofs.Checks.{none-may-start}
 use Rattle.planning.proofs.Steps.{start-step-passes, step-by-row}
 use Rattle.planning.proofs.Windows.{passes-advance}
-use Rattle.guarantee.specs.Guarantee.{Station, Start, Sends, Allowed, State, start, stepped, next, Good, bad, Every, First, Close, Wide, Each, Guarantee, Demand3}
+use Rattle.guarantee.specs.Guarantee.{Station, Start, Sends, Allowed, State, start, next, Good, bad, Every, First, Close, Wide, Each, Demand3}
 use Rattle.guarantee.proofs.Round.{Standing, faults-bad, round-unrefused, round-precise, round-accurate, round-reading, round-present, wide-precise, wide-accurate}
 
 module _ (st : Station) (begins : Start st) (truth : ℤ) where

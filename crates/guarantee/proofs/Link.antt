@@ -1,40 +1,36 @@
 -- From bytes to the round: the sheet that a sound cabinet fills passes checks 1 to 9, and settling it gives the round of what the cabinet
 -- reads. It is refused exactly where no reading is accepted; else bytes 6 to 9 of its answer sheet are the round's new value.
 -- Assumes nothing.
-use mathlib.Core.Bool.{Bool, true, false, cond}
+use mathlib.Core.Bool.{true, false}
 use mathlib.Core.List.{List}
 use mathlib.Core.Logic.{⊎-elim}
 use mathlib.Core.Option.{none, some}
-use mathlib.Core.Path.{_≡_, refl, sym, ap, ap₂, _∙_, subst}
-use Prim.Native.Nat.{ℕ, zero, suc, _+_, _*_, _/_, _%_, _≤_, _<_}
-use native.Mathlib.Nat.{div-lt-iff-lt-mul}
+use mathlib.Core.Path.{_≡_, refl, sym, ap, _∙_}
+use Prim.Native.Nat.{ℕ, _+_, _*_, _<_}
 use native.Mathlib.Omega.{arith}
 use borrow.Author.Tests.{eq-eqb, ne-eqb}
 use lib.Arith.{digits-lt}
 use lib.Dec.{eqb}
-use lib.IntN.{ℤ}
 use lib.ListN.{length, replicate, length-replicate}
 use mir.Syntax.{w32}
 use mir.Val.{SFits}
-use Rattle.arithmetic.specs.Writing.{overwrite}
 use Rattle.arithmetic.proofs.Bools.{both-ways}
 use Rattle.crusaders.proofs.Decision.{decide-ext}
 use Rattle.crusaders.proofs.Rows.{read-direct, read-decided}
 use Rattle.model.specs.declared.Settings.{Settings}
-use Rattle.model.specs.Ensemble.{Reading, missing, present, Readings, isPresent, ticks, quorum}
-use Rattle.model.specs.RoundSheet.{cca, settingsAt, entryCount, entryAt, sheetLength, sheetBytes, word}
+use Rattle.model.specs.Ensemble.{missing, present, Readings, ticks, quorum}
+use Rattle.model.specs.RoundSheet.{cca, settingsAt, entryCount, entryAt, sheetLength, sheetBytes}
 use Rattle.model.specs.AnswerSheet.{answerLength, answerBytes}
-use Rattle.model.specs.Planner.{withWindow}
-use Rattle.model.specs.Refusals.{Row, refusal, orNext, firstOf, settingsChecks, sheetChecks, entryChecks, settleChecks, noRoom, tooManyFaults}
-use Rattle.model.specs.Calls.{Verdict, granted, refused, Written, writtenAfter, write, settle}
-use Rattle.model.specs.Steps.{decidedReading, readingsOf, Round, roundOf, roundAt}
+use Rattle.model.specs.Refusals.{Row, refusal, orNext, firstOf, settingsChecks, entryChecks, settleChecks, noRoom, tooManyFaults}
+use Rattle.model.specs.Calls.{granted, Written, writtenAfter, write, settle}
+use Rattle.model.specs.Steps.{decidedReading, readingsOf, roundOf, roundAt}
 use Rattle.rounds.proofs.Local.{Agree, Alike, round-local, answer-local}
 use Rattle.sheets.proofs.Answer.{answer-value}
 use Rattle.sheets.proofs.Checks.{room-pass}
 use Rattle.sheets.proofs.Entries.{marksFrom, ticksFrom, filled-well-formed, filled-entry, filled-write}
 use Rattle.sheets.proofs.Outcomes.{settle-rows}
 use Rattle.sheets.proofs.Written.{settings-back, sheet-passes, entries-pass}
-use Rattle.guarantee.specs.Guarantee.{IsReading, Station, Sends, Allowed, State, heard, entryOf, sheetOf, settled, holds}
+use Rattle.guarantee.specs.Guarantee.{Station, Sends, Allowed, State, entryOf, sheetOf, settled, holds}
 use Rattle.guarantee.proofs.Entries.{at, seen}
 
 -- readings depend on the entries below E alone

@@ -1,12 +1,10 @@
 -- What a cabinet reads in a round, moved up into the naturals: its round is the round of those naturals, moved down, and 32 bits hold
 -- its new value.
 -- Assumes nothing.
-use mathlib.Core.Bool.{Bool, true}
-use mathlib.Core.Path.{_≡_, refl, sym, ap, _∙_, subst, subst⁻¹}
-use Prim.Native.Nat.{ℕ, suc, _+_, _-_, _≤_, _<_, zero-le}
-use native.Mathlib.Nat.{lt-of-lt-of-le, le-refl}
+use mathlib.Core.Path.{_≡_, sym, subst}
+use Prim.Native.Nat.{ℕ, _≤_, _<_}
+use native.Mathlib.Nat.{lt-of-lt-of-le}
 use native.Mathlib.Omega.{arith}
-use lib.IntN.{ℤ, pos, negsuc}
 use lib.Signed.{mag}
 use mir.Syntax.{w32}
 use mir.Val.{SFits}
@@ -15,7 +13,7 @@ use Rattle.arithmetic.proofs.Biased.{bias}
 use Rattle.arithmetic.proofs.Shift.{down, up}
 use Rattle.model.specs.declared.Settings.{Settings}
 use Rattle.model.specs.Ensemble.{Reading, missing, present, Readings, isPresent, ticks}
-use Rattle.model.specs.Steps.{Round, roundOf}
+use Rattle.model.specs.Steps.{roundOf}
 use Rattle.rounds.proofs.Local.{Agree}
 use Rattle.rounds.proofs.Natural.{round-count, round-value}
 use Rattle.rounds.proofs.Represent.{shift-raise}

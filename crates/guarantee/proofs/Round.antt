@@ -6,7 +6,7 @@
 use mathlib.Core.Bool.{Bool, true, false, not, cond, _&&_}
 use mathlib.Core.Logic.{⊎-elim}
 use mathlib.Core.Option.{none}
-use mathlib.Core.Path.{_≡_, refl, sym, ap, ap₂, _∙_, subst, subst⁻¹}
+use mathlib.Core.Path.{_≡_, refl, ap, _∙_, subst, subst⁻¹}
 use Prim.Native.Nat.{ℕ, suc, _+_, _*_, _-_, _≤_, _<_}
 use native.Mathlib.Nat.{le-trans, lt-of-lt-of-le, lt-of-le-of-lt, one-mul}
 use native.Mathlib.Omega.{arith}
@@ -18,7 +18,7 @@ use mir.Syntax.{w32}
 use mir.Val.{SFits}
 use Rattle.arithmetic.specs.Counting.{count}
 use Rattle.arithmetic.proofs.Biased.{bias}
-use Rattle.arithmetic.proofs.Bools.{both-ways, clash}
+use Rattle.arithmetic.proofs.Bools.{clash}
 use Rattle.arithmetic.proofs.Counting.{count-mono}
 use Rattle.arithmetic.proofs.Shift.{down, up, down-up}
 use Rattle.crusaders.proofs.Rows.{faults}
@@ -26,17 +26,17 @@ use Rattle.model.specs.declared.Settings.{Settings}
 use Rattle.model.specs.Ensemble.{Reading, missing, present, isPresent, ticks}
 use Rattle.model.specs.RoundSheet.{cca, median}
 use Rattle.model.specs.AnswerSheet.{answerLength}
-use Rattle.model.specs.Planner.{Plan, ceilDiv, windowFactor, nextWindow, growth, withWindow}
+use Rattle.model.specs.Planner.{ceilDiv, windowFactor, nextWindow, growth, withWindow}
 use Rattle.model.specs.Refusals.{firstOf, settingsChecks}
 use Rattle.model.specs.Calls.{granted}
-use Rattle.model.specs.Steps.{Round, roundOf}
+use Rattle.model.specs.Steps.{roundOf}
 use Rattle.refusals.proofs.Limits.{Limits, limits}
 use Rattle.limits.proofs.Settled as L
-use Rattle.limits.proofs.Settled.{Received, accepts, valueOf, Spread, Settles, Few, Reads, Truth}
+use Rattle.limits.proofs.Settled.{Received, valueOf, Spread, Settles, Few, Reads, Truth}
 use Rattle.limits.proofs.Limits.{accuracy-many, precision-many, unrefused, accuracy-few, precision-few, precision-median}
 use Rattle.guarantee.specs.Guarantee.{IsReading, Station, Sends, Allowed, State, settled, next, bad}
 use Rattle.guarantee.proofs.Distances.{dist-above, dist-below, dist-of, fits-mag}
-use Rattle.guarantee.proofs.Entries.{at, seen, seen-held, seen-held-or-not, seen-alike, seen-reading, entry-fits}
+use Rattle.guarantee.proofs.Entries.{seen, seen-held, seen-held-or-not, seen-alike, seen-reading, entry-fits}
 use Rattle.guarantee.proofs.Link.{settled-refused, settled-granted, settled-value}
 use Rattle.guarantee.proofs.Received.{received, received-count, received-value, value-fits}
 

@@ -12,7 +12,7 @@
 --   MixedRefused              t counts sound cabinets with a bad first reading: at most m are faulty, yet a sound
 --                             cabinet refuses
 --   DirectRounds, CrusadersRounds       FCA and CCA: two rounds, the second settled at the second window
-use mathlib.Core.Bool.{Bool, true, not}
+use mathlib.Core.Bool.{Bool, not}
 use mathlib.Core.List.{List, [], _∷_}
 use mathlib.Core.Path.{_≡_}
 use Prim.Native.Nat.{ℕ, _*_, _≤_, _<_}

@@ -1,7 +1,7 @@
 -- The mean of n numbers to the nearest, a half going up: how it moves with the sum.
 -- Assumes nothing.
 use mathlib.Core.Path.{_≡_, ap, _∙_}
-use Prim.Native.Nat.{ℕ, _+_, _*_, _-_, _/_, _≤_, _<_}
+use Prim.Native.Nat.{ℕ, _+_, _*_, _/_, _≤_, _<_}
 use native.Mathlib.Nat.{div-mul-le-self, lt-div-mul-add, add-mul-div-right, div-eq-of-lt, mul-comm, mul-assoc, mul-le-mul-right}
 use native.Mathlib.Omega.{arith}
 use Rattle.arithmetic.proofs.Division.{div-mono}

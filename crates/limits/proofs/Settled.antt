@@ -12,8 +12,6 @@ use Prim.Native.Nat.{ℕ, _+_, _*_, _-_, _≤_, _<_}
 use Rattle.arithmetic.specs.Counting.{count}
 use Rattle.arithmetic.proofs.Sums.{total}
 use Rattle.rounds.proofs.Shifted.{accepted-nat, estimate-nat, used-nat, mean-nat}
-use Rattle.limits.proofs.Estimates.{Between, used-within}
-use Rattle.limits.proofs.Means.{mean-above, mean-below}
 
 -- pres says which readings x are present; k is what a search that finds nothing answers; kind is the estimator's number
 pub record Received : Type 0 where
@@ -78,14 +76,3 @@ pub record Reads (n : ℕ) (good : ℕ → Bool) (g : ℕ → ℕ) (v : Received
 pub record Truth (n : ℕ) (good : ℕ → Bool) (g : ℕ → ℕ) (T κ : ℕ) : Type 0 where
   pub above : (r : ℕ) → r < n → good r ≡ true → g r ≤ T + κ
   pub below : (r : ℕ) → r < n → good r ≡ true → T ≤ g r + κ
-
--- the new value lies between any bounds that the accepted readings have
-pub value-within : (n m w : ℕ) (v : Received) (a b : ℕ) → 0 < n → 0 < count (accepts n m w v) n → ((r : ℕ) → r < n → accepts n m w v r ≡ true → a ≤ v .x r) → ((r : ℕ) → r < n → accepts n m w v r ≡ true → v .x r ≤ b) → Between a b (valueOf n m w v)
-value-within n m w v a b some-n ok low high =
-    record {
-      low = mean-above n some-n (usedOf n m w v) a (λ r l. used r l .low);
-      high = mean-below n some-n (usedOf n m w v) b (λ r l. used r l .high);
-    }
-  where
-    used : (r : ℕ) → r < n → Between a b (usedOf n m w v r)
-    used r l = used-within (accepts n m w v) n (v .x) ok a b low high (v .k) (v .kind) r l

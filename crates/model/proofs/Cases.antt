@@ -1,6 +1,6 @@
 -- Document 01's worked cases hold of the definitions: the checker computes each answer.
 -- Assumes nothing.
-use mathlib.Core.List.{List, map}
+use mathlib.Core.List.{map}
 use mathlib.Core.Path.{_≡_, refl}
 use Rattle.arithmetic.specs.Counting.{count, any, lowest, sum}
 use Rattle.arithmetic.specs.Writing.{table}
@@ -10,7 +10,7 @@ use Rattle.model.specs.Planner.{ceilDiv, windowFactor, nextWindow, growt
 use Rattle.model.specs.Refusals.{firstOf, tooShort, badCabinets, badFaults, badMethod, badWindow, badLength, noRoom, badMark, badMissing, tooManyFaults, badPlan, targetMissed, settingsChecks, sheetChecks, entryChecks, rowChecks, settleChecks, targetChecks}
 use Rattle.model.specs.Calls.{row}
 use Rattle.model.specs.Listing.{digits, line, cabinetLines, roundText, refusalText, listing}
-use Rattle.model.specs.Cases.{Answer, Case, cases, ask, ofRound, sheet1, listing1, sheet10, rowsShown, rowsWanted}
+use Rattle.model.specs.Cases.{Case, cases, ask, ofRound, sheet1, listing1, sheet10, rowsShown, rowsWanted}
 
 -- cases 1 to 12
 pub rounds-on-paper : map (λ (k : Case). ask (k .asks)) cases ≡ map (λ (k : Case). k .answer) cases

@@ -2,9 +2,9 @@
 --   Verdict                    what is granted, or the refusal
 --   read, write, row, settle   the reader, the writer, the row accessor, settling
 --   plan, step, Target         the planner, its step, the count for a target
-use mathlib.Core.Bool.{Bool, cond}
+use mathlib.Core.Bool.{cond}
 use mathlib.Core.List.{List, []}
-use mathlib.Core.Option.{Option, none, some}
+use mathlib.Core.Option.{none, some}
 use mathlib.Core.Path.{_≡_}
 use Prim.Native.Nat.{ℕ}
 use lib.Dec.{ltb}

@@ -5,14 +5,13 @@
 --   sheet1, listing1 case 1's sheet in bytes, and the listing that document 01 prints for it
 --   rowsShown        what the row accessor shows of case 1's and of case 10's sheet
 use mathlib.Core.List.{List, [], _∷_, map}
-use mathlib.Core.Option.{Option, none, some}
+use mathlib.Core.Option.{none, some}
 use Prim.Native.Nat.{ℕ, _-_}
-use lib.ListN.{length, getD}
+use lib.ListN.{getD}
 use lib.IntN.{ℤ, pos, negsuc}
 use Rattle.model.specs.declared.Settings.{Settings}
-use Rattle.model.specs.declared.Refusal.{Refusal}
 use Rattle.model.specs.Ensemble.{Reading, missing, present, ticks}
-use Rattle.model.specs.RoundSheet.{fca, cca, average, median, midpoint, sheetBytes}
+use Rattle.model.specs.RoundSheet.{fca, cca, median, midpoint, sheetBytes}
 use Rattle.model.specs.Steps.{Decision, decided, knownFaulty, decide, Round, readingsOf, roundOf}
 use Rattle.model.specs.Planner.{planFrom, after}
 use Rattle.model.specs.Refusals.{Row, firstOf, tooManyFaults, targetChecks}

@@ -2,14 +2,13 @@
 --   decimal, signed    a number in decimal digits, without leading zeros; a minus sign before a negative one
 --   line               fields parted by one space, ended by a line feed
 --   listing            the whole text for the bytes of a sheet
-use mathlib.Core.Bool.{Bool, true, false}
+use mathlib.Core.Bool.{true, false}
 use mathlib.Core.List.{List, [], _∷_, _++_}
-use mathlib.Core.Option.{Option, none, some}
+use mathlib.Core.Option.{none, some}
 use Prim.Native.Nat.{ℕ, zero, suc, _+_, _/_, _%_}
 use lib.Dec.{ltb}
 use lib.ListN.{replicate, take}
 use lib.IntN.{ℤ, pos, negsuc}
-use Rattle.arithmetic.specs.Writing.{table}
 use Rattle.model.specs.declared.Refusal.{Refusal}
 use Rattle.model.specs.Ensemble.{maxCabinets}
 use Rattle.model.specs.RoundSheet.{settingsAt}

@@ -7,7 +7,7 @@
 --   rowPart                  the part of the sheet that is one cabinet's row of readings
 --   bytes4, readingBytes     a number, and a list of readings, as bytes
 --   sheetBytes               the sheet that settings, marks and readings make
-use mathlib.Core.Bool.{Bool, cond}
+use mathlib.Core.Bool.{cond}
 use mathlib.Core.List.{List, [], _∷_, _++_}
 use Prim.Native.Nat.{ℕ, _+_, _*_, _/_, _%_}
 use lib.Dec.{eqb}

@@ -7,7 +7,7 @@
 --   estimate                  average, median or midpoint of the accepted readings
 --   mean                      to the nearest whole number, a half going up
 --   Round, roundOf, roundAt   what a settled round has; the round of given readings; the round of a sheet
-use mathlib.Core.Bool.{Bool, true, false, cond, _&&_}
+use mathlib.Core.Bool.{Bool, false, cond, _&&_}
 use mathlib.Core.Option.{Option, none, some}
 use Prim.Native.Nat.{ℕ, _+_, _*_, _/_}
 use lib.Dec.{leb, ltb, eqb}
@@ -15,7 +15,7 @@ use lib.IntN.{ℤ, pos, _+ℤ_}
 use lib.Signed.{leZ, ltZ, shrZ}
 use Rattle.arithmetic.specs.Counting.{count, any, lowest, sum, eqZ}
 use Rattle.model.specs.declared.Settings.{Settings}
-use Rattle.model.specs.Ensemble.{Reading, missing, present, Readings, isPresent, ticks, quorum}
+use Rattle.model.specs.Ensemble.{Reading, missing, present, Readings, ticks, quorum}
 use mathlib.Core.List.{List}
 use Rattle.model.specs.RoundSheet.{cca, average, median, settingsAt, entryCount, entryAt}
 

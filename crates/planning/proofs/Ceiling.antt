@@ -1,7 +1,7 @@
 -- Laws of the quotient rounded up.
 -- Assumes nothing.
 use Prim.Native.Nat.{ℕ, suc, _+_, _*_, _-_, _/_, _≤_, _<_}
-use native.Mathlib.Nat.{div-lt-iff-lt-mul, lt-div-mul-add, div-mul-le-self, le-trans, suc-mul, mul-le-mul-left, mul-one}
+use native.Mathlib.Nat.{div-lt-iff-lt-mul, lt-div-mul-add, div-mul-le-self, suc-mul, mul-le-mul-left, mul-one}
 use native.Mathlib.Omega.{arith}
 use Rattle.model.specs.Planner.{ceilDiv}
 
@@ -23,9 +23,6 @@ module _ (n : ℕ) (h : 0 < n) where
   pub ceil-div-near : (a : ℕ) → ceilDiv a n * n < a + n
   unfolding ceilDiv
   ceil-div-near a = omega (arith, div-mul-le-self (a + (n - 1)) n)
-
-  pub ceil-div-mono : {a b : ℕ} → a ≤ b → ceilDiv a n ≤ ceilDiv b n
-  ceil-div-mono {b} l = ceil-div-least (le-trans l (ceil-div-covers b))
 
   pub ceil-div-le : (a : ℕ) → ceilDiv a n ≤ a
   ceil-div-le a =

@@ -13,12 +13,6 @@ unfolding after
 after-add zero k p = ap (λ (i : ℕ). after i p) (zero-add k)
 after-add (suc j) k p = ap (λ (i : ℕ). after i p) (suc-add j k) ∙ ap advance (after-add j k p)
 
--- a round first or last
-pub after-advance : (k : ℕ) (p : Plan) → after k (advance p) ≡ advance (after k p)
-unfolding after
-after-advance zero p = refl
-after-advance (suc k) p = ap advance (after-advance k p)
-
 pub rounds-after : (k : ℕ) (p : Plan) → after k p .rounds ≡ p .rounds + k
 unfolding after advance
 rounds-after zero p = omega arith

@@ -1,21 +1,20 @@
 -- The entries of a sheet in the parts that the code reads: the marks and the readings as sent, and each cabinet's row of copies.
 -- Assumes nothing.
-use mathlib.Core.Bool.{Bool, true, false, cond, _&&_}
+use mathlib.Core.Bool.{true, false, cond, _&&_}
 use mathlib.Core.List.{List}
 use mathlib.Core.Path.{_≡_, refl, sym, ap, ap₂, _∙_}
 use Prim.Native.Nat.{ℕ, _+_, _*_, _-_, _/_, _≤_, _<_}
-use native.Mathlib.Nat.{div-lt-iff-lt-mul}
 use native.Mathlib.Omega.{arith}
-use borrow.Author.Tests.{eq-eqb, ne-eqb, lt-ltb, le-ltb, le-leb, lt-leb, eqb-true, leb-true, ltb-true}
+use borrow.Author.Tests.{eq-eqb, lt-ltb, le-ltb, le-leb, lt-leb, eqb-true, leb-true, ltb-true}
 use lib.Dec.{eqb, leb, ltb}
-use lib.ListN.{length, getD, take, drop, length-drop}
+use lib.ListN.{length, take, drop, length-drop}
 use lib.Seq.{getD-take, getD-drop, length-take-le}
 use mir.Syntax.{w32}
 use mir.Val.{toZ}
 use Rattle.crusaders.proofs.Decision.{decide-ext}
 use Rattle.crusaders.proofs.Rows.{read-direct, read-decided}
 use Rattle.model.specs.declared.Settings.{Settings}
-use Rattle.model.specs.Ensemble.{Reading, missing, present, quorum}
+use Rattle.model.specs.Ensemble.{missing, present}
 use Rattle.model.specs.RoundSheet.{cca, byte, word, entryCount, entryAt, rowEntries, rowPart}
 use Rattle.model.specs.Steps.{decidedReading, decide, readingsOf}
 use Rattle.sheets.proofs.Words.{word-ext}

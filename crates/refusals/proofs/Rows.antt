@@ -43,9 +43,6 @@ none-left xs ys h = next-none-left (firstOf xs) (firstOf ys) (sym (first-append 
 pub none-right : (xs ys : List Row) → firstOf (xs ++ ys) ≡ none → firstOf ys ≡ none
 none-right xs ys h = next-none-right (firstOf xs) (firstOf ys) (sym (first-append xs ys) ∙ h)
 
-pub none-both : (xs ys : List Row) → firstOf xs ≡ none → firstOf ys ≡ none → firstOf (xs ++ ys) ≡ none
-none-both xs ys a b = rw (first-append, a) b
-
 -- where the first of a list does not refuse, no row of it does
 pub none-at : (rows : List Row) → firstOf rows ≡ none → (i : ℕ) → getD rows i none ≡ none
 unfolding firstOf

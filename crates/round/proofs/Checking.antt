@@ -2,7 +2,7 @@
 -- Assumes nothing.
 use mathlib.Core.List.{List}
 use mathlib.Core.Option.{none, some}
-use mathlib.Core.Path.{_≡_, refl, sym, ap, _∙_}
+use mathlib.Core.Path.{_≡_, sym, ap, _∙_}
 use Prim.Native.Nat.{ℕ, _+_, _*_, _≤_, _<_}
 use borrow.Author.Tests.{lt-ltb}
 use lib.ListN.{length}
@@ -11,7 +11,7 @@ use Rattle.model.specs.declared.Refusal.{Refusal}
 use Rattle.model.specs.RoundSheet.{settingsAt}
 use Rattle.model.specs.AnswerSheet.{answerLength, answerBytes}
 use Rattle.model.specs.Refusals.{Row, refusal, orNext, firstOf, sheetChecks, entryChecks, settleChecks, noRoom, tooManyFaults}
-use Rattle.model.specs.Calls.{Written, writtenAfter, granted, refused, verdict, settle}
+use Rattle.model.specs.Calls.{writtenAfter, granted, refused, verdict, settle}
 use Rattle.model.specs.Steps.{roundAt}
 use Rattle.sheets.proofs.Checks.{room-pass}
 use Rattle.sheets.proofs.Outcomes.{refused-some, granted-none, granted-same, settle-rows}

@@ -1,6 +1,6 @@
 -- Agreement on the naturals that stand for a sheet's readings is the sheet's round.
 -- Assumes nothing.
-use mathlib.Core.Bool.{Bool, true, false, cond, not, _||_}
+use mathlib.Core.Bool.{Bool, true, false, cond}
 use mathlib.Core.List.{List}
 use mathlib.Core.Path.{_≡_, refl, sym, ap, ap₂, _∙_, subst}
 use Prim.Native.Nat.{ℕ, _+_, _*_, _≤_, _<_}
@@ -8,19 +8,17 @@ use native.Mathlib.Nat.{pos-of-ne-zero}
 use native.Mathlib.Omega.{arith}
 use borrow.Author.Tests.{le-ltb, lt-ltb, le-leb, eq-eqb, ne-eqb}
 use lib.Dec.{ltb, eqb}
-use lib.IntN.{ℤ}
 use lib.ListN.{length, getD, take, replicate}
 use lib.Seq.{length-take-le}
 use Rattle.arithmetic.specs.Counting.{count}
 use Rattle.arithmetic.specs.Writing.{table, overwrite}
-use Rattle.arithmetic.proofs.Bools.{clash}
 use Rattle.arithmetic.proofs.Shift.{down}
-use Rattle.arithmetic.proofs.Writing.{getD-table, length-table}
+use Rattle.arithmetic.proofs.Writing.{length-table}
 use Rattle.model.specs.declared.Settings.{Settings}
-use Rattle.model.specs.Ensemble.{Reading, missing, present, Readings, quorum}
+use Rattle.model.specs.Ensemble.{Readings, quorum}
 use Rattle.model.specs.RoundSheet.{settingsAt, entryCount, entryAt}
-use Rattle.model.specs.Steps.{readingsOf, acceptedAt, markOf, Round, roundOf, roundAt}
-use Rattle.rounds.proofs.Local.{Agree, Alike, accepted-local, answer-local}
+use Rattle.model.specs.Steps.{readingsOf, acceptedAt, roundOf, roundAt}
+use Rattle.rounds.proofs.Local.{Agree, Alike, answer-local}
 use Rattle.rounds.proofs.Natural.{accepted-present}
 use Rattle.rounds.proofs.Shifted.{shifted}
 use Rattle.estimates.specs.Values.{valueAt, presentAt, nothing}
@@ -29,11 +27,11 @@ use Rattle.agreement.specs.Values.{keptValue, keptAt, keptOf, agreedOf, countOf
 use Rattle.agreement.proofs.Agreeing.{kept-at, kept-present}
 use Rattle.estimates.specs.declared.Estimated.{Estimated}
 use Rattle.agreement.proofs.Rounds.{count-of-round, mark-of-round, estimate-of-round, value-of-round, used-of-round}
-use mathlib.Core.Option.{none, some}
+use mathlib.Core.Option.{none}
 use Rattle.arithmetic.proofs.Bools.{and-intro}
 use Rattle.model.specs.Refusals.{refusal, firstOf, sheetChecks, tooManyFaults}
 use Rattle.model.specs.AnswerSheet.{answerBytes}
-use Rattle.model.specs.Calls.{Written, granted, refused}
+use Rattle.model.specs.Calls.{granted, refused}
 use Rattle.refusals.proofs.Limits.{Limits, limits}
 use Rattle.sheets.proofs.Checks.{settings-passed, sheet-length-passed}
 use Rattle.reception.specs.Standing.{Received, fitting, Filled}

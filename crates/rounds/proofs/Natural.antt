@@ -1,18 +1,17 @@
 -- The round of readings that are naturals moved down is the round of the naturals, moved down.
 -- Assumes nothing.
 use mathlib.Core.Bool.{Bool, true, _&&_}
-use mathlib.Core.Path.{_≡_, refl, sym, ap, _∙_}
-use Prim.Native.Nat.{ℕ, _-_, _<_}
+use mathlib.Core.Path.{_≡_, refl, ap, _∙_}
+use Prim.Native.Nat.{ℕ, _<_}
 use lib.Dec.{leb}
-use lib.IntN.{ℤ}
-use Rattle.arithmetic.specs.Counting.{count, any, sum}
+use Rattle.arithmetic.specs.Counting.{count}
 use Rattle.arithmetic.proofs.Bools.{and-left, and-right}
 use Rattle.arithmetic.proofs.Counting.{count-ext, any-some}
 use Rattle.arithmetic.proofs.Shift.{down}
 use Rattle.arithmetic.proofs.Sums.{total, sum-ext, sum-down}
 use Rattle.model.specs.declared.Settings.{Settings}
 use Rattle.model.specs.Ensemble.{Readings, quorum}
-use Rattle.model.specs.Steps.{accepted, acceptedAt, estimate, mean, usedValue, Round, roundOf}
+use Rattle.model.specs.Steps.{acceptedAt, estimate, mean, roundOf}
 use Rattle.rounds.proofs.Local.{Agree, Alike, round-local, estimate-local}
 use Rattle.rounds.proofs.Shifted.{shifted, spans, accepted-nat, accepted-shifted, estimate-nat, estimate-shifted, mean-nat, mean-down, used-nat, used-shifted}
 

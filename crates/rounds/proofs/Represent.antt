@@ -1,14 +1,12 @@
 -- Any readings of n cabinets are naturals moved down, far enough.
 -- Assumes nothing.
-use mathlib.Core.Bool.{Bool, true, false}
 use mathlib.Core.Path.{_≡_, refl, sym, ap}
 use Prim.Native.Nat.{ℕ, zero, suc, _+_, _≤_, _<_}
 use native.Mathlib.Nat.{le-trans, not-suc-le-zero}
 use native.Mathlib.Omega.{arith}
-use lib.IntN.{ℤ, pos, negsuc}
 use lib.Signed.{mag}
 use Rattle.arithmetic.proofs.Counting.{split-last}
-use Rattle.arithmetic.proofs.Shift.{down, up, down-up}
+use Rattle.arithmetic.proofs.Shift.{up, down-up}
 use Rattle.model.specs.Ensemble.{Reading, missing, present, Readings, isPresent, ticks}
 use Rattle.rounds.proofs.Shifted.{shift, shifted}
 use Rattle.rounds.proofs.Local.{Agree}

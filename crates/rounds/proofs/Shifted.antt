@@ -4,22 +4,22 @@
 -- Assumes nothing.
 use mathlib.Core.Bool.{Bool, true, false, cond, _&&_}
 use mathlib.Core.Option.{Option, none, some}
-use mathlib.Core.Path.{_≡_, refl, sym, ap, ap₂, _∙_, subst}
-use Prim.Native.Nat.{ℕ, zero, suc, _+_, _*_, _-_, _/_, _≤_, _<_}
+use mathlib.Core.Path.{_≡_, refl, sym, ap, ap₂, _∙_}
+use Prim.Native.Nat.{ℕ, zero, suc, _+_, _*_, _/_, _<_}
 use native.Mathlib.Nat.{zero-mul, suc-mul, add-zero, mul-comm, mul-assoc}
 use native.Mathlib.Numerals.{add-one}
 use native.Mathlib.Omega.{arith}
 use lib.Dec.{leb, ltb, eqb}
 use lib.IntN.{ℤ, pos, _+ℤ_}
 use lib.Signed.{leZ, ltZ, shrZ}
-use Rattle.arithmetic.specs.Counting.{bit, count, any, lowest, sum, eqZ}
-use Rattle.arithmetic.proofs.Bools.{clash, and-left, and-right}
+use Rattle.arithmetic.specs.Counting.{bit, count, any, lowest, sum}
+use Rattle.arithmetic.proofs.Bools.{and-left}
 use Rattle.arithmetic.proofs.Counting.{count-ext, any-ext, lowest-ext, lowest-found}
-use Rattle.arithmetic.proofs.Shift.{down, down-cong, pos-down, le-down, lt-down, eq-down, add-down, add-pos-down, shr-down}
-use Rattle.arithmetic.proofs.Sums.{total, total-ext, sum-ext, sum-down}
+use Rattle.arithmetic.proofs.Shift.{down, down-cong, pos-down, le-down, lt-down, add-down, add-pos-down, shr-down}
+use Rattle.arithmetic.proofs.Sums.{total}
 use Rattle.model.specs.Ensemble.{Reading, missing, present, Readings, ticks}
 use Rattle.model.specs.RoundSheet.{average, median}
-use Rattle.model.specs.Steps.{same, inside, within, accepted, numbered, ticksAt, averageOf, medianOf, midpointOf, estimate, mean, usedValue, markOf}
+use Rattle.model.specs.Steps.{within, accepted, numbered, ticksAt, averageOf, medianOf, midpointOf, estimate, mean, usedValue}
 
 -- the reading of one cabinet
 abbrev pub shift : ℕ → Bool → ℕ → Reading

@@ -57,9 +57,6 @@ pub word-append-right : (p q : List ℕ) (k i : ℕ) → length p ≡ k → word
 word-append-right p q k i e =
     word-ext (p ++ q) q (k + i) i (λ b h. ap (byte (p ++ q)) (add-assoc k i b) ∙ byte-append-right p q k (i + b) e)
 
-pub word-append-left : (p q : List ℕ) (i : ℕ) → i + 4 ≤ length p → word (p ++ q) i ≡ word p i
-word-append-left p q i h = word-ext (p ++ q) p i i (λ b l. byte-append-left p q (i + b) (omega arith))
-
 -- past the end every byte is 0
 pub word-past : (s : List ℕ) (i : ℕ) → length s ≤ i → word s i ≡ 0
 unfolding word

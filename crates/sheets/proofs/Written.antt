@@ -21,7 +21,6 @@ use Rattle.model.specs.Ensemble.{Reading, missing, present}
 use Rattle.model.specs.RoundSheet.{word, settingsAt, entryCount, sheetLength, markAt, bitsAt, entryAt, bytes4, readingBytes, sizeBytes, sheetBytes}
 use Rattle.model.specs.Refusals.{firstOf, settingsChecks, sheetChecks, entryChecks}
 use Rattle.model.specs.Calls.{marksOf, ticksOf}
-use Rattle.refusals.proofs.Rows.{none-both}
 use Rattle.sheets.proofs.Checks.{sheet-pass, sheet-entries-pass}
 use Rattle.refusals.proofs.Limits.{limits}
 use Rattle.sheets.proofs.Words.{digits4, byte-append-left, byte-append-right, word-append-right}
@@ -159,6 +158,3 @@ module _ (c : Settings) (marks : List ℕ) (readings : List ℤ) (w : WellFormed
           (e : ℕ) → e < entryCount c → markAt (sheetBytes c marks readings) e ≡ 0
           → bitsAt (sheetBytes c marks readings) (entryCount c) e ≡ 0
       missing-fine e h m = bits-back e h ∙ ap (ofZ w32) (w .missingZero e h (sym (mark-back e h) ∙ m))
-
-  pub written-passes : firstOf (sheetChecks (sheetBytes c marks readings) ++ entryChecks (sheetBytes c marks readings)) ≡ none
-  written-passes = none-both (sheetChecks (sheetBytes c marks readings)) (entryChecks (sheetBytes c marks readings)) sheet-passes entries-pass

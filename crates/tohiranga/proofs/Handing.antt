@@ -1,6 +1,6 @@
 -- What is handed over for a verdict, on plain values.
 -- Assumes nothing.
-use mathlib.Core.Path.{_≡_, refl, sym, ap, ap₂, _∙_}
+use mathlib.Core.Path.{_≡_, ap, ap₂, _∙_}
 use Prim.Native.Nat.{ℕ}
 use Rattle.model.specs.declared.Refusal.{Refusal}
 use Rattle.model.specs.declared.Settings.{Settings}
@@ -8,7 +8,6 @@ use Rattle.model.specs.RoundSheet.{entryCount}
 use Rattle.model.specs.Planner.{Plan}
 use Rattle.model.specs.Calls.{Verdict, granted, refused, Target}
 use Rattle.tohiranga.specs.declared.Sizes.{Sizes}
-use Rattle.tohiranga.specs.declared.Schedule.{Schedule}
 use Rattle.tohiranga.specs.declared.Opening.{Opening}
 use Rattle.tohiranga.specs.declared.Planning.{Planning}
 use Rattle.tohiranga.specs.Answers.{packedRefusal, packed, sizesOf, noSizes, openingOf, planningOf, Fits}

@@ -4,7 +4,7 @@ ghost use Prim.Native.Nat.{_+_, _/_, _%_, _≤_};
 ghost use lib.ListN.{length};
 ghost use Rattle.model.specs.Calls.{settle, read, write, row, plan, step};
 ghost use Rattle.planner.specs.Answers.{verdictOf};
-ghost use Rattle.tohiranga.specs.Answers.{packedRefusal, packed, settingsOf, sizesOf, planOf, scheduleOf, noSizes, noSchedule, openingOf, planningOf, partIn, Fits};
+ghost use Rattle.tohiranga.specs.Answers.{packedRefusal, packed, settingsOf, sizesOf, planOf, noSizes, openingOf, planningOf, partIn, Fits};
 use inspection::Opened;
 use model::Refusal;
 use model::Settings;

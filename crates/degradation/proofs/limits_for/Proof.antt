@@ -1,7 +1,7 @@
 -- `degradation::limits_for` meets its contract: a refusal of the planner stands, and else `bound` answers.
 -- Assumes nothing.
 use borrow.Author.Needs.{needs}
-use mathlib.Core.Path.{_≡_, sym, ap, _∙_}
+use mathlib.Core.Path.{sym, ap, _∙_}
 use Rattle.planner.specs.Answers.{verdictOf}
 use Rattle.planning.proofs.Steps.{plan-granted-row, plan-refused-row}
 use Rattle.degradation.proofs.Stating.{stated-refused, stated-bounds}

@@ -1,7 +1,7 @@
 -- The limits are reached: the claims of specs/Witnesses.antt, computed from the first readings to the last byte.
 -- Assumes nothing.
 use mathlib.Core.List.{[], _∷_}
-use mathlib.Core.Path.{_≡_, refl}
+use mathlib.Core.Path.{refl}
 use lib.Dec.{lit<}
 use lib.IntN.{pos}
 use Rattle.arithmetic.specs.Counting.{count, any, lowest, sum}

@@ -1,10 +1,9 @@
 -- `numerals::grow` meets its contract: it stops as the definition does, and else nothing wraps.
 -- Assumes nothing.
 use borrow.Author.Needs.{needs}
-use mathlib.Core.Path.{_≡_, sym, _∙_}
-use mathlib.Core.Bool.{false}
+use mathlib.Core.Path.{sym, _∙_}
 use native.Mathlib.Omega.{arith}
-use Rattle.numerals.proofs.Digits.{stop, Digit, goes-on, grown-stops, grown-next}
+use Rattle.numerals.proofs.Digits.{goes-on, grown-stops, grown-next}
 use Rattle.numerals.proofs.grow.Statement.{statement}
 use Rattle.numerals.proofs.grow.Tie as tie
 

@@ -1,7 +1,6 @@
 -- `numerals::number_in` meets its contract: the value is the number of the characters passed; the measure is those left.
 -- Assumes nothing.
 use borrow.Author.Needs.{needs}
-use native.Mathlib.Omega.{arith}
 use Prim.Native.Nat.{_-_}
 use lib.ListN.{length}
 use Rattle.numerals.proofs.Digits.{Leads, leads-none, leads-on, numeral-none, numeral-all}

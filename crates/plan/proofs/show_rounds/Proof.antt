@@ -1,7 +1,6 @@
 -- `plan::show_rounds` is safe and ends: the measure is the rounds that are left. Nothing has to hold from turn to turn.
 -- Assumes nothing.
 use borrow.Author.Needs.{needs}
-use native.Mathlib.Omega.{arith}
 use Prim.Native.Nat.{_-_}
 use Rattle.plan.proofs.show_rounds.Statement.{statement}
 use Rattle.plan.proofs.show_rounds.Tie as tie

@@ -1,10 +1,9 @@
 -- `reception::receive` meets its contract: the tests say whether the sizes fit, and each rule's parts of the sheet hold its entries.
 -- Assumes nothing.
 use borrow.Author.Tests.{not-true, not-false, eq-eqb, ne-eqb}
-use mathlib.Core.Path.{_≡_, refl, sym, ap, _∙_}
+use mathlib.Core.Path.{refl, sym, _∙_}
 use native.Mathlib.Omega.{arith}
-use Prim.Native.Nat.{ℕ, _+_, _*_, _-_, _≤_}
-use lib.ListN.{length, take, drop}
+use lib.ListN.{length}
 use Rattle.reception.proofs.Sheets.{Fit, fit, entries-relayed, entries-direct, marks-long, row-long, direct-cut, relayed-received}
 use borrow.Author.Needs.{needs}
 use Rattle.reception.proofs.receive.Statement.{statement}

@@ -2,9 +2,9 @@
 -- cabinet is past N.
 -- Assumes nothing.
 use borrow.Author.Needs.{needs}
-use mathlib.Core.Path.{refl, sym, ap, _∙_}
+use mathlib.Core.Path.{sym, ap, _∙_}
 use native.Mathlib.Omega.{arith}
-use Rattle.model.specs.RoundSheet.{settingsAt, entryCount, rowEntries}
+use Rattle.model.specs.RoundSheet.{settingsAt}
 use Rattle.model.specs.Refusals.{firstOf, rowChecks}
 use Rattle.inspection.specs.Answers.{openedAs}
 use Rattle.sheets.proofs.Outcomes.{refused-some, row-refused}

@@ -1,15 +1,13 @@
 -- The estimate and the new value of the kept readings are those of the accepted ones; and what each `return` of `agree` answers.
 -- Assumes nothing.
-use mathlib.Core.Bool.{Bool, true, false, cond, _&&_}
+use mathlib.Core.Bool.{Bool, true, false, cond, _&&_, _||_}
 use mathlib.Core.List.{List}
-use mathlib.Core.Logic.{inl}
 use mathlib.Core.Option.{Option, none, some}
 use mathlib.Core.Path.{_≡_, refl, sym, ap, ap₂, _∙_}
 use Prim.Native.Nat.{ℕ, _+_, _/_, _≤_, _<_}
-use native.Mathlib.Omega.{arith}
-use borrow.Author.Tests.{le-ltb, lt-ltb, eq-eqb, ne-eqb}
+use borrow.Author.Tests.{eq-eqb, ne-eqb, ltb-false}
 use lib.Dec.{leb, ltb, eqb}
-use lib.ListN.{length, getD, replicate, getD-replicate}
+use lib.ListN.{length, getD}
 use Rattle.arithmetic.specs.Counting.{count, lowest}
 use Rattle.arithmetic.specs.Writing.{table, overwrite}
 use Rattle.arithmetic.proofs.Bools.{and-left}
@@ -21,7 +19,8 @@ use Rattle.rounds.proofs.Shifted.{is-numbered, nat-at, numbered-nat, average-na
 use Rattle.estimates.specs.Values.{valueAt, presentAt, usedAt, newValueOf, evaluatedOf, nothing}
 use Rattle.estimates.specs.Values.{estimateOf as estimateOfPresent}
 use Rattle.estimates.specs.declared.Estimated.{Estimated}
-use Rattle.agreement.specs.Values.{acceptedAt, Remembered, keptValue, keptAt, keptOf, countOf, estimateOf, valueOf, agreedOf}
+use Rattle.acceptance.specs.Values.{acceptedAt, countOf, unfit, countIn, flagsOf}
+use Rattle.agreement.specs.Values.{keptValue, keptAt, keptOf, estimateOf, valueOf, agreedOf}
 use Rattle.agreement.proofs.Kept.{struck, struck-kept}
 
 -- two conjunctions are equal where their first parts are, and the second where the first passes
@@ -71,6 +70,10 @@ module _ (acc bcc : ℕ → Bool) (n : ℕ) (x y : ℕ → ℕ) (both : (r : ℕ
       (ap (λ (c : ℕ). numbered-nat k acc n x ((c + 1) / 2)) count-same ∙ numbered-same k ((count bcc n + 1) / 2))
       (ap₂ (λ (a b : ℕ). (a + b) / 2) (numbered-same k 1)
       (ap (numbered-nat k acc n x) count-same ∙ numbered-same k (count bcc n))))
+
+or-same : (b : Bool) → (b || b) ≡ b
+or-same true = refl
+or-same false = refl
 
 -- what is struck out is not present
 struck-out : (p : Bool) → ltb (cond p 4294967297 4294967296) 4294967296 ≡ false
@@ -122,47 +125,73 @@ module _ (w need : ℕ) (s : List ℕ) where
   answer n e v = cond (eqb n 0) nothing (record { count = n; estimate = e; value = v })
 
   -- the evaluation of what is kept is that of the accepted readings
-  evaluated-kept : (kind : ℕ) → length s ≤ 64 → evaluatedOf kind kept ≡ agreedOf w need kind s
+  evaluated-kept : (kind : ℕ) → ltb 64 (length s) ≡ false → evaluatedOf kind kept ≡ agreedOf w need kind s
   unfolding evaluatedOf estimateOfPresent newValueOf agreedOf answer
   evaluated-kept kind few =
-      rw (length-kept, le-ltb 64 (length s) few)
+      rw (length-kept, few)
       (ap₂ (λ (n e : ℕ). answer n e (mean-nat (length s) (total (usedAt kept e) (length s)))) count-kept (estimate-kept kind)
       ∙ ap (answer (countOf w need s) (estimateOf w need kind s)) (value-kept (estimateOf w need kind s)))
 
-  -- ---- what `agree` answers
+  -- ---- what `agree` answers, by what `accept` told it with 64 flags
 
-  pub agreed-many : (kind : ℕ) → 64 < length s → nothing ≡ agreedOf w need kind s
-  unfolding agreedOf
-  agreed-many kind h = rw (lt-ltb 64 (length s) h)
+  module _ (flags₀ : List Bool) (wide : length flags₀ ≡ 64) where
+    unfit-many : unfit s flags₀ ≡ ltb 64 (length s)
+    unfit-many = ap (λ (k : ℕ). ltb 64 (length s) || ltb k (length s)) wide ∙ or-same (ltb 64 (length s))
 
-  pub kept-many : 64 < length s → s ≡ keptOf w need s
-  unfolding keptOf
-  kept-many h = rw (lt-ltb 64 (length s) h)
+    count-many : ltb 64 (length s) ≡ true → countIn w need s flags₀ ≡ 0
+    unfolding countIn
+    count-many t = rw (unfit-many ∙ t)
 
-  module _ (few : length s ≤ 64) (n : ℕ) (counted : n ≡ countOf w need s) where
-    pub agreed-none : (kind : ℕ) → n ≡ 0 → nothing ≡ agreedOf w need kind s
-    unfolding agreedOf
-    agreed-none kind e = rw (le-ltb 64 (length s) few, eq-eqb (countOf w need s) 0 (sym counted ∙ e))
+    count-few : ltb 64 (length s) ≡ false → countIn w need s flags₀ ≡ countOf w need s
+    unfolding countIn
+    count-few t = rw (unfit-many ∙ t)
 
-    pub kept-none : n ≡ 0 → s ≡ keptOf w need s
-    unfolding keptOf
-    kept-none e = rw (le-ltb 64 (length s) few, eq-eqb (countOf w need s) 0 (sym counted ∙ e))
+    flags-few : ltb 64 (length s) ≡ false → flagsOf w need s flags₀ ≡ overwrite (table (acceptedAt w need s) (length s)) flags₀
+    unfolding flagsOf
+    flags-few t = rw (unfit-many ∙ t)
 
-    -- the lists as the calls left them
-    module _ (some : n ≡ 0 → ⊥) (flags₀ flags : List Bool) (values : List ℕ) (tested : flags ≡ overwrite (table (acceptedAt w need s) (length s)) flags₀) (struck-as : values ≡ table (struck flags s) (length s)) where
-      kept-as : values ≡ kept
-      kept-as =
-          struck-as
-          ∙ ap (λ (f : List Bool). table (struck f s) (length s)) tested
-          ∙ struck-kept w need s flags₀
+    module _ (n : ℕ) (counted : n ≡ countIn w need s flags₀) where
+      -- nothing is accepted, or there are too many readings
+      module _ (none : n ≡ 0) where
+        pub agreed-none : (kind : ℕ) → nothing ≡ agreedOf w need kind s
+        unfolding agreedOf
+        agreed-none kind = go (ltb 64 (length s)) refl
+          where
+            go : (b : Bool) → ltb 64 (length s) ≡ b → nothing ≡ agreedOf w need kind s
+            go true t = rw t
+            go false t = rw (t, eq-eqb (countOf w need s) 0 (sym (count-few t) ∙ sym counted ∙ none))
 
-      pub kept-some : values ≡ keptOf w need s
-      unfolding keptOf
-      kept-some = kept-as ∙ rw (le-ltb 64 (length s) few, ne-eqb (countOf w need s) 0 (λ z. some (counted ∙ z)))
+        pub kept-none : s ≡ keptOf w need s
+        unfolding keptOf
+        kept-none = go (ltb 64 (length s)) refl
+          where
+            go : (b : Bool) → ltb 64 (length s) ≡ b → s ≡ keptOf w need s
+            go true t = rw t
+            go false t = rw (t, eq-eqb (countOf w need s) 0 (sym (count-few t) ∙ sym counted ∙ none))
 
-      pub agreed-some : (kind : ℕ) (a : Estimated) → a ≡ evaluatedOf kind values → a ≡ agreedOf w need kind s
-      agreed-some kind a e = e ∙ ap (evaluatedOf kind) kept-as ∙ evaluated-kept kind few
+      -- something is accepted
+      module _ (some : n ≡ 0 → ⊥) where
+        few : ltb 64 (length s) ≡ false
+        few = go (ltb 64 (length s)) refl
+          where
+            go : (b : Bool) → ltb 64 (length s) ≡ b → ltb 64 (length s) ≡ false
+            go true t = absurd (some (counted ∙ count-many t))
+            go false t = t
 
--- nothing is remembered of any start
-pub remember-none : (w need : ℕ) (s : List ℕ) → length s ≤ 64 → Remembered w need s (replicate 64 0)
-remember-none w need s few a l = inl (getD-replicate 64 a 0 0 (omega arith))
+        pub few-readings : length s ≤ 64
+        few-readings = ltb-false 64 (length s) few
+
+        -- the lists as the calls left them
+        module _ (flags : List Bool) (values : List ℕ) (tested : flags ≡ flagsOf w need s flags₀) (struck-as : values ≡ table (struck flags s) (length s)) where
+          kept-as : values ≡ kept
+          kept-as =
+              struck-as
+              ∙ ap (λ (f : List Bool). table (struck f s) (length s)) (tested ∙ flags-few few)
+              ∙ struck-kept w need s flags₀
+
+          pub kept-some : values ≡ keptOf w need s
+          unfolding keptOf
+          kept-some = kept-as ∙ rw (few, ne-eqb (countOf w need s) 0 (λ z. some (counted ∙ count-few few ∙ z)))
+
+          pub agreed-some : (kind : ℕ) (a : Estimated) → a ≡ evaluatedOf kind values → a ≡ agreedOf w need kind s
+          agreed-some kind a e = e ∙ ap (evaluatedOf kind) kept-as ∙ evaluated-kept kind few

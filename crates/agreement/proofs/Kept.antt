@@ -1,81 +1,18 @@
--- The readings tested one after the other, and those that are not accepted struck out in their place.
+-- The readings that are not accepted, struck out in their place.
 -- Assumes nothing.
 use mathlib.Core.Bool.{Bool, false}
 use mathlib.Core.List.{List}
-use mathlib.Core.Path.{_≡_, refl, sym, ap, ap₂, _∙_}
+use mathlib.Core.Path.{_≡_, sym, ap, _∙_}
 use Prim.Native.Nat.{ℕ, _+_, _≤_, _<_, zero-le}
 use native.Mathlib.Nat.{add-zero}
 use native.Mathlib.Omega.{arith}
 use lib.ListN.{length, getD, set, drop}
 use lib.Seq.{getD-append-add, getD-drop}
-use mir.Val.{boolByte}
-use Rattle.arithmetic.specs.Counting.{bit, count}
 use Rattle.arithmetic.specs.Writing.{table, overwrite}
-use Rattle.arithmetic.proofs.Counting.{count-le}
 use Rattle.arithmetic.proofs.Writing.{length-table, length-overwrite, getD-table, getD-overwrite, overwrite-whole, table-ext}
-use Rattle.agreement.specs.Values.{acceptedAt, keptValue, keptAt, countOf, Remembered}
-use Rattle.loops.proofs.Loops.{flag, count-next, store-none, store-next, store-ended}
-
-module _ (w need : ℕ) (values : List ℕ) (flags₀ : List Bool) where
-  -- where the readings below r are tested
-  pub record Testing (known : List ℕ) (flags : List Bool) (counted r : ℕ) : Type 0 where
-    pub upTo : r ≤ length values
-    pub few : length values ≤ 64
-    pub long : length known ≡ 64
-    pub room : length values ≤ length flags₀
-    pub memory : Remembered w need values known
-    pub exact : counted ≡ count (acceptedAt w need values) r
-    pub written : flags ≡ overwrite (table (acceptedAt w need values) r) flags₀
-
-  pub test-none : (known : List ℕ) → length values ≤ 64 → length known ≡ 64 → length values ≤ length flags₀ → Remembered w need values known → Testing known flags₀ 0 0
-  unfolding count
-  test-none known f l s m =
-      record {
-        upTo = zero-le;
-        few = f;
-        long = l;
-        room = s;
-        memory = m;
-        exact = refl;
-        written = store-none (acceptedAt w need values) flags₀;
-      }
-
-  module _ (known : List ℕ) (flags : List Bool) (c r : ℕ) (so-far : Testing known flags c r) where
-    pub flags-long : length flags ≡ length flags₀
-    flags-long =
-        let t = length-table (acceptedAt w need values) r in
-        let e = so-far .room in
-        let u = so-far .upTo in
-        ap length (so-far .written) ∙ length-overwrite (table (acceptedAt w need values) r) flags₀ (omega arith)
-
-    pub test-small : c ≤ 64
-    test-small =
-        let l = count-le (acceptedAt w need values) r in
-        let e = so-far .exact in
-        let u = so-far .upTo in
-        let f = so-far .few in
-        omega arith
-
-    pub test-one : r < length values → (known′ : List ℕ) → length known′ ≡ length known → Remembered w need values known′ → (b : Bool) → b ≡ acceptedAt w need values r → Testing known′ (set flags r b) (c + boolByte b) (r + 1)
-    test-one h known′ l m b e =
-        record {
-          upTo = omega arith;
-          few = so-far .few;
-          long = l ∙ so-far .long;
-          room = so-far .room;
-          memory = m;
-          exact = ap₂ (λ (x y : ℕ). x + y) (so-far .exact) (flag b ∙ ap bit e) ∙ sym (count-next (acceptedAt w need values) r);
-          written = store-next (acceptedAt w need values) r flags₀ flags b (so-far .written) e (omega (arith, so-far .room));
-        }
-
-    pub all-counted : length values ≤ r → c ≡ countOf w need values
-    unfolding countOf
-    all-counted h = let e : r ≡ length values = omega (arith, so-far .upTo) in rw (← e) (so-far .exact)
-
-    pub all-tested : length values ≤ r → flags ≡ overwrite (table (acceptedAt w need values) (length values)) flags₀
-    all-tested h = store-ended (acceptedAt w need values) (length values) r flags₀ flags (so-far .upTo) h (so-far .written)
-
--- ---- striking out
+use Rattle.acceptance.specs.Values.{acceptedAt}
+use Rattle.agreement.specs.Values.{keptValue, keptAt}
+use Rattle.loops.proofs.Loops.{store-none, store-next, store-ended}
 
 -- what comes behind the entries written keeps what it had
 getD-behind : (f : ℕ → ℕ) (r : ℕ) (old : List ℕ) → getD (overwrite (table f r) old) r 0 ≡ getD old r 0

@@ -15,7 +15,8 @@ use Rattle.rounds.proofs.Local.{Agree, round-local}
 use Rattle.rounds.proofs.Natural.{accepted-at, round-count, round-estimate, round-value, round-used}
 use Rattle.rounds.proofs.Shifted.{shift, shifted, accepted-nat, estimate-nat, mean-nat, used-nat}
 use Rattle.estimates.specs.Values.{valueAt, presentAt}
-use Rattle.agreement.specs.Values.{acceptedAt as acceptedNat, countOf, estimateOf, valueOf}
+use Rattle.acceptance.specs.Values.{acceptedAt as acceptedNat, countOf}
+use Rattle.agreement.specs.Values.{estimateOf, valueOf}
 
 module _ (c : Settings) (v : Readings) (s : List ℕ) (size : length s ≡ c .n) (same : Agree (c .n) v (shifted 2147483648 (presentAt s) (valueAt s))) where
   -- the cabinets accepted, of n

@@ -1,36 +1,18 @@
 -- Document 01's steps of a round on a list of naturals: readings moved up by 2^31; a number from 2^32 on is a missing reading.
---   spansAt, acceptedAt    the tests of acceptance
---   enoughAt, Remembered   whether a start's span holds enough; what the memory of counted spans says of each start
 --   keptValue, keptAt, keptOf  what is kept of a reading; the list of it
 --   agreedOf               the accepted count, the estimate and the new value
 use mathlib.Core.Bool.{Bool, cond}
 use mathlib.Core.List.{List}
-use mathlib.Core.Logic.{_⊎_}
-use mathlib.Core.Path.{_≡_}
-use Prim.Native.Nat.{ℕ, _+_, _<_}
-use lib.Dec.{leb, ltb, eqb}
+use Prim.Native.Nat.{ℕ}
+use lib.Dec.{ltb, eqb}
 use lib.ListN.{length, getD}
-use Rattle.arithmetic.specs.Counting.{bit, count}
+use Rattle.arithmetic.specs.Counting.{count}
 use Rattle.arithmetic.specs.Writing.{table}
 use Rattle.arithmetic.proofs.Sums.{total}
-use Rattle.rounds.proofs.Shifted.{spans, accepted-nat, estimate-nat, used-nat, mean-nat}
-use Rattle.estimates.specs.Values.{valueAt, presentAt, nothing}
+use Rattle.rounds.proofs.Shifted.{estimate-nat, used-nat, mean-nat}
+use Rattle.estimates.specs.Values.{valueAt, nothing}
+use Rattle.acceptance.specs.Values.{acceptedAt, countOf}
 use Rattle.estimates.specs.declared.Estimated.{Estimated}
-
--- t's reading lies in the span of width w that starts at a's
-unfoldable pub spansAt : ℕ → List ℕ → ℕ → ℕ → Bool
-spansAt w s a t = spans w (presentAt s) (valueAt s) a t
-
-unfoldable pub acceptedAt : ℕ → ℕ → List ℕ → ℕ → Bool
-acceptedAt w need s r = accepted-nat w (presentAt s) (valueAt s) need (length s) r
-
--- whether the span that starts at a's reading holds enough
-unfoldable pub enoughAt : ℕ → ℕ → List ℕ → ℕ → Bool
-enoughAt w need s a = leb need (count (spansAt w s a) (length s))
-
--- 0 for a start that was not counted, 1 for one that is short, 2 for one that holds enough
-abbrev pub Remembered : ℕ → ℕ → List ℕ → List ℕ → Type 0
-Remembered w need s known = (a : ℕ) → a < length s → (getD known a 0 ≡ 0) ⊎ (getD known a 0 ≡ 1 + bit (enoughAt w need s a))
 
 -- what is kept of a reading: an accepted one as it is, 2^32 + 1 for one that is present and not accepted, 2^32 for a missing one
 abbrev pub keptValue : Bool → ℕ → ℕ
@@ -40,9 +22,6 @@ abbrev pub keptAt : ℕ → ℕ → List ℕ → ℕ → ℕ
 keptAt w need s r = keptValue (acceptedAt w need s r) (getD s r 0)
 
 -- ---- agreement, for lists of at most 64 readings
-
-unfoldable pub countOf : ℕ → ℕ → List ℕ → ℕ
-countOf w need s = count (acceptedAt w need s) (length s)
 
 -- the list is left as it is where nothing is accepted
 unfoldable pub keptOf : ℕ → ℕ → List ℕ → List ℕ

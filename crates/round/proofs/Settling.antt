@@ -22,8 +22,9 @@ use Rattle.rounds.proofs.Local.{Agree, Alike, answer-local}
 use Rattle.rounds.proofs.Natural.{accepted-present}
 use Rattle.rounds.proofs.Shifted.{shifted}
 use Rattle.estimates.specs.Values.{valueAt, presentAt, nothing}
-use Rattle.agreement.specs.Values as agreement
-use Rattle.agreement.specs.Values.{keptValue, keptAt, keptOf, agreedOf, countOf, estimateOf, valueOf}
+use Rattle.acceptance.specs.Values as acceptance
+use Rattle.acceptance.specs.Values.{countOf}
+use Rattle.agreement.specs.Values.{keptValue, keptAt, keptOf, agreedOf, estimateOf, valueOf}
 use Rattle.agreement.proofs.Agreeing.{kept-at, kept-present}
 use Rattle.estimates.specs.declared.Estimated.{Estimated}
 use Rattle.agreement.proofs.Rounds.{count-of-round, mark-of-round, estimate-of-round, value-of-round, used-of-round}
@@ -51,18 +52,18 @@ kept-or true v e = refl
 kept-or false v e = refl
 
 module _ (c : Settings) (v : Readings) (values : List ℕ) (long : length values ≡ c .n) (same : Agree (c .n) v (shifted 2147483648 (presentAt values) (valueAt values))) where
-  accepts-present : (r : ℕ) → agreement.acceptedAt (c .window) (quorum c) values r ≡ true → presentAt values r ≡ true
-  unfolding agreement.acceptedAt
+  accepts-present : (r : ℕ) → acceptance.acceptedAt (c .window) (quorum c) values r ≡ true → presentAt values r ≡ true
+  unfolding acceptance.acceptedAt
   accepts-present r = accepted-present (c .window) (presentAt values) (valueAt values) (quorum c) (length values) r
 
   module _ (some-n : 0 < c .n) (some-acc : 0 < countOf (c .window) (quorum c) values) (kept : List ℕ) (keeps : kept ≡ table (keptAt (c .window) (quorum c) values) (length values)) where
-    kept-here-at : (r : ℕ) → r < c .n → getD kept r 0 ≡ keptValue (agreement.acceptedAt (c .window) (quorum c) values r) (valueAt values r)
+    kept-here-at : (r : ℕ) → r < c .n → getD kept r 0 ≡ keptValue (acceptance.acceptedAt (c .window) (quorum c) values r) (valueAt values r)
     kept-here-at r l = ap (λ (k : List ℕ). getD k r 0) keeps ∙ kept-at (c .window) (quorum c) values r (rw long l)
 
     settled-mark : (r : ℕ) → r < c .n → markIn kept r ≡ roundOf c v .mark r
     settled-mark r l =
         ap (λ (k : ℕ). cond (ltb k 4294967296) 1 (cond (ltb 4294967296 k) 2 0)) (kept-here-at r l)
-        ∙ mark-kept (agreement.acceptedAt (c .window) (quorum c) values r) (valueAt values r) (accepts-present r)
+        ∙ mark-kept (acceptance.acceptedAt (c .window) (quorum c) values r) (valueAt values r) (accepts-present r)
         ∙ sym (mark-of-round c v values long same r l)
 
     settled-used : (r : ℕ) → r < c .n → usedIn kept (estimateOf (c .window) (quorum c) (c .estimator) values) r ≡ roundOf c v .used r
@@ -70,7 +71,7 @@ module _ (c : Settings) (v : Readings) (values : List ℕ) (long : length values
         ap₂ (λ (b : Bool) (x : ℕ). down 2147483648 (cond b x (estimateOf (c .window) (quorum c) (c .estimator) values)))
         (ap (λ (k : List ℕ). presentAt k r) keeps ∙ kept-present (c .window) (quorum c) values r (rw long l))
         (kept-here-at r l)
-        ∙ ap (down 2147483648) (kept-or (agreement.acceptedAt (c .window) (quorum c) values r) (valueAt values r) (estimateOf (c .window) (quorum c) (c .estimator) values))
+        ∙ ap (down 2147483648) (kept-or (acceptance.acceptedAt (c .window) (quorum c) values r) (valueAt values r) (estimateOf (c .window) (quorum c) (c .estimator) values))
         ∙ sym (used-of-round c v values long same some-acc r l)
 
     -- the round that is written is the round of the readings

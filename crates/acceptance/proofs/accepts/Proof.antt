@@ -1,4 +1,4 @@
--- `agreement::accepts` meets its contract. Over starts: those tried do not accept the reading, and the memory is sound. Over readings:
+-- `acceptance::accepts` meets its contract. Over starts: those tried do not accept the reading, and the memory is sound. Over readings:
 -- the count is that of the readings passed, and is short so far. The measures are the starts and the readings left.
 -- Assumes nothing.
 use borrow.Author.Needs.{needs}
@@ -9,11 +9,11 @@ use mathlib.Core.Bool.{Bool}
 use mathlib.Core.Path.{sym, ap, _∙_}
 use Rattle.arithmetic.specs.Counting.{bit}
 use Rattle.arithmetic.proofs.Bools.{and-intro}
-use Rattle.agreement.specs.Values.{spansAt}
+use Rattle.acceptance.specs.Values.{spansAt}
 use mathlib.Core.Logic.{⊎-elim}
-use Rattle.agreement.proofs.Spans.{Tried, Counted, held-small, untried, count-small, tried-holds, start-present, held-spans, begin, count-on, count-enough, pass-counted, pass-untried, known-enough, admitted, not-admitted, remember}
-use Rattle.agreement.proofs.accepts.Statement.{statement}
-use Rattle.agreement.proofs.accepts.Tie as tie
+use Rattle.acceptance.proofs.Spans.{Tried, Counted, held-small, untried, count-small, tried-holds, start-present, held-spans, begin, count-on, count-enough, pass-counted, pass-untried, known-enough, admitted, not-admitted, remember}
+use Rattle.acceptance.proofs.accepts.Statement.{statement}
+use Rattle.acceptance.proofs.accepts.Tie as tie
 
 abbrev Inv-readings : tie.InvT-readings
 Inv-readings values window need known₀ r value found₀ s start mark far count₀ t₀ known found count t =

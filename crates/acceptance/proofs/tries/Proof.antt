@@ -1,13 +1,13 @@
--- `agreement::tries` meets its contract: a difference that wraps is within the window just where the reading lies in the span.
+-- `acceptance::tries` meets its contract: a difference that wraps is within the window just where the reading lies in the span.
 -- Assumes nothing.
 use borrow.Author.Needs.{needs}
 use mathlib.Core.Bool.{Bool, not, _&&_}
 use mathlib.Core.Path.{ap, _∙_}
 use lib.Dec.{eqb, ltb}
-use Rattle.agreement.proofs.Spans.{wrapped-from, tries-within}
+use Rattle.acceptance.proofs.Spans.{wrapped-from, tries-within}
 use native.Mathlib.Omega.{arith}
-use Rattle.agreement.proofs.tries.Statement.{statement}
-use Rattle.agreement.proofs.tries.Tie as tie
+use Rattle.acceptance.proofs.tries.Statement.{statement}
+use Rattle.acceptance.proofs.tries.Tie as tie
 
 wrapping-sub-u64-requires : tie.Need-wrapping-sub-u64-requires
 wrapping-sub-u64-requires c κs = search needs

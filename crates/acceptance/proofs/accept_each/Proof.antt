@@ -1,13 +1,13 @@
--- `agreement::accept_each` meets its contract: the readings passed are tested and counted, and the memory is sound; the measure is the readings left.
+-- `acceptance::accept_each` meets its contract: the readings passed are tested and counted, and the memory is sound; the measure is the readings left.
 -- Assumes nothing.
 use borrow.Author.Needs.{needs}
 use native.Mathlib.Omega.{arith}
 use Prim.Native.Nat.{_-_}
 use lib.ListN.{length}
-use Rattle.agreement.proofs.Kept.{Testing, test-none, test-one, test-small, all-counted, all-tested, flags-long}
+use Rattle.acceptance.proofs.Testing.{Testing, test-none, test-one, test-small, all-counted, all-tested, flags-long}
 use Rattle.loops.proofs.Loops.{flag-small}
-use Rattle.agreement.proofs.accept_each.Statement.{statement}
-use Rattle.agreement.proofs.accept_each.Tie as tie
+use Rattle.acceptance.proofs.accept_each.Statement.{statement}
+use Rattle.acceptance.proofs.accept_each.Tie as tie
 
 abbrev Inv-readings : tie.InvT-readings
 Inv-readings values window need known₀ accepted₀ count₀ r₀ known accepted count r = Testing window need values accepted₀ known accepted count r

@@ -1,14 +1,14 @@
--- `agreement::held` meets its contract: a difference that wraps is within reach just where the reading lies in the span.
+-- `acceptance::held` meets its contract: a difference that wraps is within reach just where the reading lies in the span.
 -- Assumes nothing.
 use borrow.Author.Needs.{needs}
 use mathlib.Core.Path.{ap, _∙_}
 use lib.Dec.{leb}
 use Rattle.arithmetic.specs.Counting.{bit}
 use Rattle.loops.proofs.Loops.{flag}
-use Rattle.agreement.proofs.Spans.{wrapped}
+use Rattle.acceptance.proofs.Spans.{wrapped}
 use native.Mathlib.Omega.{arith}
-use Rattle.agreement.proofs.held.Statement.{statement}
-use Rattle.agreement.proofs.held.Tie as tie
+use Rattle.acceptance.proofs.held.Statement.{statement}
+use Rattle.acceptance.proofs.held.Tie as tie
 
 wrapping-sub-u64-requires : tie.Need-wrapping-sub-u64-requires
 wrapping-sub-u64-requires c κs = search needs

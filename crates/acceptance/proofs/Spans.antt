@@ -20,7 +20,7 @@ use Rattle.rounds.proofs.Shifted.{within-nat, spans, accepted-nat}
 use Rattle.arithmetic.proofs.Bools.{and-false}
 use Rattle.loops.proofs.Loops.{count-next}
 use Rattle.estimates.specs.Values.{valueAt, presentAt}
-use Rattle.agreement.specs.Values.{spansAt, acceptedAt, enoughAt, Remembered}
+use Rattle.acceptance.specs.Values.{spansAt, acceptedAt, enoughAt, Remembered}
 
 pub held-small : (a b far h : ℕ) → h ≡ bit (leb a b && leb b (a + far)) → h ≤ 1
 held-small a b far h e = let l = bit-le-one (leb a b && leb b (a + far)) in omega arith

@@ -4,18 +4,23 @@ use mathlib.Core.Bool.{Bool, true, false, cond}
 use mathlib.Core.List.{List}
 use mathlib.Core.Option.{some}
 use mathlib.Core.Path.{_≡_, refl, sym, ap, _∙_}
-use Prim.Native.Nat.{ℕ, _+_, _*_, _≤_}
+use Prim.Native.Nat.{ℕ, _+_, _*_, _-_, _≤_}
 use native.Mathlib.Nat.{mul-le-mul}
 use native.Mathlib.Omega.{arith}
-use borrow.Author.Tests.{ne-eqb}
+use borrow.Author.Tests.{eq-eqb, ne-eqb}
 use lib.Dec.{eqb}
-use lib.ListN.{length}
+use lib.ListN.{length, drop, length-drop}
+use lib.Seq.{length-take-le}
 use Rattle.model.specs.declared.Settings.{Settings}
-use Rattle.model.specs.RoundSheet.{cca, entryCount, markAt, bitsAt}
+use Rattle.arithmetic.specs.Counting.{lowest}
+use Rattle.model.specs.RoundSheet.{byte, word, cca, entryCount, markAt, bitsAt}
 use Rattle.model.specs.Refusals.{refusal, orNext, firstOf, entryChecks, badLength, badMark, badMissing}
 use Rattle.refusals.proofs.Rows.{next-none}
 use Rattle.sheets.proofs.Checks.{length-pass}
 use Rattle.sheets.proofs.Inspection.{Inspected, entry-rows}
+use Rattle.sheets.specs.Entries.{notZero}
+use Rattle.sheets.proofs.Parts.{marksPart, readingsPart, length-marksPart}
+use Rattle.entries.specs.Answers.{missingIn}
 use Rattle.inspection.specs.Checks.{bodyChecks}
 
 -- sizes of a byte make few entries
@@ -46,3 +51,18 @@ pub body-entries : (s : List ℕ) (c : Settings) → Inspected s c → firstOf (
 body-entries s c i =
     body-rows s c (entryCount c) refl (i .long)
     ∙ sym (entry-rows s (entryCount c) (ap entryCount (sym (i .settings))))
+
+-- the parts of a sheet have four bytes for each mark
+pub parts-missing :
+    (s : List ℕ) (E : ℕ) → length s ≡ 8 + 5 * E
+    → missingIn (marksPart s E) (readingsPart s E)
+    ≡ lowest (λ e. notZero (byte (marksPart s E) e) (word (readingsPart s E) (4 * e))) (length (marksPart s E))
+unfolding missingIn
+parts-missing s E long = rw (eq-eqb (length (readingsPart s E)) (4 * length (marksPart s E)) four)
+  where
+    four : length (readingsPart s E) ≡ 4 * length (marksPart s E)
+    four =
+        let marks = length-marksPart s E long in
+        let d = length-drop (8 + E) s in
+        let readings = length-take-le (length s - (8 + E)) (drop (8 + E) s) (omega arith) in
+        omega arith

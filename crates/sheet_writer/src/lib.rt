@@ -11,12 +11,12 @@ ghost use Rattle.arithmetic.specs.Writing.{overwrite};
 ghost use Rattle.ensemble.specs.Answers.{rowOf};
 ghost use Rattle.model.specs.RoundSheet.{byte, readingBytes, sizeBytes};
 ghost use Rattle.model.specs.Calls.{write};
-ghost use Rattle.inspection.specs.Answers.{foundAs};
+ghost use Rattle.entries.specs.Answers.{foundAs};
 ghost use Rattle.sheets.specs.Entries.{notZero, arrayRows, writeRows};
 ghost use Rattle.sheet_writer.specs.Answers.{writtenAs};
 use ensemble::Screened;
 use ensemble::Tick;
-use inspection::Found;
+use entries::Found;
 use model::Refusal;
 use model::Settings;
 
@@ -56,7 +56,7 @@ fn check_arrays(marks: &[u8], readings: &[i32]) -> Screened
     requires { ⌜ (length (now readings) ≡ length (now marks)) × (length (now marks) ≤ 4096) ⌝ }
     ensures { λ r. ⌜ rowOf r ≡ arrayRows (now (marks .entry)) (now (readings .entry)) (length (now (marks .entry))) ⌝ }
 {
-    match inspection::bad_mark(marks) {
+    match entries::bad_mark(marks) {
         Found::At(e) => Screened::Refused(Refusal {
             number: 8,
             place: e as u32,

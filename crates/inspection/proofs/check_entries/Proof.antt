@@ -7,10 +7,10 @@ use native.Mathlib.Omega.{arith}
 use Prim.Native.Nat.{_≤_}
 use Rattle.model.specs.RoundSheet.{markAt, bitsAt}
 use Rattle.model.specs.Refusals.{orNext, firstOf, badMark, badMissing}
-use Rattle.inspection.specs.Answers.{foundAs}
+use Rattle.entries.specs.Answers.{foundAs}
 use Rattle.inspection.specs.Checks.{bodyChecks}
 use Rattle.sheets.proofs.Parts.{mark-in-range, missing-in-range, parts-mark-refused, parts-missing-refused, parts-pass}
-use Rattle.inspection.proofs.Body.{entries-most, body-length-refused, body-rows}
+use Rattle.inspection.proofs.Body.{entries-most, body-length-refused, body-rows, parts-missing}
 use Rattle.inspection.proofs.check_entries.Statement.{statement}
 use Rattle.inspection.proofs.check_entries.Tie as tie
 
@@ -95,7 +95,7 @@ cast-t25 c =
     let sized = c .before .before .before .before .before .before .before .before .before in
     let bad-missing = c .before .before .before .bad-missing in
     let small = missing-in-range (c .before .before .before .before .before .before .before .before .before .before .before .before .args .sheet .now) (sized .before .entry-count .result) (sized .if1 .left) (c .before .e2 .given .0 .0)
-    (sym (bad-missing .ensures) ∙ ap foundAs (c .before .e2 .given .1)) in
+    (sym (parts-missing (c .before .before .before .before .before .before .before .before .before .before .before .before .args .sheet .now) (sized .before .entry-count .result) (sized .if1 .left)) ∙ sym (bad-missing .ensures) ∙ ap foundAs (c .before .e2 .given .1)) in
     omega (arith, few (sized .before))
 
 enum-told-2 : tie.Need-enum-told-2
@@ -118,7 +118,7 @@ returns-3 c =
     parts-missing-refused (c .before .before .before .before .before .before .before .before .before .before .before .before .args .sheet .now) (sized .before .entry-count .result) (sized .if1 .left)
     (sym (bad-mark .ensures) ∙ ap foundAs (enum-told .given .1))
     (c .before .e2 .given .0 .0)
-    (sym (bad-missing .ensures) ∙ ap foundAs (c .before .e2 .given .1))
+    (sym (parts-missing (c .before .before .before .before .before .before .before .before .before .before .before .before .args .sheet .now) (sized .before .entry-count .result) (sized .if1 .left)) ∙ sym (bad-missing .ensures) ∙ ap foundAs (c .before .e2 .given .1))
     ∙ sym (rows sized)
 
 returns-4 : tie.Need-returns-4
@@ -129,7 +129,7 @@ returns-4 c =
     let bad-missing = c .before .before .bad-missing in
     parts-pass (c .before .before .before .before .before .before .before .before .before .before .before .args .sheet .now) (sized .before .entry-count .result) (sized .if1 .left)
     (sym (bad-mark .ensures) ∙ ap foundAs (enum-told .given .1))
-    (sym (bad-missing .ensures) ∙ ap foundAs (c .enum-told2 .given .1))
+    (sym (parts-missing (c .before .before .before .before .before .before .before .before .before .before .before .args .sheet .now) (sized .before .entry-count .result) (sized .if1 .left)) ∙ sym (bad-missing .ensures) ∙ ap foundAs (c .enum-told2 .given .1))
     ∙ sym (rows sized)
 
 pub check-entries-spec : {M : Type 1} → statement M

@@ -10,7 +10,7 @@ use mir.Syntax.{w32}
 use mir.Val.{ofZ}
 use Rattle.arithmetic.proofs.Counting.{lowest-found}
 use Rattle.model.specs.RoundSheet.{byte}
-use Rattle.inspection.specs.Answers.{foundAs}
+use Rattle.entries.specs.Answers.{foundAs}
 use Rattle.sheets.specs.Entries.{notZero}
 use Rattle.sheets.proofs.Filling.{array-mark-refused, array-missing-refused, arrays-pass}
 use Rattle.sheet_writer.proofs.check_arrays.Statement.{statement}

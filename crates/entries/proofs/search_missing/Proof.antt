@@ -1,4 +1,4 @@
--- `inspection::bad_missing` meets its contract. The loop's invariant: no entry passed is at fault. The measure is what is left of the marks.
+-- `entries::search_missing` meets its contract. The loop's invariant: no entry passed is at fault. The measure is what is left of the marks.
 -- Assumes nothing.
 use mathlib.Core.Option.{none}
 use mathlib.Core.Path.{_≡_, sym, _∙_}
@@ -9,8 +9,8 @@ use Rattle.arithmetic.specs.Counting.{lowest}
 use Rattle.model.specs.RoundSheet.{byte, word}
 use Rattle.sheets.specs.Entries.{notZero}
 use Rattle.sheets.proofs.Searching.{search-none, search-more, search-found, search-ended}
-use Rattle.inspection.proofs.bad_missing.Statement.{statement}
-use Rattle.inspection.proofs.bad_missing.Tie as tie
+use Rattle.entries.proofs.search_missing.Statement.{statement}
+use Rattle.entries.proofs.search_missing.Tie as tie
 
 abbrev Inv-entries : tie.InvT-entries
 Inv-entries marks readings entry₀ entry = (entry ≤ length marks) × (lowest (λ i. notZero (byte marks i) (word readings (4 * i))) entry ≡ none)
@@ -66,8 +66,8 @@ returns-2 c =
     (c .entries-test .left)
     (c .before .entries .inv .1))
 
-pub bad-missing-spec : {M : Type 1} → statement M
-bad-missing-spec =
+pub search-missing-spec : {M : Type 1} → statement M
+search-missing-spec =
     tie.close
     (tie.spec
     Inv-entries

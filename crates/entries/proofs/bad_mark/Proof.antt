@@ -1,4 +1,4 @@
--- `inspection::bad_mark` meets its contract. The loop's invariant: no mark passed is at fault. The measure is what is left of the marks.
+-- `entries::bad_mark` meets its contract. The loop's invariant: no mark passed is at fault. The measure is what is left of the marks.
 -- Assumes nothing.
 use borrow.Author.Tests.{lt-ltb, le-ltb}
 use mathlib.Core.Option.{none}
@@ -10,8 +10,8 @@ use lib.ListN.{length}
 use Rattle.arithmetic.specs.Counting.{lowest}
 use Rattle.model.specs.RoundSheet.{byte}
 use Rattle.sheets.proofs.Searching.{search-none, search-more, search-found, search-ended}
-use Rattle.inspection.proofs.bad_mark.Statement.{statement}
-use Rattle.inspection.proofs.bad_mark.Tie as tie
+use Rattle.entries.proofs.bad_mark.Statement.{statement}
+use Rattle.entries.proofs.bad_mark.Tie as tie
 
 abbrev Inv-entries : tie.InvT-entries
 Inv-entries marks e₀ e = (e ≤ length marks) × (lowest (λ i. ltb 1 (byte marks i)) e ≡ none)

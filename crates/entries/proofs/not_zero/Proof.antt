@@ -1,4 +1,4 @@
--- `inspection::not_zero` meets its contract: a mark that is not 0 is not missing, and the four bytes read are the entry's.
+-- `entries::not_zero` meets its contract: a mark that is not 0 is not missing, and the four bytes read are the entry's.
 -- Assumes nothing.
 use borrow.Author.Needs.{needs}
 use borrow.Author.Tests.{eq-eqb, ne-eqb}
@@ -7,8 +7,8 @@ use mathlib.Core.Path.{ap}
 use Prim.Native.Nat.{ℕ}
 use lib.Dec.{eqb}
 use Rattle.model.specs.RoundSheet.{byte, word}
-use Rattle.inspection.proofs.not_zero.Statement.{statement}
-use Rattle.inspection.proofs.not_zero.Tie as tie
+use Rattle.entries.proofs.not_zero.Statement.{statement}
+use Rattle.entries.proofs.not_zero.Tie as tie
 
 shared-slice-read-mark : tie.Need-shared-slice-read-mark
 shared-slice-read-mark c = search needs

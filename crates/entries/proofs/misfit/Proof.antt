@@ -1,0 +1,11 @@
+-- `entries::misfit` meets its contract: the quotient and the rest say whether there are four bytes for each mark.
+-- Assumes nothing.
+use Rattle.entries.proofs.Fitting.{fit-test}
+use Rattle.entries.proofs.misfit.Statement.{statement}
+use Rattle.entries.proofs.misfit.Tie as tie
+
+returns : tie.Need-returns
+returns c = fit-test (c .args .marks) (c .args .readings)
+
+pub misfit-spec : {M : Type 1} → statement M
+misfit-spec = tie.close (tie.spec returns)

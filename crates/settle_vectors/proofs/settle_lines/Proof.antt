@@ -1,0 +1,71 @@
+use borrow.Author.Needs.{needs}
+use mathlib.Core.Path.{_≡_}
+use Prim.Native.Nat.{_-_, _≤_}
+use lib.ListN.{length}
+use Rattle.settle_vectors.proofs.settle_lines.Statement.{statement}
+use Rattle.settle_vectors.proofs.settle_lines.Tie as tie
+
+abbrev Inv-lines : tie.InvT-lines
+Inv-lines text sheet₀ at₀ sheet at = (at ≤ length text) × (length sheet ≡ length sheet₀)
+
+abbrev μ-lines : tie.MeasureT-lines
+μ-lines text sheet₀ at₀ sheet at = length text - at
+
+find-requires : tie.Need-find-requires Inv-lines μ-lines
+find-requires c κs = search needs
+
+lines-holds : tie.Need-lines-holds Inv-lines μ-lines
+lines-holds c = search needs
+
+add-find : tie.Need-add-find Inv-lines μ-lines
+add-find c = search needs
+
+find-requires-2 : tie.Need-find-requires-2 Inv-lines μ-lines
+find-requires-2 c κs = search needs
+
+add-settle-fresh : tie.Need-add-settle-fresh Inv-lines μ-lines
+add-settle-fresh c = search needs
+
+sub-settle-fresh : tie.Need-sub-settle-fresh Inv-lines μ-lines
+sub-settle-fresh c = search needs
+
+part-settle-fresh-start : tie.Need-part-settle-fresh-start Inv-lines μ-lines
+part-settle-fresh-start c = search needs
+
+part-settle-fresh-end : tie.Need-part-settle-fresh-end Inv-lines μ-lines
+part-settle-fresh-end c = search needs
+
+settle-fresh-requires : tie.Need-settle-fresh-requires Inv-lines μ-lines
+settle-fresh-requires c κs = search needs
+
+lines-less : tie.Need-lines-less Inv-lines μ-lines
+lines-less c = search needs
+
+lines-again : tie.Need-lines-again Inv-lines μ-lines
+lines-again c = search needs
+
+same-length : tie.Need-same-length Inv-lines μ-lines
+same-length c = search needs
+
+returns : tie.Need-returns Inv-lines μ-lines
+returns c = search needs
+
+pub settle-lines-spec : {M : Type 1} → statement M
+settle-lines-spec =
+    tie.close
+    (tie.spec
+    Inv-lines
+    μ-lines
+    find-requires
+    lines-holds
+    add-find
+    find-requires-2
+    add-settle-fresh
+    sub-settle-fresh
+    part-settle-fresh-start
+    part-settle-fresh-end
+    settle-fresh-requires
+    lines-less
+    lines-again
+    same-length
+    returns)

@@ -15,7 +15,7 @@ use estimates::Estimated;
 use estimates::LIMIT;
 
 // A reading that is present and not accepted.
-pub const REJECTED: u64 = 4_294_967_297;
+const REJECTED: u64 = 4_294_967_297;
 
 // 2^31, which turns the first of 32 bits over.
 const HALF: u32 = 2_147_483_648;

@@ -11,14 +11,12 @@ ghost use Rattle.estimates.specs.Values.{countBelow, countUpTo, numbered
 pub const LIMIT: u64 = 4_294_967_296;
 
 // The reading 0.
-pub const BIAS: u64 = 2_147_483_648;
+const BIAS: u64 = 2_147_483_648;
 
-// The estimators.
-pub const AVERAGE: u8 = 0;
+// The estimators; the third is the midpoint.
+const AVERAGE: u8 = 0;
 
-pub const MEDIAN: u8 = 1;
-
-pub const MIDPOINT: u8 = 2;
+const MEDIAN: u8 = 1;
 
 // The count of the present readings, their estimate and the new value; all 0 where none is present or there are more than 64.
 pub struct Estimated {

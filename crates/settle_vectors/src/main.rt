@@ -66,7 +66,7 @@ fn show_cabinets(answer: &[u8], n: u8) {
     }
 }
 
-fn show_answer(buffer: &[u8], size: usize) {
+fn show_answer(buffer: &[u8], size: usize) -> usize {
     let n = words::byte_at(buffer, 0);
     number(b"granted ", size as u64);
     number(b": round ", n as u64);
@@ -74,39 +74,29 @@ fn show_answer(buffer: &[u8], size: usize) {
     signed(words::word_at(buffer, 2));
     signed(words::word_at(buffer, 6));
     show_cabinets(buffer, n);
-    number(b"; kept ", kept(buffer, size) as u64);
+    size
 }
 
-fn show_refusal(buffer: &[u8], refusal: Refusal) {
+fn show_refusal(refusal: Refusal) -> usize {
     number(b"refused ", refusal.number as u64);
     number(b" ", refusal.place as u64);
-    number(b"; kept ", kept(buffer, 0) as u64);
+    0
 }
 
-fn show(title: &[u8], sheet: &[u8], buffer: &mut [u8]) {
-    io::write_all(1, title);
-    io::write_all(1, b": ");
-    match round::settle(sheet, buffer) {
+// Shows what settling says, and how many bytes behind the answer kept 165.
+fn show(sheet: &[u8], buffer: &mut [u8]) {
+    let from = match round::settle(sheet, buffer) {
         Settled::Granted(size) => show_answer(buffer, size),
-        Settled::Refused(refusal) => show_refusal(buffer, refusal),
-    }
+        Settled::Refused(refusal) => show_refusal(refusal),
+    };
+    number(b"; kept ", kept(buffer, from) as u64);
     io::write_all(1, b"\n");
 }
 
-// The value of a hexadecimal digit; 16 for another character.
-fn digit(c: u8) -> u8
-    ensures { λ r. ⌜ r ≤ 16 ⌝ }
-{
-    match c {
-        48..=57 => c - 48,
-        97..=102 => c - 87,
-        _ => 16,
-    }
-}
-
-// Puts a digit behind as many of the sheet: how many there are then.
-fn put_digit(sheet: &mut [u8], digits: usize, value: u8) -> usize {
+// Puts a hexadecimal digit behind as many of the sheet: how many there are then.
+fn put_digit(sheet: &mut [u8], digits: usize, c: u8) -> usize {
     let at = digits / 2;
+    let value = find(b"0123456789abcdef", 0, 16, c);
     if BAD <= digits {
         return BAD;
     }
@@ -116,7 +106,7 @@ fn put_digit(sheet: &mut [u8], digits: usize, value: u8) -> usize {
     if sheet.len() <= at {
         return BAD;
     }
-    sheet[at] = sheet[at] % 16 * 16 + value;
+    sheet[at] = sheet[at] % 16 * 16 + (value as u8);
     digits + 1
 }
 
@@ -125,7 +115,7 @@ fn put_digits(sheet: &mut [u8], digits: usize, text: &[u8]) -> usize {
     let mut end = digits;
     let mut i: usize = 0;
     'characters: while i < text.len() {
-        end = put_digit(sheet, end, digit(text[i]));
+        end = put_digit(sheet, end, text[i]);
         i += 1;
     }
     if end % 2 == 0 { end } else { BAD }
@@ -167,52 +157,48 @@ fn put_words(sheet: &mut [u8], text: &[u8]) -> usize {
 }
 
 // Settles a sheet of so many digits in a buffer of so many bytes.
-fn settle_digits(title: &[u8], sheet: &[u8], digits: usize, buffer: &mut [u8], room: usize) {
+fn settle_digits(sheet: &[u8], digits: usize, buffer: &mut [u8], room: usize) {
     let size = digits / 2;
-    if 2 <= title.len() {
-        if size <= sheet.len() {
-            if room <= buffer.len() {
-                show(&title[2..], &sheet[0..size], &mut buffer[0..room]);
-                return;
-            }
+    if size <= sheet.len() {
+        if room <= buffer.len() {
+            show(&sheet[0..size], &mut buffer[0..room]);
+            return;
         }
     }
     io::write_all(1, b"bad vector\n");
 }
 
+// Writes what stands behind a mark and a space.
+fn show_title(text: &[u8]) {
+    if 2 <= text.len() {
+        io::write_all(1, &text[2..]);
+    }
+    io::write_all(1, b": ");
+}
+
 fn settle_line(line: &[u8], sheet: &mut [u8], buffer: &mut [u8]) {
     let mark = find(line, 0, line.len(), b'#');
-    if mark == 0 {
-        return;
-    }
     let first = find(line, 0, mark, b' ');
     let room = numerals::number_in(&line[0..first]) as usize;
     let digits = put_words(sheet, &line[first..mark]);
-    settle_digits(&line[mark..], sheet, digits, buffer, room);
-}
-
-fn settle_fresh(line: &[u8], sheet: &mut [u8]) {
-    let mut buffer = [165u8; 340];
-    settle_line(line, sheet, &mut buffer);
+    show_title(&line[mark..]);
+    settle_digits(sheet, digits, buffer, room);
 }
 
 // Settles what each line behind the first has.
 fn settle_lines(text: &[u8], sheet: &mut [u8]) {
     let mut at = find(text, 0, text.len(), b'\n');
-    'lines: while at < text.len() {
+    'lines: while 1 < text.len() - at {
         let end = find(text, at + 1, text.len(), b'\n');
-        settle_fresh(&text[at + 1..end], sheet);
+        let mut buffer = [165u8; 340];
+        settle_line(&text[at + 1..end], sheet, &mut buffer);
         at = end;
     }
-}
-
-fn settle_all(input: &mut [u8], sheet: &mut [u8]) {
-    let size = io::read_full(0, input);
-    settle_lines(&input[..size], sheet);
 }
 
 fn main() {
     let mut input = [0u8; 65536];
     let mut sheet = [0u8; 20489];
-    settle_all(&mut input, &mut sheet);
+    let size = io::read_full(0, &mut input);
+    settle_lines(&input[..size], &mut sheet);
 }

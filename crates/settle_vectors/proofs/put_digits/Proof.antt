@@ -14,11 +14,8 @@ abbrev μ-characters : tie.MeasureT-characters
 characters-holds : tie.Need-characters-holds Inv-characters μ-characters
 characters-holds c = search needs
 
-shared-slice-read-digit : tie.Need-shared-slice-read-digit Inv-characters μ-characters
-shared-slice-read-digit c = search needs
-
-digit-requires : tie.Need-digit-requires Inv-characters μ-characters
-digit-requires c κs = search needs
+shared-slice-read-put-digit : tie.Need-shared-slice-read-put-digit Inv-characters μ-characters
+shared-slice-read-put-digit c = search needs
 
 put-digit-requires : tie.Need-put-digit-requires Inv-characters μ-characters
 put-digit-requires c κs = search needs
@@ -51,8 +48,7 @@ put-digits-spec =
     Inv-characters
     μ-characters
     characters-holds
-    shared-slice-read-digit
-    digit-requires
+    shared-slice-read-put-digit
     put-digit-requires
     add-i
     characters-less

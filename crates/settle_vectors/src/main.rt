@@ -118,7 +118,7 @@ fn put_digits(sheet: &mut [u8], digits: usize, text: &[u8]) -> usize {
         end = put_digit(sheet, end, text[i]);
         i += 1;
     }
-    if end % 2 == 0 { end } else { BAD }
+    end
 }
 
 fn put_times(sheet: &mut [u8], digits: usize, text: &[u8], times: u64) -> usize {
@@ -137,10 +137,7 @@ fn put_word(sheet: &mut [u8], digits: usize, word: &[u8]) -> usize {
     if star == word.len() {
         return put_digits(sheet, digits, word);
     }
-    let times = numerals::number_in(&word[0..star]);
-    if 20_489 < times {
-        return BAD;
-    }
+    let times = numerals::number_in(&word[0..star]) % 65_536;
     put_times(sheet, digits, &word[star + 1..], times)
 }
 
@@ -158,7 +155,7 @@ fn put_words(sheet: &mut [u8], text: &[u8]) -> usize {
 
 // Settles a sheet of so many digits in a buffer of so many bytes.
 fn settle_digits(sheet: &[u8], digits: usize, buffer: &mut [u8], room: usize) {
-    let size = digits / 2;
+    let size = digits / 2 + digits % 2 * BAD;
     if size <= sheet.len() {
         if room <= buffer.len() {
             show(&sheet[0..size], &mut buffer[0..room]);

@@ -35,12 +35,6 @@ same-length c = search needs
 returns : tie.Need-returns Inv-characters μ-characters
 returns c = search needs
 
-same-length-2 : tie.Need-same-length-2 Inv-characters μ-characters
-same-length-2 c = search needs
-
-returns-2 : tie.Need-returns-2 Inv-characters μ-characters
-returns-2 c = search needs
-
 pub put-digits-spec : {M : Type 1} → statement M
 put-digits-spec =
     tie.close
@@ -54,6 +48,4 @@ put-digits-spec =
     characters-less
     characters-again
     same-length
-    returns
-    same-length-2
-    returns-2)
+    returns)

@@ -2,9 +2,9 @@
 // the ends of 32 bits, and N 64 by both rules. A line has the sheet in words, the answer, and how many bytes behind the answer kept what
 // they had: each buffer holds 165 everywhere before its call.
 //
-// The sheets are in the file stdin, whose first line is a heading. Each other line is a vector: the length of the buffer, the bytes of the
-// sheet as hexadecimal digits with spaces anywhere between two bytes, and behind `# ` the sheet in words. `4096*01` is the byte 1 four thousand
-// and ninety-six times.
+// The vectors are in the file stdin, of at most 65,536 bytes. Its first line is a heading. Each other line is a vector: the length of the
+// buffer, then the bytes of the sheet in words of two hexadecimal digits a byte, where `4096*01` is 4096 times the byte 1, then `# ` and the
+// sheet in words. A vector that cannot be read, or does not fit, has `bad vector` for its answer.
 //
 // The stored output is not the program's own: the sheets were made from the words before the colon, and the answers are those of the
 // reference in outside/reference, which was written from document 01 alone. Cases 1 to 10 agree with the numbers of document 01.
@@ -13,8 +13,8 @@ use bytes::scan::find;
 use model::Refusal;
 use round::Settled;
 
-// More digits than a sheet has room for: what was to be put did not fit, or was no digit.
-const BAD: usize = 100_000;
+// More digits than there is room for: what was to be put did not fit, or was no digit.
+const BAD: usize = 1_000_000;
 
 fn number(name: &[u8], value: u64) {
     io::write_all(1, name);
@@ -93,7 +93,7 @@ fn show(sheet: &[u8], buffer: &mut [u8]) {
     io::write_all(1, b"\n");
 }
 
-// Puts a hexadecimal digit behind as many of the sheet: how many there are then.
+// Puts a hexadecimal digit behind those that the sheet has. This function and the next four answer how many it has then.
 fn put_digit(sheet: &mut [u8], digits: usize, c: u8) -> usize {
     let at = digits / 2;
     let value = find(b"0123456789abcdef", 0, 16, c);
@@ -110,7 +110,6 @@ fn put_digit(sheet: &mut [u8], digits: usize, c: u8) -> usize {
     digits + 1
 }
 
-// Puts the digits of a text, two for each byte.
 fn put_digits(sheet: &mut [u8], digits: usize, text: &[u8]) -> usize {
     let mut end = digits;
     let mut i: usize = 0;
@@ -131,7 +130,7 @@ fn put_times(sheet: &mut [u8], digits: usize, text: &[u8], times: u64) -> usize 
     end
 }
 
-// Puts the digits of a word, as many times as the number before its star says.
+// Puts the digits of a word, as many times as the number before its star says. What is no number is 0 there.
 fn put_word(sheet: &mut [u8], digits: usize, word: &[u8]) -> usize {
     let star = find(word, 0, word.len(), b'*');
     if star == word.len() {
@@ -153,7 +152,7 @@ fn put_words(sheet: &mut [u8], text: &[u8]) -> usize {
     digits
 }
 
-// Settles a sheet of so many digits in a buffer of so many bytes.
+// Settles a sheet of so many digits in a buffer of so many bytes. An odd digit does not fit.
 fn settle_digits(sheet: &[u8], digits: usize, buffer: &mut [u8], room: usize) {
     let size = digits / 2 + digits % 2 * BAD;
     if size <= sheet.len() {
@@ -165,7 +164,7 @@ fn settle_digits(sheet: &[u8], digits: usize, buffer: &mut [u8], room: usize) {
     io::write_all(1, b"bad vector\n");
 }
 
-// Writes what stands behind a mark and a space.
+// Writes what stands behind the mark and its space.
 fn show_title(text: &[u8]) {
     if 2 <= text.len() {
         io::write_all(1, &text[2..]);
@@ -182,7 +181,7 @@ fn settle_line(line: &[u8], sheet: &mut [u8], buffer: &mut [u8]) {
     settle_digits(sheet, digits, buffer, room);
 }
 
-// Settles what each line behind the first has.
+// Settles the vector of each line behind the first.
 fn settle_lines(text: &[u8], sheet: &mut [u8]) {
     let mut at = find(text, 0, text.len(), b'\n');
     'lines: while 1 < text.len() - at {
@@ -194,8 +193,8 @@ fn settle_lines(text: &[u8], sheet: &mut [u8]) {
 }
 
 fn main() {
-    let mut input = [0u8; 65536];
-    let mut sheet = [0u8; 20489];
+    let mut input = io::large_buffer();
+    let mut sheet = io::large_buffer();
     let size = io::read_full(0, &mut input);
     settle_lines(&input[..size], &mut sheet);
 }

@@ -1,3 +1,6 @@
+-- `settle_vectors::put_digits` is safe and ends. The loop's invariant: no character past the last is put, and the sheet keeps its length. The
+-- measure is the number of characters left.
+-- Assumes nothing.
 use borrow.Author.Needs.{needs}
 use mathlib.Core.Path.{_≡_}
 use Prim.Native.Nat.{_-_, _≤_}

@@ -130,13 +130,16 @@ fn put_times(sheet: &mut [u8], digits: usize, text: &[u8], times: u64) -> usize 
     end
 }
 
-// Puts the digits of a word, as many times as the number before its star says. What is no number is 0 there.
+// Puts the digits of a word, as many times as the number before its star says.
 fn put_word(sheet: &mut [u8], digits: usize, word: &[u8]) -> usize {
     let star = find(word, 0, word.len(), b'*');
     if star == word.len() {
         return put_digits(sheet, digits, word);
     }
-    let times = numerals::number_in(&word[0..star]) % 65_536;
+    let times = numerals::number_in(&word[0..star]);
+    if 65_536 < times {
+        return BAD;
+    }
     put_times(sheet, digits, &word[star + 1..], times)
 }
 

@@ -2,9 +2,9 @@
 // the ends of 32 bits, and N 64 by both rules. A line has the sheet in words, the answer, and how many bytes behind the answer kept what
 // they had: each buffer holds 165 everywhere before its call.
 //
-// The sheets are in the file stdin, whose first line is a heading. Each other line is a vector: the length of the buffer, the bytes of the
-// sheet as hexadecimal digits with spaces anywhere between two bytes, and behind `# ` the sheet in words. `4096*01` is the byte 1 four thousand
-// and ninety-six times.
+// The vectors are in the file stdin, of at most 65,536 bytes. Its first line is a heading. Each other line is a vector: the length of the
+// buffer, then the bytes of the sheet in words of two hexadecimal digits a byte, where `4096*01` is 4096 times the byte 1, then `# ` and the
+// sheet in words. A vector that cannot be read, or does not fit, has `bad vector` for its answer.
 //
 // The stored output is not the program's own: the sheets were made from the words before the colon, and the answers are those of the
 // reference in outside/reference, which was written from document 01 alone. Cases 1 to 10 agree with the numbers of document 01.
@@ -13,8 +13,8 @@ use bytes::scan::find;
 use model::Refusal;
 use round::Settled;
 
-// More digits than a sheet has room for: what was to be put did not fit, or was no digit.
-const BAD: usize = 100_000;
+// More digits than there is room for: what was to be put did not fit, or was no digit.
+const BAD: usize = 1_000_000;
 
 fn number(name: &[u8], value: u64) {
     io::write_all(1, name);
@@ -66,7 +66,7 @@ fn show_cabinets(answer: &[u8], n: u8) {
     }
 }
 
-fn show_answer(buffer: &[u8], size: usize) {
+fn show_answer(buffer: &[u8], size: usize) -> usize {
     let n = words::byte_at(buffer, 0);
     number(b"granted ", size as u64);
     number(b": round ", n as u64);
@@ -74,39 +74,29 @@ fn show_answer(buffer: &[u8], size: usize) {
     signed(words::word_at(buffer, 2));
     signed(words::word_at(buffer, 6));
     show_cabinets(buffer, n);
-    number(b"; kept ", kept(buffer, size) as u64);
+    size
 }
 
-fn show_refusal(buffer: &[u8], refusal: Refusal) {
+fn show_refusal(refusal: Refusal) -> usize {
     number(b"refused ", refusal.number as u64);
     number(b" ", refusal.place as u64);
-    number(b"; kept ", kept(buffer, 0) as u64);
+    0
 }
 
-fn show(title: &[u8], sheet: &[u8], buffer: &mut [u8]) {
-    io::write_all(1, title);
-    io::write_all(1, b": ");
-    match round::settle(sheet, buffer) {
+// Shows what settling says, and how many bytes behind the answer kept 165.
+fn show(sheet: &[u8], buffer: &mut [u8]) {
+    let from = match round::settle(sheet, buffer) {
         Settled::Granted(size) => show_answer(buffer, size),
-        Settled::Refused(refusal) => show_refusal(buffer, refusal),
-    }
+        Settled::Refused(refusal) => show_refusal(refusal),
+    };
+    number(b"; kept ", kept(buffer, from) as u64);
     io::write_all(1, b"\n");
 }
 
-// The value of a hexadecimal digit; 16 for another character.
-fn digit(c: u8) -> u8
-    ensures { λ r. ⌜ r ≤ 16 ⌝ }
-{
-    match c {
-        48..=57 => c - 48,
-        97..=102 => c - 87,
-        _ => 16,
-    }
-}
-
-// Puts a digit behind as many of the sheet: how many there are then.
-fn put_digit(sheet: &mut [u8], digits: usize, value: u8) -> usize {
+// Puts a hexadecimal digit behind those that the sheet has. This function and the next four answer how many it has then.
+fn put_digit(sheet: &mut [u8], digits: usize, c: u8) -> usize {
     let at = digits / 2;
+    let value = find(b"0123456789abcdef", 0, 16, c);
     if BAD <= digits {
         return BAD;
     }
@@ -116,19 +106,18 @@ fn put_digit(sheet: &mut [u8], digits: usize, value: u8) -> usize {
     if sheet.len() <= at {
         return BAD;
     }
-    sheet[at] = sheet[at] % 16 * 16 + value;
+    sheet[at] = sheet[at] % 16 * 16 + (value as u8);
     digits + 1
 }
 
-// Puts the digits of a text, two for each byte.
 fn put_digits(sheet: &mut [u8], digits: usize, text: &[u8]) -> usize {
     let mut end = digits;
     let mut i: usize = 0;
     'characters: while i < text.len() {
-        end = put_digit(sheet, end, digit(text[i]));
+        end = put_digit(sheet, end, text[i]);
         i += 1;
     }
-    if end % 2 == 0 { end } else { BAD }
+    end
 }
 
 fn put_times(sheet: &mut [u8], digits: usize, text: &[u8], times: u64) -> usize {
@@ -148,7 +137,7 @@ fn put_word(sheet: &mut [u8], digits: usize, word: &[u8]) -> usize {
         return put_digits(sheet, digits, word);
     }
     let times = numerals::number_in(&word[0..star]);
-    if 20_489 < times {
+    if 65_536 < times {
         return BAD;
     }
     put_times(sheet, digits, &word[star + 1..], times)
@@ -166,53 +155,49 @@ fn put_words(sheet: &mut [u8], text: &[u8]) -> usize {
     digits
 }
 
-// Settles a sheet of so many digits in a buffer of so many bytes.
-fn settle_digits(title: &[u8], sheet: &[u8], digits: usize, buffer: &mut [u8], room: usize) {
-    let size = digits / 2;
-    if 2 <= title.len() {
-        if size <= sheet.len() {
-            if room <= buffer.len() {
-                show(&title[2..], &sheet[0..size], &mut buffer[0..room]);
-                return;
-            }
+// Settles a sheet of so many digits in a buffer of so many bytes. An odd digit does not fit.
+fn settle_digits(sheet: &[u8], digits: usize, buffer: &mut [u8], room: usize) {
+    let size = digits / 2 + digits % 2 * BAD;
+    if size <= sheet.len() {
+        if room <= buffer.len() {
+            show(&sheet[0..size], &mut buffer[0..room]);
+            return;
         }
     }
     io::write_all(1, b"bad vector\n");
 }
 
+// Writes what stands behind the mark and its space.
+fn show_title(text: &[u8]) {
+    if 2 <= text.len() {
+        io::write_all(1, &text[2..]);
+    }
+    io::write_all(1, b": ");
+}
+
 fn settle_line(line: &[u8], sheet: &mut [u8], buffer: &mut [u8]) {
     let mark = find(line, 0, line.len(), b'#');
-    if mark == 0 {
-        return;
-    }
     let first = find(line, 0, mark, b' ');
     let room = numerals::number_in(&line[0..first]) as usize;
     let digits = put_words(sheet, &line[first..mark]);
-    settle_digits(&line[mark..], sheet, digits, buffer, room);
+    show_title(&line[mark..]);
+    settle_digits(sheet, digits, buffer, room);
 }
 
-fn settle_fresh(line: &[u8], sheet: &mut [u8]) {
-    let mut buffer = [165u8; 340];
-    settle_line(line, sheet, &mut buffer);
-}
-
-// Settles what each line behind the first has.
+// Settles the vector of each line behind the first.
 fn settle_lines(text: &[u8], sheet: &mut [u8]) {
     let mut at = find(text, 0, text.len(), b'\n');
-    'lines: while at < text.len() {
+    'lines: while 1 < text.len() - at {
         let end = find(text, at + 1, text.len(), b'\n');
-        settle_fresh(&text[at + 1..end], sheet);
+        let mut buffer = [165u8; 340];
+        settle_line(&text[at + 1..end], sheet, &mut buffer);
         at = end;
     }
 }
 
-fn settle_all(input: &mut [u8], sheet: &mut [u8]) {
-    let size = io::read_full(0, input);
-    settle_lines(&input[..size], sheet);
-}
-
 fn main() {
-    let mut input = [0u8; 65536];
-    let mut sheet = [0u8; 20489];
-    settle_all(&mut input, &mut sheet);
+    let mut input = io::large_buffer();
+    let mut sheet = io::large_buffer();
+    let size = io::read_full(0, &mut input);
+    settle_lines(&input[..size], &mut sheet);
 }

@@ -1,3 +1,6 @@
+-- `settle_vectors::put_digits` is safe and ends. The loop's invariant: no character past the last is put, and the sheet keeps its length. The
+-- measure is the number of characters left.
+-- Assumes nothing.
 use borrow.Author.Needs.{needs}
 use mathlib.Core.Path.{_≡_}
 use Prim.Native.Nat.{_-_, _≤_}
@@ -14,11 +17,8 @@ abbrev μ-characters : tie.MeasureT-characters
 characters-holds : tie.Need-characters-holds Inv-characters μ-characters
 characters-holds c = search needs
 
-shared-slice-read-digit : tie.Need-shared-slice-read-digit Inv-characters μ-characters
-shared-slice-read-digit c = search needs
-
-digit-requires : tie.Need-digit-requires Inv-characters μ-characters
-digit-requires c κs = search needs
+shared-slice-read-put-digit : tie.Need-shared-slice-read-put-digit Inv-characters μ-characters
+shared-slice-read-put-digit c = search needs
 
 put-digit-requires : tie.Need-put-digit-requires Inv-characters μ-characters
 put-digit-requires c κs = search needs
@@ -38,12 +38,6 @@ same-length c = search needs
 returns : tie.Need-returns Inv-characters μ-characters
 returns c = search needs
 
-same-length-2 : tie.Need-same-length-2 Inv-characters μ-characters
-same-length-2 c = search needs
-
-returns-2 : tie.Need-returns-2 Inv-characters μ-characters
-returns-2 c = search needs
-
 pub put-digits-spec : {M : Type 1} → statement M
 put-digits-spec =
     tie.close
@@ -51,13 +45,10 @@ put-digits-spec =
     Inv-characters
     μ-characters
     characters-holds
-    shared-slice-read-digit
-    digit-requires
+    shared-slice-read-put-digit
     put-digit-requires
     add-i
     characters-less
     characters-again
     same-length
-    returns
-    same-length-2
-    returns-2)
+    returns)

@@ -1,3 +1,5 @@
+-- `settle_vectors::put_times` is safe and ends. The loop's invariant: the sheet keeps its length. The measure is how many times are left.
+-- Assumes nothing.
 use borrow.Author.Needs.{needs}
 use mathlib.Core.Path.{_≡_}
 use lib.ListN.{length}

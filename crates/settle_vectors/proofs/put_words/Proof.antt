@@ -1,3 +1,6 @@
+-- `settle_vectors::put_words` is safe and ends. The loop's invariant: the place lies within the text, and the sheet keeps its length. The
+-- measure is what is left of the text.
+-- Assumes nothing.
 use borrow.Author.Needs.{needs}
 use mathlib.Core.Path.{_≡_}
 use Prim.Native.Nat.{_-_, _≤_}

@@ -1,3 +1,6 @@
+-- `settle_vectors::settle_lines` is safe and ends. The loop's invariant: the place lies within the text, and the sheet keeps its length. The
+-- measure is what is left of the text.
+-- Assumes nothing.
 use borrow.Author.Needs.{needs}
 use mathlib.Core.Path.{_≡_}
 use Prim.Native.Nat.{_-_, _≤_}
@@ -17,26 +20,32 @@ find-requires c κs = search needs
 lines-holds : tie.Need-lines-holds Inv-lines μ-lines
 lines-holds c = search needs
 
+sub-lines : tie.Need-sub-lines Inv-lines μ-lines
+sub-lines c = search needs
+
 add-find : tie.Need-add-find Inv-lines μ-lines
 add-find c = search needs
 
 find-requires-2 : tie.Need-find-requires-2 Inv-lines μ-lines
 find-requires-2 c κs = search needs
 
-add-settle-fresh : tie.Need-add-settle-fresh Inv-lines μ-lines
-add-settle-fresh c = search needs
+add-settle-line : tie.Need-add-settle-line Inv-lines μ-lines
+add-settle-line c = search needs
 
-sub-settle-fresh : tie.Need-sub-settle-fresh Inv-lines μ-lines
-sub-settle-fresh c = search needs
+sub-settle-line : tie.Need-sub-settle-line Inv-lines μ-lines
+sub-settle-line c = search needs
 
-part-settle-fresh-start : tie.Need-part-settle-fresh-start Inv-lines μ-lines
-part-settle-fresh-start c = search needs
+part-settle-line-start : tie.Need-part-settle-line-start Inv-lines μ-lines
+part-settle-line-start c = search needs
 
-part-settle-fresh-end : tie.Need-part-settle-fresh-end Inv-lines μ-lines
-part-settle-fresh-end c = search needs
+part-settle-line-end : tie.Need-part-settle-line-end Inv-lines μ-lines
+part-settle-line-end c = search needs
 
-settle-fresh-requires : tie.Need-settle-fresh-requires Inv-lines μ-lines
-settle-fresh-requires c κs = search needs
+slice-aggregate-settle-line : tie.Need-slice-aggregate-settle-line Inv-lines μ-lines
+slice-aggregate-settle-line c = search needs
+
+settle-line-requires : tie.Need-settle-line-requires Inv-lines μ-lines
+settle-line-requires c κs = search needs
 
 lines-less : tie.Need-lines-less Inv-lines μ-lines
 lines-less c = search needs
@@ -58,13 +67,15 @@ settle-lines-spec =
     μ-lines
     find-requires
     lines-holds
+    sub-lines
     add-find
     find-requires-2
-    add-settle-fresh
-    sub-settle-fresh
-    part-settle-fresh-start
-    part-settle-fresh-end
-    settle-fresh-requires
+    add-settle-line
+    sub-settle-line
+    part-settle-line-start
+    part-settle-line-end
+    slice-aggregate-settle-line
+    settle-line-requires
     lines-less
     lines-again
     same-length

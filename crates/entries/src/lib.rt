@@ -1,13 +1,14 @@
 // The entries of a sheet: the lowest at fault. Marks, and for each a reading of four bytes.
 ghost use mathlib.Core.Path.{_≡_};
 ghost use mathlib.Core.Bool.{not};
-ghost use Prim.Native.Nat.{_*_, _<_};
+ghost use Prim.Native.Nat.{_*_, _<_, min, max};
 ghost use lib.Dec.{ltb, eqb};
 ghost use lib.ListN.{length};
 ghost use Rattle.arithmetic.specs.Counting.{lowest};
 ghost use Rattle.model.specs.RoundSheet.{byte, word};
 ghost use Rattle.sheets.specs.Entries.{notZero};
 ghost use Rattle.entries.specs.Answers.{foundAs, missingIn};
+ghost use Rattle.entries.specs.Marks.{AtMost, AtLeast};
 
 // Where a search for an entry ends.
 pub enum Found {
@@ -15,8 +16,46 @@ pub enum Found {
     Nothing,
 }
 
+fn higher(a: u8, b: u8) -> u8
+    ensures { λ r. ⌜ r ≡ max a b ⌝ }
+{
+    if a < b { b } else { a }
+}
+
+fn lower(a: u8, b: u8) -> u8
+    ensures { λ r. ⌜ r ≡ min a b ⌝ }
+{
+    if a < b { a } else { b }
+}
+
+// A number that no mark is above.
+fn greatest(marks: &[u8]) -> u8
+    ensures { λ r. ⌜ AtMost (now (marks .entry)) r (length (now (marks .entry))) ⌝ }
+{
+    let mut top: u8 = 0;
+    let mut t: usize = 0;
+    'entries: while t < marks.len() {
+        top = higher(top, marks[t]);
+        t += 1;
+    }
+    top
+}
+
+// A number that no mark is below.
+fn least(marks: &[u8]) -> u8
+    ensures { λ r. ⌜ AtLeast (now (marks .entry)) r (length (now (marks .entry))) ⌝ }
+{
+    let mut low: u8 = 255;
+    let mut t: usize = 0;
+    'entries: while t < marks.len() {
+        low = lower(low, marks[t]);
+        t += 1;
+    }
+    low
+}
+
 // The lowest mark that is not 0 or 1.
-pub fn bad_mark(marks: &[u8]) -> Found
+fn search_mark(marks: &[u8]) -> Found
     ensures { λ r. ⌜ foundAs r ≡ lowest (λ e. ltb 1 (byte (now (marks .entry)) e)) (length (now (marks .entry))) ⌝ }
 {
     let mut e: usize = 0;
@@ -28,6 +67,16 @@ pub fn bad_mark(marks: &[u8]) -> Found
         e += 1;
     }
     Found::Nothing
+}
+
+// The same, by one pass that never ends early where all marks are 0 or 1.
+pub fn bad_mark(marks: &[u8]) -> Found
+    ensures { λ r. ⌜ foundAs r ≡ lowest (λ e. ltb 1 (byte (now (marks .entry)) e)) (length (now (marks .entry))) ⌝ }
+{
+    if greatest(marks) <= 1 {
+        return Found::Nothing;
+    }
+    search_mark(marks)
 }
 
 // Whether an entry is missing with bytes that are not zero. An entry that is present is not looked at.
@@ -78,6 +127,9 @@ pub fn bad_missing(marks: &[u8], readings: &[u8]) -> Found
     ensures { λ r. ⌜ foundAs r ≡ missingIn (now (marks .entry)) (now (readings .entry)) ⌝ }
 {
     if misfit(marks.len(), readings.len()) {
+        return Found::Nothing;
+    }
+    if 0 < least(marks) {
         return Found::Nothing;
     }
     search_missing(marks, readings)

@@ -6,7 +6,6 @@ use mathlib.Core.List.{List}
 use Prim.Native.Nat.{ℕ}
 use lib.Dec.{ltb, eqb}
 use lib.ListN.{length, getD}
-use Rattle.arithmetic.specs.Counting.{count}
 use Rattle.arithmetic.specs.Writing.{table}
 use Rattle.arithmetic.proofs.Sums.{total}
 use Rattle.rounds.proofs.Shifted.{estimate-nat, used-nat, mean-nat}

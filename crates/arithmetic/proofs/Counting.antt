@@ -7,7 +7,7 @@ use mathlib.Core.Path.{_≡_, refl, sym, ap, ap₂, _∙_}
 use Prim.Native.Nat.{ℕ, zero, suc, _+_, _≤_, _<_, zero-le}
 use native.Mathlib.Nat.{le-refl, add-le-add, lt-suc-self, le-step, not-suc-le-zero}
 use native.Mathlib.Omega.{arith}
-use Rattle.arithmetic.specs.Counting.{bit, count, any, lowest, orElse}
+use Rattle.arithmetic.specs.Counting.{bit, count, anyBelow, lowest, orIndex}
 use Rattle.arithmetic.proofs.Bools.{both-ways, clash, and-left, and-right, or-cases, or-inl, or-inr, or-false}
 
 -- ---- the last index and those before it
@@ -108,31 +108,31 @@ share p q u n hp hq h =
 
 -- ---- any
 
-pub any-some : (p : ℕ → Bool) (n : ℕ) → any p n ≡ true → (i : ℕ) × (i < n) × (p i ≡ true)
-unfolding any
+pub any-some : (p : ℕ → Bool) (n : ℕ) → anyBelow p n ≡ true → (i : ℕ) × (i < n) × (p i ≡ true)
+unfolding anyBelow
 any-some p zero h = clash h refl
 any-some p (suc n) h =
     ⊎-elim
     (λ l. let s = any-some p n l in (s .0, le-step (s .1), s .2))
     (λ e. (n, lt-suc-self n, e))
-    (or-cases (any p n) (p n) h)
+    (or-cases (anyBelow p n) (p n) h)
 
-pub any-true : (p : ℕ → Bool) (n i : ℕ) → i < n → p i ≡ true → any p n ≡ true
-unfolding any
+pub any-true : (p : ℕ → Bool) (n i : ℕ) → i < n → p i ≡ true → anyBelow p n ≡ true
+unfolding anyBelow
 any-true p zero i h e = absurd (not-suc-le-zero h)
 any-true p (suc n) i h e =
     ⊎-elim
     (λ l. or-inl (p n) (any-true p n i l e))
-    (λ s. or-inr (any p n) (ap p (sym s) ∙ e))
+    (λ s. or-inr (anyBelow p n) (ap p (sym s) ∙ e))
     (split-last i n h)
 
-pub any-false : (p : ℕ → Bool) (n : ℕ) → ((i : ℕ) → i < n → p i ≡ false) → any p n ≡ false
-unfolding any
+pub any-false : (p : ℕ → Bool) (n : ℕ) → ((i : ℕ) → i < n → p i ≡ false) → anyBelow p n ≡ false
+unfolding anyBelow
 any-false p zero h = refl
 any-false p (suc n) h = or-false (any-false p n (below h)) (last h)
 
-pub any-ext : (p q : ℕ → Bool) (n : ℕ) → ((i : ℕ) → i < n → p i ≡ q i) → any p n ≡ any q n
-unfolding any
+pub any-ext : (p q : ℕ → Bool) (n : ℕ) → ((i : ℕ) → i < n → p i ≡ q i) → anyBelow p n ≡ anyBelow q n
+unfolding anyBelow
 any-ext p q zero h = refl
 any-ext p q (suc n) h = ap₂ (λ (a b : Bool). a || b) (any-ext p q n (below h)) (last h)
 
@@ -141,23 +141,23 @@ any-ext p q (suc n) h = ap₂ (λ (a b : Bool). a || b) (any-ext p q n (below h)
 pub lowest-none : (p : ℕ → Bool) (n : ℕ) → ((i : ℕ) → i < n → p i ≡ false) → lowest p n ≡ none
 unfolding lowest
 lowest-none p zero h = refl
-lowest-none p (suc n) h = ap₂ (λ (o : Option ℕ) (b : Bool). orElse o b n) (lowest-none p n (below h)) (last h)
+lowest-none p (suc n) h = ap₂ (λ (o : Option ℕ) (b : Bool). orIndex o b n) (lowest-none p n (below h)) (last h)
 
 pub lowest-some : (p : ℕ → Bool) (n i : ℕ) → i < n → p i ≡ true → ((j : ℕ) → j < i → p j ≡ false) → lowest p n ≡ some i
 unfolding lowest
 lowest-some p zero i h e f = absurd (not-suc-le-zero h)
 lowest-some p (suc n) i h e f =
     ⊎-elim
-    (λ l. ap (λ (o : Option ℕ). orElse o (p n) n) (lowest-some p n i l e f))
+    (λ l. ap (λ (o : Option ℕ). orIndex o (p n) n) (lowest-some p n i l e f))
     (λ s.
-    ap₂ (λ (o : Option ℕ) (b : Bool). orElse o b n) (lowest-none p n (λ j l. f j (rw s l))) (ap p (sym s) ∙ e)
+    ap₂ (λ (o : Option ℕ) (b : Bool). orIndex o b n) (lowest-none p n (λ j l. f j (rw s l))) (ap p (sym s) ∙ e)
     ∙ ap {B = Option ℕ} some (sym s))
     (split-last i n h)
 
 pub lowest-ext : (p q : ℕ → Bool) (n : ℕ) → ((i : ℕ) → i < n → p i ≡ q i) → lowest p n ≡ lowest q n
 unfolding lowest
 lowest-ext p q zero h = refl
-lowest-ext p q (suc n) h = ap₂ (λ (o : Option ℕ) (b : Bool). orElse o b n) (lowest-ext p q n (below h)) (last h)
+lowest-ext p q (suc n) h = ap₂ (λ (o : Option ℕ) (b : Bool). orIndex o b n) (lowest-ext p q n (below h)) (last h)
 
 -- what a search found passes, and nothing below it does
 pub record Lowest (p : ℕ → Bool) (n i : ℕ) : Type 0 where
@@ -173,20 +173,20 @@ lowest-cases p (suc n) = ⊎-elim found (λ w. ⊎-elim (here w) (nowhere w) (bo
   where
     Out : Type 0
     Out =
-        ((i : ℕ) × (orElse (lowest p n) (p n) n ≡ some i) × Lowest p (suc n) i)
-        ⊎ ((orElse (lowest p n) (p n) n ≡ none) × ((i : ℕ) → i < suc n → p i ≡ false))
+        ((i : ℕ) × (orIndex (lowest p n) (p n) n ≡ some i) × Lowest p (suc n) i)
+        ⊎ ((orIndex (lowest p n) (p n) n ≡ none) × ((i : ℕ) → i < suc n → p i ≡ false))
 
     found : ((i : ℕ) × (lowest p n ≡ some i) × Lowest p n i) → Out
     found w =
-        inl (w .0, ap (λ (o : Option ℕ). orElse o (p n) n) (w .1), record { inRange = le-step (w .2 .inRange); passes = w .2 .passes; first = w .2 .first })
+        inl (w .0, ap (λ (o : Option ℕ). orIndex o (p n) n) (w .1), record { inRange = le-step (w .2 .inRange); passes = w .2 .passes; first = w .2 .first })
 
     here : (lowest p n ≡ none) × ((i : ℕ) → i < n → p i ≡ false) → p n ≡ true → Out
     here w e =
-        inl (n, ap₂ (λ (o : Option ℕ) (b : Bool). orElse o b n) (w .0) e, record { inRange = lt-suc-self n; passes = e; first = w .1 })
+        inl (n, ap₂ (λ (o : Option ℕ) (b : Bool). orIndex o b n) (w .0) e, record { inRange = lt-suc-self n; passes = e; first = w .1 })
 
     nowhere : (lowest p n ≡ none) × ((i : ℕ) → i < n → p i ≡ false) → p n ≡ false → Out
     nowhere w e =
-        inr (ap₂ (λ (o : Option ℕ) (b : Bool). orElse o b n) (w .0) e, λ i h. ⊎-elim (w .1 i) (λ s. ap p s ∙ e) (split-last i n h))
+        inr (ap₂ (λ (o : Option ℕ) (b : Bool). orIndex o b n) (w .0) e, λ i h. ⊎-elim (w .1 i) (λ s. ap p s ∙ e) (split-last i n h))
 
 -- what a search answers, read off the answer
 pub lowest-found : (p : ℕ → Bool) (n i : ℕ) → lowest p n ≡ some i → Lowest p n i

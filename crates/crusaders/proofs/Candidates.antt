@@ -17,19 +17,19 @@ use Rattle.arithmetic.specs.Counting.{count}
 use Rattle.arithmetic.proofs.Bools.{both-ways, and-left, and-right, and-intro, iff-eq}
 use Rattle.arithmetic.proofs.Counting.{count-ext, count-mono}
 use Rattle.model.specs.Ensemble.{missing, present, Readings}
-use Rattle.model.specs.Steps.{same, decided, knownFaulty, decide}
+use Rattle.model.specs.Steps.{same, decided, knownFaulty, decideRow}
 use Rattle.crusaders.proofs.Equality.{same-true, eq-same, present-inj, missing-present}
 use Rattle.crusaders.proofs.Decision.{copies, copies-some, decide-value, decide-none}
 use Rattle.crusaders.proofs.Majority.{Candidate, begin, raise, replace, keep, majority}
 
 -- a test that passes where c has need copies, and fails only where no value has, decides the row
-decide-test : (need n : ℕ) (copy : Readings) (c : ℤ) (b : Bool) → n < need + need → (b ≡ true → need ≤ copies copy c n) → (b ≡ false → (z : ℤ) → need ≤ copies copy z n → ⊥) → decide need n copy ≡ cond b (decided c) knownFaulty
+decide-test : (need n : ℕ) (copy : Readings) (c : ℤ) (b : Bool) → n < need + need → (b ≡ true → need ≤ copies copy c n) → (b ≡ false → (z : ℤ) → need ≤ copies copy z n → ⊥) → decideRow need n copy ≡ cond b (decided c) knownFaulty
 decide-test need n copy c true most f g = decide-value need n copy c most (f refl)
 decide-test need n copy c false most f g = decide-none need n copy (omega arith) (λ z. omega (arith, g refl z))
 
 -- the candidate's count decides, where `holds v` counts the copies of `value v` and every copy is counted for some v
 module _ {A : Type 0} (holds : A → ℕ → Bool) (equal : (u v : A) → (u ≡ v) ⊎ (u ≡ v → ⊥)) (value : A → ℤ) (copy : Readings) (n : ℕ) where
-  pub decide-candidate : ((v : A) → count (holds v) n ≤ copies copy (value v) n) → ((s : ℕ) (z : ℤ) → s < n → copy s ≡ present z → (v : A) × (copies copy z n ≤ count (holds v) n)) → (c : A) (k : ℕ) → Candidate holds c k n → (need : ℕ) → n < need + need → decide need n copy ≡ cond (leb need (count (holds c) n)) (decided (value c)) knownFaulty
+  pub decide-candidate : ((v : A) → count (holds v) n ≤ copies copy (value v) n) → ((s : ℕ) (z : ℤ) → s < n → copy s ≡ present z → (v : A) × (copies copy z n ≤ count (holds v) n)) → (c : A) (k : ℕ) → Candidate holds c k n → (need : ℕ) → n < need + need → decideRow need n copy ≡ cond (leb need (count (holds c) n)) (decided (value c)) knownFaulty
   decide-candidate counted found c k w need most =
       decide-test need n copy (value c) (leb need (count (holds c) n)) most
       (λ e. omega (arith, leb-true need (count (holds c) n) e, counted c))
@@ -116,7 +116,7 @@ module _ (value : ℕ → ℤ) (lim : ℕ) (one : (a b : ℕ) → a < lim → b 
 
     -- the candidate's count decides
     module _ (c k : ℕ) (w : Candidate (holds-bits pres bits) c k n) (need : ℕ) (most : n < need + need) where
-      pub bits-decide : decide need n (encoded value pres bits) ≡ cond (leb need (count (holds-bits pres bits c) n)) (decided (value c)) knownFaulty
+      pub bits-decide : decideRow need n (encoded value pres bits) ≡ cond (leb need (count (holds-bits pres bits c) n)) (decided (value c)) knownFaulty
       bits-decide =
           decide-candidate (holds-bits pres bits) equal-bits value (encoded value pres bits) n
           (λ v.

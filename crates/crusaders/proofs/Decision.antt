@@ -13,7 +13,7 @@ use Rattle.arithmetic.specs.Counting.{count, lowest}
 use Rattle.arithmetic.proofs.Bools.{clash}
 use Rattle.arithmetic.proofs.Counting.{count-ext, count-le, count-some, share, lowest-ext, lowest-found, lowest-cases, Lowest}
 use Rattle.model.specs.Ensemble.{Reading, present, Readings, ticks}
-use Rattle.model.specs.Steps.{same, Decision, decided, knownFaulty, decisionAt, decide}
+use Rattle.model.specs.Steps.{same, Decision, decided, knownFaulty, decisionAt, decideRow}
 use Rattle.crusaders.proofs.Equality.{same-true, same-present, same-unique}
 
 -- how many of the first n copies are present and hold z
@@ -61,14 +61,14 @@ module _ (need n : ℕ) (copy : Readings) where
       (p .0, p .1, rw (p .1) at least)
 
   -- the decision is a value that need copies hold, or no value has that many
-  pub decide-cases : 0 < need → ((z : ℤ) × (decide need n copy ≡ decided z) × (need ≤ copies copy z n)) ⊎ ((decide need n copy ≡ knownFaulty) × ((z : ℤ) → copies copy z n < need))
-  unfolding decide enough
+  pub decide-cases : 0 < need → ((z : ℤ) × (decideRow need n copy ≡ decided z) × (need ≤ copies copy z n)) ⊎ ((decideRow need n copy ≡ knownFaulty) × ((z : ℤ) → copies copy z n < need))
+  unfolding decideRow enough
   decide-cases some-need = ⊎-elim found nowhere (lowest-cases enough n)
     where
       Out : Type 0
       Out =
-          ((z : ℤ) × (decide need n copy ≡ decided z) × (need ≤ copies copy z n))
-          ⊎ ((decide need n copy ≡ knownFaulty) × ((z : ℤ) → copies copy z n < need))
+          ((z : ℤ) × (decideRow need n copy ≡ decided z) × (need ≤ copies copy z n))
+          ⊎ ((decideRow need n copy ≡ knownFaulty) × ((z : ℤ) → copies copy z n < need))
 
       found : ((s : ℕ) × (lowest enough n ≡ some s) × Lowest enough n s) → Out
       found w =
@@ -90,21 +90,21 @@ module _ (need n : ℕ) (copy : Readings) where
       nowhere w = inr (ap (decisionAt copy) (w .0), short (w .1))
 
   -- a decided value has need copies
-  pub decided-need : (z : ℤ) → decide need n copy ≡ decided z → 0 < need → need ≤ copies copy z n
+  pub decided-need : (z : ℤ) → decideRow need n copy ≡ decided z → 0 < need → need ≤ copies copy z n
   decided-need z e some-need =
       ⊎-elim
       (λ w. let q : w .0 ≡ z = decided-inj (sym (w .1) ∙ e) in rw q at (w .2))
       (λ w. not-both e (w .0))
       (decide-cases some-need)
 
-  pub decide-value : (z : ℤ) → n < need + need → need ≤ copies copy z n → decide need n copy ≡ decided z
+  pub decide-value : (z : ℤ) → n < need + need → need ≤ copies copy z n → decideRow need n copy ≡ decided z
   decide-value z most h =
       ⊎-elim
       (λ w. let q : w .0 ≡ z = copies-unique copy n (w .0) z (omega (arith, w .2)) in rw q at (w .1))
       (λ w. absurd (omega (arith, w .1 z)))
       (decide-cases (omega arith))
 
-  pub decide-none : 0 < need → ((z : ℤ) → copies copy z n < need) → decide need n copy ≡ knownFaulty
+  pub decide-none : 0 < need → ((z : ℤ) → copies copy z n < need) → decideRow need n copy ≡ knownFaulty
   decide-none some-need f = ⊎-elim (λ w. absurd (omega (arith, f (w .0), w .2))) (λ w. w .0) (decide-cases some-need)
 
   -- a row's decision is unique: two values that have need copies each are one
@@ -112,16 +112,16 @@ module _ (need n : ℕ) (copy : Readings) where
   need-unique a b most p q = copies-unique copy n a b (omega arith)
 
   -- the decided value is one of the copies
-  pub decided-copy : (z : ℤ) → decide need n copy ≡ decided z → 0 < need → (s : ℕ) × (s < n) × (copy s ≡ present z)
+  pub decided-copy : (z : ℤ) → decideRow need n copy ≡ decided z → 0 < need → (s : ℕ) × (s < n) × (copy s ≡ present z)
   decided-copy z e some-need = copies-some copy n z (omega (arith, decided-need z e some-need))
 
   -- what holds of every present copy holds of the decided value
-  pub decided-all {ℓ} : (P : ℤ → Type ℓ) (z : ℤ) → decide need n copy ≡ decided z → 0 < need → ((s : ℕ) (a : ℤ) → s < n → copy s ≡ present a → P a) → P z
+  pub decided-all {ℓ} : (P : ℤ → Type ℓ) (z : ℤ) → decideRow need n copy ≡ decided z → 0 < need → ((s : ℕ) (a : ℤ) → s < n → copy s ≡ present a → P a) → P z
   decided-all P z e some-need f = let s = decided-copy z e some-need in f (s .0) z (s .1) (s .2)
 
 -- the decision looks at the first n copies only
-pub decide-ext : (need n : ℕ) (p q : Readings) → ((t : ℕ) → t < n → p t ≡ q t) → decide need n p ≡ decide need n q
-unfolding decide
+pub decide-ext : (need n : ℕ) (p q : Readings) → ((t : ℕ) → t < n → p t ≡ q t) → decideRow need n p ≡ decideRow need n q
+unfolding decideRow
 decide-ext need n p q h = ap (decisionAt p) alike ∙ at (lowest passes n) refl
   where
     passes : ℕ → Bool

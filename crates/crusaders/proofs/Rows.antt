@@ -14,7 +14,7 @@ use Rattle.arithmetic.proofs.Counting.{count-le, count-mono, count-not, count-b
 use Rattle.model.specs.declared.Settings.{Settings}
 use Rattle.model.specs.Ensemble.{missing, present, Readings, quorum}
 use Rattle.model.specs.RoundSheet.{cca}
-use Rattle.model.specs.Steps.{same, Decision, decided, knownFaulty, decidedReading, decide, readingsOf}
+use Rattle.model.specs.Steps.{same, Decision, decided, knownFaulty, decidedReading, decideRow, readingsOf}
 use Rattle.crusaders.proofs.Equality.{present-inj, missing-present, equal-or-not, same-true, eq-same, same-unique}
 use Rattle.crusaders.proofs.Decision.{copies, decided-need, decided-all, decide-cases, decide-value}
 
@@ -79,13 +79,13 @@ module _ (sound : ℕ → Bool) (n : ℕ) where
 
 module _ (sound : ℕ → Bool) (n m : ℕ) (planned : 3 * m < n) where
   -- a sound transmitter that holds x, at most m faults: x is decided
-  pub held-decided : (copy : Readings) (x : ℤ) → Relayed sound n (λ _. present x) copy → faults sound n ≤ m → decide (n - m) n copy ≡ decided x
+  pub held-decided : (copy : Readings) (x : ℤ) → Relayed sound n (λ _. present x) copy → faults sound n ≤ m → decideRow (n - m) n copy ≡ decided x
   held-decided copy x h few =
       let most = handed-on sound n copy x h in
       decide-value (n - m) n copy x (omega arith) (omega arith)
 
   -- a sound transmitter that holds x, fewer than n-m faults: x is decided, or nothing
-  pub held-decided-or-not : (copy : Readings) (x : ℤ) → Relayed sound n (λ _. present x) copy → faults sound n < n - m → (decide (n - m) n copy ≡ decided x) ⊎ (decide (n - m) n copy ≡ knownFaulty)
+  pub held-decided-or-not : (copy : Readings) (x : ℤ) → Relayed sound n (λ _. present x) copy → faults sound n < n - m → (decideRow (n - m) n copy ≡ decided x) ⊎ (decideRow (n - m) n copy ≡ knownFaulty)
   held-decided-or-not copy x h few =
       ⊎-elim
       (λ w.
@@ -100,7 +100,7 @@ module _ (sound : ℕ → Bool) (n m : ℕ) (planned : 3 * m < n) where
       others z d = not-handed-on sound n copy z (λ s l e q. d (present-inj (sym q ∙ h s l e)))
 
   -- any transmitter, at most m faults: what two receivers decide is one value
-  pub decided-alike : (p q : Readings) (a b : ℤ) → Relayed sound n q p → faults sound n ≤ m → decide (n - m) n p ≡ decided a → decide (n - m) n q ≡ decided b → a ≡ b
+  pub decided-alike : (p q : Readings) (a b : ℤ) → Relayed sound n q p → faults sound n ≤ m → decideRow (n - m) n p ≡ decided a → decideRow (n - m) n q ≡ decided b → a ≡ b
   decided-alike p q a b h few da db =
       let all = count-not sound n in
       let needs-a = decided-need (n - m) n p a da (omega arith) in
@@ -111,16 +111,16 @@ module _ (sound : ℕ → Bool) (n m : ℕ) (planned : 3 * m < n) where
 
   -- ---- the same of readings
 
-  pub held-read : (copy : Readings) (x : ℤ) → Relayed sound n (λ _. present x) copy → faults sound n ≤ m → decidedReading (decide (n - m) n copy) ≡ present x
+  pub held-read : (copy : Readings) (x : ℤ) → Relayed sound n (λ _. present x) copy → faults sound n ≤ m → decidedReading (decideRow (n - m) n copy) ≡ present x
   held-read copy x h few = ap decidedReading (held-decided copy x h few)
 
-  pub held-read-or-not : (copy : Readings) (x : ℤ) → Relayed sound n (λ _. present x) copy → faults sound n < n - m → (decidedReading (decide (n - m) n copy) ≡ present x) ⊎ (decidedReading (decide (n - m) n copy) ≡ missing)
+  pub held-read-or-not : (copy : Readings) (x : ℤ) → Relayed sound n (λ _. present x) copy → faults sound n < n - m → (decidedReading (decideRow (n - m) n copy) ≡ present x) ⊎ (decidedReading (decideRow (n - m) n copy) ≡ missing)
   held-read-or-not copy x h few =
       ⊎-elim (λ e. inl (ap decidedReading e)) (λ e. inr (ap decidedReading e)) (held-decided-or-not copy x h few)
 
-  pub read-alike : (p q : Readings) (a b : ℤ) → Relayed sound n q p → faults sound n ≤ m → decidedReading (decide (n - m) n p) ≡ present a → decidedReading (decide (n - m) n q) ≡ present b → a ≡ b
+  pub read-alike : (p q : Readings) (a b : ℤ) → Relayed sound n q p → faults sound n ≤ m → decidedReading (decideRow (n - m) n p) ≡ present a → decidedReading (decideRow (n - m) n q) ≡ present b → a ≡ b
   read-alike p q a b h few ra rb =
-      decided-alike p q a b h few (reading-decided (decide (n - m) n p) a ra) (reading-decided (decide (n - m) n q) b rb)
+      decided-alike p q a b h few (reading-decided (decideRow (n - m) n p) a ra) (reading-decided (decideRow (n - m) n q) b rb)
 
 -- ---- rows of a sheet
 
@@ -129,10 +129,10 @@ module _ (c : Settings) (entry : Readings) (r : ℕ) where
   unfolding readingsOf
   read-direct e = rw e
 
-  pub read-decided : eqb (c .rule) cca ≡ true → readingsOf c entry r ≡ decidedReading (decide (quorum c) (c .n) (λ s. entry (r * c .n + s)))
+  pub read-decided : eqb (c .rule) cca ≡ true → readingsOf c entry r ≡ decidedReading (decideRow (quorum c) (c .n) (λ s. entry (r * c .n + s)))
   unfolding readingsOf
   read-decided e = rw e
 
 -- what holds of every present copy holds of the reading
-pub read-all {ℓ} : (P : ℤ → Type ℓ) (need n : ℕ) (copy : Readings) (z : ℤ) → 0 < need → ((s : ℕ) (a : ℤ) → s < n → copy s ≡ present a → P a) → decidedReading (decide need n copy) ≡ present z → P z
-read-all P need n copy z h f e = decided-all need n copy P z (reading-decided (decide need n copy) z e) h f
+pub read-all {ℓ} : (P : ℤ → Type ℓ) (need n : ℕ) (copy : Readings) (z : ℤ) → 0 < need → ((s : ℕ) (a : ℤ) → s < n → copy s ≡ present a → P a) → decidedReading (decideRow need n copy) ≡ present z → P z
+read-all P need n copy z h f e = decided-all need n copy P z (reading-decided (decideRow need n copy) z e) h f

@@ -13,7 +13,7 @@ use mir.Syntax.{w32}
 use mir.Val.{toZ}
 use Rattle.model.specs.Ensemble.{Readings, missing, present}
 use Rattle.model.specs.RoundSheet.{word}
-use Rattle.model.specs.Steps.{Decision, decided, knownFaulty, decide}
+use Rattle.model.specs.Steps.{Decision, decided, knownFaulty, decideRow}
 use Rattle.crusaders.proofs.Majority.{Candidate}
 use Rattle.crusaders.proofs.Candidates.{holds-bits}
 use Rattle.decisions.specs.declared.Decided.{Decided}
@@ -41,4 +41,4 @@ abbrev pub unfit : ℕ → List ℕ → List ℕ → Bool
 unfit need marks row = ltb 64 (length marks) || (not (eqb (length row) (4 * length marks)) || leb need (length marks / 2))
 
 unfoldable pub rowDecision : ℕ → List ℕ → List ℕ → Decision
-rowDecision need marks row = cond (unfit need marks row) knownFaulty (decide need (length marks) (copyAt marks row))
+rowDecision need marks row = cond (unfit need marks row) knownFaulty (decideRow need (length marks) (copyAt marks row))

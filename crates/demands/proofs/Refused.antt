@@ -19,7 +19,7 @@ use Rattle.model.specs.Ensemble.{quorum}
 use Rattle.model.specs.RoundSheet.{settingsAt, entryCount, entryAt, sheetLength, markAt, bitsAt}
 use Rattle.model.specs.AnswerSheet.{answerLength}
 use Rattle.model.specs.Steps.{held, readingsOf, roundAt}
-use Rattle.model.specs.Refusals.{refusal, Row, when, atEntry, orNext, firstOf, tooShort, badCabinets, badFaults, badMethod, badWindow, badLength, noRoom, badMark, badMissing, tooManyFaults, settingsChecks, sheetChecks, entryChecks, settleChecks}
+use Rattle.model.specs.Refusals.{refusal, Row, refuseIf, atEntry, orNext, firstOf, tooShort, badCabinets, badFaults, badMethod, badWindow, badLength, noRoom, badMark, badMissing, tooManyFaults, settingsChecks, sheetChecks, entryChecks, settleChecks}
 use Rattle.model.specs.Calls.{verdict, refused, settle}
 use Rattle.refusals.proofs.Rows.{first-append, next-none-left}
 use Rattle.refusals.proofs.Limits.{limits}
@@ -41,7 +41,7 @@ early-none : Early none
 unfolding numberOf
 early-none = record { small = omega arith }
 
-early-when : (b : Bool) (number : ℕ) → number < 10 → Early (when b number)
+early-when : (b : Bool) (number : ℕ) → number < 10 → Early (refuseIf b number)
 unfolding numberOf
 early-when true number h = record { small = h }
 early-when false number h = early-none
@@ -124,7 +124,7 @@ last-says : (a : Row) (k : ℕ) → Early a → orNext a (tooManyFaults k) ≡ s
 unfolding numberOf tooManyFaults
 last-says none k x h = (refl, zeroes (eqb k 0) refl h)
   where
-    zeroes : (b : Bool) → eqb k 0 ≡ b → when b 10 ≡ some (refusal 10 0) → k ≡ 0
+    zeroes : (b : Bool) → eqb k 0 ≡ b → refuseIf b 10 ≡ some (refusal 10 0) → k ≡ 0
     zeroes true e h = eqb-true k 0 e
     zeroes false e h = cc
 last-says (some r) k x h =

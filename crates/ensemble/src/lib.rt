@@ -5,7 +5,7 @@ ghost use Prim.Native.Nat.{_+_, _*_};
 ghost use lib.Dec.{eqb, ltb};
 ghost use mir.Syntax.{w32};
 ghost use mir.Val.{toZ, ofZ};
-ghost use Rattle.model.specs.Refusals.{when, firstOf, settingsChecks};
+ghost use Rattle.model.specs.Refusals.{refuseIf, firstOf, settingsChecks};
 ghost use Rattle.ensemble.specs.Answers.{rowOf};
 use model::Refusal;
 use model::Settings;
@@ -75,7 +75,7 @@ fn bad_window(window: u32) -> bool
 }
 
 fn refused(number: u8) -> Screened
-    ensures { λ r. ⌜ rowOf r ≡ when true number ⌝ }
+    ensures { λ r. ⌜ rowOf r ≡ refuseIf true number ⌝ }
 {
     Screened::Refused(Refusal { number, place: 0 })
 }

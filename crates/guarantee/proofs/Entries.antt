@@ -20,7 +20,7 @@ use Rattle.model.specs.declared.Settings.{Settings}
 use Rattle.model.specs.Ensemble.{Reading, missing, present, Readings, ticks}
 use Rattle.model.specs.RoundSheet.{cca, entryCount}
 use Rattle.model.specs.Planner.{withWindow}
-use Rattle.model.specs.Steps.{decide, decidedReading, readingsOf}
+use Rattle.model.specs.Steps.{decideRow, decidedReading, readingsOf}
 use Rattle.guarantee.specs.Guarantee.{IsReading, Station, Sends, Allowed, State, heard, entryOf}
 
 module _ (st : Station) (now : State) (x : Sends) where
@@ -61,7 +61,7 @@ module _ (st : Station) (now : State) (x : Sends) where
     unfolding seen
     seen-direct p r b = read-direct at (entryOf st now x p) r b ∙ direct-entry p r b
 
-    pub seen-decided : (p r : ℕ) → eqb (st .settings .rule) cca ≡ true → seen p r ≡ decidedReading (decide (st .settings .n - st .settings .m) (st .settings .n) (copies p r))
+    pub seen-decided : (p r : ℕ) → eqb (st .settings .rule) cca ≡ true → seen p r ≡ decidedReading (decideRow (st .settings .n - st .settings .m) (st .settings .n) (copies p r))
     unfolding seen
     seen-decided p r b =
         read-decided at (entryOf st now x p) r b
@@ -118,11 +118,11 @@ module _ (st : Station) (now : State) (x : Sends) where
     pub seen-reading : (w p r : ℕ) → r < st .settings .n → st .settings .m < st .settings .n → IsReading (seen w p r)
     seen-reading w p r l few =
         ⊎-elim
-        (λ b. subst⁻¹ IsReading (seen-decided w p r b) (decided-reading (decidedReading (decide (st .settings .n - st .settings .m) (st .settings .n) (copies p r))) refl))
+        (λ b. subst⁻¹ IsReading (seen-decided w p r b) (decided-reading (decidedReading (decideRow (st .settings .n - st .settings .m) (st .settings .n) (copies p r))) refl))
         (λ b. subst⁻¹ IsReading (seen-direct w p r b) (heard-reading r p l))
         (both-ways (eqb (st .settings .rule) cca))
       where
-        decided-reading : (y : Reading) → decidedReading (decide (st .settings .n - st .settings .m) (st .settings .n) (copies p r)) ≡ y → IsReading y
+        decided-reading : (y : Reading) → decidedReading (decideRow (st .settings .n - st .settings .m) (st .settings .n) (copies p r)) ≡ y → IsReading y
         decided-reading missing e = tt
         decided-reading (present z) e =
             read-all (SFits w32) (st .settings .n - st .settings .m) (st .settings .n) (copies p r) z (omega arith)

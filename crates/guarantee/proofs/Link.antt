@@ -22,7 +22,7 @@ use Rattle.model.specs.Ensemble.{missing, present, Readings, ticks, quorum}
 use Rattle.model.specs.RoundSheet.{cca, settingsAt, entryCount, entryAt, sheetLength, sheetBytes}
 use Rattle.model.specs.AnswerSheet.{answerLength, answerBytes}
 use Rattle.model.specs.Refusals.{Row, refusal, orNext, firstOf, settingsChecks, entryChecks, settleChecks, noRoom, tooManyFaults}
-use Rattle.model.specs.Calls.{granted, Written, writtenAfter, write, settle}
+use Rattle.model.specs.Calls.{granted, Outcome, writtenAfter, write, settle}
 use Rattle.model.specs.Steps.{decidedReading, readingsOf, roundOf, roundAt}
 use Rattle.rounds.proofs.Local.{Agree, Alike, round-local, answer-local}
 use Rattle.sheets.proofs.Answer.{answer-value}
@@ -67,7 +67,7 @@ module _ (st : Station) (now : State) (x : Sends) (w : ℕ) (plan : now .plan .s
   unfolding sheetOf bytes entryCount
   sheet-is =
       ap (λ (d : Settings). write d (marksFrom (st .settings) (entryOf st now x p)) (ticksFrom (st .settings) (entryOf st now x p)) (replicate (sheetLength (st .settings)) 0) .buffer) plan
-      ∙ ap (λ (z : Written). z .buffer)
+      ∙ ap (λ (z : Outcome). z .buffer)
       (filled-write (at st now x w) (entryOf st now x p) pass fits-here (replicate (sheetLength (st .settings)) 0) (length-replicate (sheetLength (st .settings)) 0))
 
   -- the round that settling finds is the round of what p reads

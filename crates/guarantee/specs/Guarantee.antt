@@ -41,7 +41,7 @@ use Rattle.model.specs.RoundSheet.{cca, entryCount, sheetLength, word}
 use Rattle.model.specs.AnswerSheet.{answerLength}
 use Rattle.model.specs.Planner.{Plan, planFrom, ceilDiv}
 use Rattle.model.specs.Refusals.{firstOf, planChecks}
-use Rattle.model.specs.Calls.{Verdict, granted, refused, Written, write, settle, step}
+use Rattle.model.specs.Calls.{Verdict, granted, refused, Outcome, write, settle, step}
 
 -- ---- Start
 
@@ -132,13 +132,13 @@ module _ (st : Station) (now : State) (x : Sends) where
       .buffer
 
   -- "each sound cabinet settles its sheet"
-  unfoldable pub settled : ℕ → Written
+  unfoldable pub settled : ℕ → Outcome
   settled p = settle (sheetOf p) (x .buffer p)
 
 -- "Its new value, bytes 6 to 9 of its answer sheet, is what it holds next"; "after a refusal it holds a missing
 -- reading"
 abbrev pub holds : Verdict ℕ → List ℕ → Reading
-holds (granted length) answer = present (toZ w32 (word answer 6))
+holds (granted size) answer = present (toZ w32 (word answer 6))
 holds (refused r) answer = missing
 
 abbrev pub stepped : Verdict Plan → Plan → Plan

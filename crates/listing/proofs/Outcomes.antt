@@ -17,7 +17,7 @@ use Rattle.model.specs.declared.Refusal.{Refusal}
 use Rattle.model.specs.RoundSheet.{byte, settingsAt}
 use Rattle.model.specs.AnswerSheet.{answerLength}
 use Rattle.model.specs.Refusals.{firstOf, settleChecks}
-use Rattle.model.specs.Calls.{Verdict, granted, refused, verdict, Written, settle}
+use Rattle.model.specs.Calls.{Verdict, granted, refused, verdict, Outcome, settle}
 use Rattle.model.specs.Listing.{maxInput, listingBuffer, listing}
 use Rattle.sheets.proofs.Outcomes.{refused-some, granted-none}
 use Rattle.round.specs.declared.Settled.the-variants.{Granted, Refused}
@@ -62,13 +62,13 @@ module _ (input buffer answer left : List ℕ) (end : ℕ) (size : end ≡ min (
   abbrev sheet : List ℕ
   sheet = take maxInput input
 
-  settled-here : (w : Written) → w ≡ settle (take end input) answer → w ≡ settle sheet listingBuffer
+  settled-here : (w : Outcome) → w ≡ settle (take end input) answer → w ≡ settle sheet listingBuffer
   settled-here w e = e ∙ ap₂ settle (read-part input end size) zeros
 
   verdict-here : (v : Verdict ℕ) → record { verdict = v; buffer = left } ≡ settle (take end input) answer
       → verdict (firstOf (settleChecks sheet listingBuffer)) (answerLength (settingsAt sheet .n)) ≡ v
   unfolding settle
-  verdict-here v e = sym (ap (λ (w : Written). w .verdict) (settled-here (record { verdict = v; buffer = left }) e))
+  verdict-here v e = sym (ap (λ (w : Outcome). w .verdict) (settled-here (record { verdict = v; buffer = left }) e))
 
   -- a buffer that has room for a round's text has room for a refusal's
   refusal-room : (text : List ℕ) → textIn refusalCapacity text buffer ≡ textIn roundCapacity text buffer
@@ -87,7 +87,7 @@ module _ (input buffer answer left : List ℕ) (end : ℕ) (size : end ≡ min (
       → roundWritten left buffer ≡ listed input buffer
   unfolding listed
   round-listed small n e =
-      ap (λ (l : List ℕ). roundWritten l buffer) (ap (λ (w : Written). w .buffer) (settled-here _ e))
+      ap (λ (l : List ℕ). roundWritten l buffer) (ap (λ (w : Outcome). w .buffer) (settled-here _ e))
       ∙ listing-settled input buffer passed
       (settled-estimate sheet bytes listingBuffer passed)
       (settled-value sheet bytes listingBuffer passed)

@@ -20,7 +20,7 @@ use Rattle.arithmetic.proofs.Bools.{clash}
 use Rattle.model.specs.declared.Settings.{Settings}
 use Rattle.model.specs.Ensemble.{Reading, missing, present, Readings, ticks, quorum}
 use Rattle.model.specs.RoundSheet.{cca, byte, settingsAt, entryCount, markAt, bitsAt, entryAt}
-use Rattle.model.specs.Steps.{same, decisionAt, decidedReading, decide, readingsOf, roundAt}
+use Rattle.model.specs.Steps.{same, decisionAt, decidedReading, decideRow, readingsOf, roundAt}
 use Rattle.model.specs.AnswerSheet.{answerLength}
 use Rattle.model.specs.Refusals.{Row, orNext, firstOf, sheetChecks, entryChecks, settleChecks, noRoom, tooManyFaults}
 use Rattle.sheets.proofs.Words.{word-fits}
@@ -41,8 +41,8 @@ one-of : (b : Bool) (v u : Reading) → Holds v → Holds u → Holds (cond b v 
 one-of true v u hv hu = hv
 one-of false v u hv hu = hu
 
-decided-fits : (need n : ℕ) (copy : Readings) → ((s : ℕ) → Holds (copy s)) → Holds (decidedReading (decide need n copy))
-unfolding decide
+decided-fits : (need n : ℕ) (copy : Readings) → ((s : ℕ) → Holds (copy s)) → Holds (decidedReading (decideRow need n copy))
+unfolding decideRow
 decided-fits need n copy fits = go (lowest (λ s. leb need (count (λ t. same (copy s) (copy t)) n)) n)
   where
     go : (o : Option ℕ) → Holds (decidedReading (decisionAt copy o))
@@ -52,7 +52,7 @@ decided-fits need n copy fits = go (lowest (λ s. leb need (count (λ t. same (c
 reading-fits : (c : Settings) (entry : Readings) → ((e : ℕ) → Holds (entry e)) → (r : ℕ) → Holds (readingsOf c entry r)
 unfolding readingsOf
 reading-fits c entry fits r =
-    one-of (eqb (c .rule) cca) (decidedReading (decide (quorum c) (c .n) (λ s. entry (r * c .n + s)))) (entry r)
+    one-of (eqb (c .rule) cca) (decidedReading (decideRow (quorum c) (c .n) (λ s. entry (r * c .n + s)))) (entry r)
     (decided-fits (quorum c) (c .n) (λ s. entry (r * c .n + s)) (λ s. fits (r * c .n + s)))
     (fits r)
 

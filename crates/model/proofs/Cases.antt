@@ -2,24 +2,24 @@
 -- Assumes nothing.
 use mathlib.Core.List.{map}
 use mathlib.Core.Path.{_≡_, refl}
-use Rattle.arithmetic.specs.Counting.{count, any, lowest, sum}
+use Rattle.arithmetic.specs.Counting.{count, anyBelow, lowest, sum}
 use Rattle.arithmetic.specs.Writing.{table}
 use Rattle.model.specs.RoundSheet.{word, entryCount, entryAt, rowEntries, rowPart, bytes4, readingBytes, sizeBytes, sheetBytes}
-use Rattle.model.specs.Steps.{decide, readingsOf, accepted, acceptedAt, numbered, averageOf, medianOf, midpointOf, estimate, mean, roundOf, roundAt}
+use Rattle.model.specs.Steps.{decideRow, readingsOf, accepted, acceptedAt, numbered, averageOf, medianOf, midpointOf, estimate, mean, roundOf, roundAt}
 use Rattle.model.specs.Planner.{ceilDiv, windowFactor, nextWindow, growth, advance, after}
 use Rattle.model.specs.Refusals.{firstOf, tooShort, badCabinets, badFaults, badMethod, badWindow, badLength, noRoom, badMark, badMissing, tooManyFaults, badPlan, targetMissed, settingsChecks, sheetChecks, entryChecks, rowChecks, settleChecks, targetChecks}
 use Rattle.model.specs.Calls.{row}
-use Rattle.model.specs.Listing.{digits, line, cabinetLines, roundText, refusalText, listing}
+use Rattle.model.specs.Listing.{digitsUpTo, line, cabinetLines, roundText, refusalText, listing}
 use Rattle.model.specs.Cases.{Case, cases, ask, ofRound, sheet1, listing1, sheet10, rowsShown, rowsWanted}
 
 -- cases 1 to 12
 pub rounds-on-paper : map (λ (k : Case). ask (k .asks)) cases ≡ map (λ (k : Case). k .answer) cases
-unfolding count any lowest sum decide readingsOf accepted acceptedAt numbered averageOf medianOf midpointOf estimate mean roundOf ceilDiv windowFactor nextWindow growth advance after firstOf badCabinets badFaults badMethod badWindow tooManyFaults badPlan targetMissed settingsChecks targetChecks cases ask ofRound
+unfolding count anyBelow lowest sum decideRow readingsOf accepted acceptedAt numbered averageOf medianOf midpointOf estimate mean roundOf ceilDiv windowFactor nextWindow growth advance after firstOf badCabinets badFaults badMethod badWindow tooManyFaults badPlan targetMissed settingsChecks targetChecks cases ask ofRound
 rounds-on-paper = refl
 
 -- the listing of case 1, from the bytes of its sheet
 pub listing-on-paper : listing sheet1 ≡ listing1
-unfolding count any lowest sum table word entryCount entryAt bytes4 readingBytes sizeBytes sheetBytes readingsOf accepted acceptedAt numbered medianOf estimate mean roundOf roundAt firstOf tooShort badCabinets badFaults badMethod badWindow badLength noRoom badMark badMissing tooManyFaults settingsChecks sheetChecks entryChecks settleChecks digits line cabinetLines roundText refusalText listing sheet1 listing1
+unfolding count anyBelow lowest sum table word entryCount entryAt bytes4 readingBytes sizeBytes sheetBytes readingsOf accepted acceptedAt numbered medianOf estimate mean roundOf roundAt firstOf tooShort badCabinets badFaults badMethod badWindow badLength noRoom badMark badMissing tooManyFaults settingsChecks sheetChecks entryChecks settleChecks digitsUpTo line cabinetLines roundText refusalText listing sheet1 listing1
 listing-on-paper = refl
 
 -- the rows of cabinets 0 and N-1, and of no cabinet

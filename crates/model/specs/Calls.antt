@@ -63,14 +63,14 @@ read s marks readings = readAfter (firstOf (readChecks s marks readings)) s mark
 
 -- ---- "The writer takes the settings and two arrays"; "Bytes past the sheet keep what they had". It grants the sheet's length
 
-pub record Written : Type 0 where
+pub record Outcome : Type 0 where
   pub verdict : Verdict ℕ
   pub buffer : List ℕ
 
-abbrev pub writtenAfter : Row → ℕ → List ℕ → List ℕ → Written
+abbrev pub writtenAfter : Row → ℕ → List ℕ → List ℕ → Outcome
 writtenAfter row size bytes buffer = record { verdict = verdict row size; buffer = lent row (overwrite bytes buffer) buffer }
 
-unfoldable pub write : Settings → List ℕ → List ℤ → List ℕ → Written
+unfoldable pub write : Settings → List ℕ → List ℤ → List ℕ → Outcome
 write c marks readings buffer =
     writtenAfter (firstOf (writeChecks c marks readings buffer)) (sheetLength c) (sheetBytes c marks readings) buffer
 
@@ -82,7 +82,7 @@ row s r = lent (firstOf (rowChecks s)) (cond (ltb r (settingsAt s .n)) (rowPart 
 
 -- ---- Settling: "it leaves as one answer sheet or one numbered refusal". It grants the answer sheet's length
 
-unfoldable pub settle : List ℕ → List ℕ → Written
+unfoldable pub settle : List ℕ → List ℕ → Outcome
 settle s answer =
     writtenAfter
     (firstOf (settleChecks s answer))

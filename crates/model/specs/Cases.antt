@@ -12,7 +12,7 @@ use lib.IntN.{ℤ, pos, negsuc}
 use Rattle.model.specs.declared.Settings.{Settings}
 use Rattle.model.specs.Ensemble.{Reading, missing, present, ticks}
 use Rattle.model.specs.RoundSheet.{fca, cca, median, midpoint, sheetBytes}
-use Rattle.model.specs.Steps.{Decision, decided, knownFaulty, decide, Round, readingsOf, roundOf}
+use Rattle.model.specs.Steps.{Decision, decided, knownFaulty, decideRow, Round, readingsOf, roundOf}
 use Rattle.model.specs.Planner.{planFrom, after}
 use Rattle.model.specs.Refusals.{Row, firstOf, tooManyFaults, targetChecks}
 use Rattle.model.specs.Calls.{row}
@@ -59,7 +59,7 @@ ask (round c es) = ofRound (roundFrom c es) (pos (roundFrom c es .count) ∷ rou
 ask (counted c es) = ofRound (roundFrom c es) (pos (roundFrom c es .count) ∷ roundFrom c es .value ∷ [])
 ask (settled c es) = ofRound (roundFrom c es) (roundFrom c es .value ∷ [])
 ask (replaced c es r) = ofRound (roundFrom c es) (roundFrom c es .used r ∷ roundFrom c es .value ∷ [])
-ask (decision n m copies) = ofDecision (decide (n - m) n (λ s. getD copies s missing))
+ask (decision n m copies) = ofDecision (decideRow (n - m) n (λ s. getD copies s missing))
 ask (planned c κ k) = gives (pos (after k (planFrom c κ) .settings .window) ∷ pos (after k (planFrom c κ) .accuracy) ∷ [])
 ask (target c κ t) = ofRow (firstOf (targetChecks c κ t)) grants
 

@@ -1,7 +1,7 @@
 -- Document 01, "Program `settle`": the text that it writes.
---   decimal, signed    a number in decimal digits, without leading zeros; a minus sign before a negative one
---   line               fields parted by one space, ended by a line feed
---   listing            the whole text for the bytes of a sheet
+--   decimal, signedDecimal    a number in decimal digits, without leading zeros; a minus sign before a negative one
+--   line                      fields parted by one space, ended by a line feed
+--   listing                   the whole text for the bytes of a sheet
 use mathlib.Core.Bool.{true, false}
 use mathlib.Core.List.{List, [], _∷_, _++_}
 use mathlib.Core.Option.{none, some}
@@ -21,18 +21,18 @@ abbrev pub maxInput : ℕ
 maxInput = 20_489
 
 -- the digits of x, at most as many as the first argument says
-unfoldable pub digits : ℕ → ℕ → List ℕ
-digits zero x = []
-digits (suc k) x = elim (ltb x 10) [ true ↦ (48 + x) ∷ [] | false ↦ digits k (x / 10) ++ ((48 + x % 10) ∷ []) ]
+unfoldable pub digitsUpTo : ℕ → ℕ → List ℕ
+digitsUpTo zero x = []
+digitsUpTo (suc k) x = elim (ltb x 10) [ true ↦ (48 + x) ∷ [] | false ↦ digitsUpTo k (x / 10) ++ ((48 + x % 10) ∷ []) ]
 
 -- "Numbers are decimal without leading zeros"; a number of 32 bits has at most ten digits
 abbrev pub decimal : ℕ → List ℕ
-decimal x = digits 10 x
+decimal x = digitsUpTo 10 x
 
 -- "a minus sign before negative ones"
-abbrev pub signed : ℤ → List ℕ
-signed (pos x) = decimal x
-signed (negsuc x) = 45 ∷ decimal (suc x)
+abbrev pub signedDecimal : ℤ → List ℕ
+signedDecimal (pos x) = decimal x
+signedDecimal (negsuc x) = 45 ∷ decimal (suc x)
 
 -- "fields are parted by one space, and a line feed ends each line"
 unfoldable pub line : List ℕ → List (List ℕ) → List ℕ
@@ -51,12 +51,12 @@ refusedWord = 114 ∷ 101 ∷ 102 ∷ 117 ∷ 115 ∷ 101 ∷ 100 ∷ []
 unfoldable pub cabinetLines : Round → ℕ → List ℕ
 cabinetLines round zero = []
 cabinetLines round (suc r) =
-    cabinetLines round r ++ line (decimal r) (decimal (round .mark r) ∷ signed (round .used r) ∷ [])
+    cabinetLines round r ++ line (decimal r) (decimal (round .mark r) ∷ signedDecimal (round .used r) ∷ [])
 
 -- "First line: `round`, N, count, estimate, new value"
 unfoldable pub roundText : ℕ → Round → List ℕ
 roundText n round =
-    line roundWord (decimal n ∷ decimal (round .count) ∷ signed (round .estimate) ∷ signed (round .value) ∷ [])
+    line roundWord (decimal n ∷ decimal (round .count) ∷ signedDecimal (round .estimate) ∷ signedDecimal (round .value) ∷ [])
     ++ cabinetLines round n
 
 -- "A refusal is `refused`, number, place"

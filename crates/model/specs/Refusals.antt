@@ -1,5 +1,5 @@
 -- Document 01, "Numbers of refusal": the table, a definition for each row in its order, and the rows that apply to each call.
---   when, atEntry     a row whose place is 0; a row whose place is the lowest entry at fault
+--   refuseIf, atEntry a row whose place is 0; a row whose place is the lowest entry at fault
 --   firstOf           "Checks run in this order, those that apply to the call": the first row that refuses
 --   tooShort .. targetMissed    rows 1 to 12
 --   readChecks, writeChecks, rowChecks, settleChecks, planChecks, stepChecks, targetChecks    the rows of each call
@@ -28,8 +28,8 @@ refusal number place = record { number = number; place = place }
 abbrev pub Row : Type 0
 Row = Option Refusal
 
-abbrev pub when : Bool → ℕ → Row
-when fails number = cond fails (some (refusal number 0)) none
+abbrev pub refuseIf : Bool → ℕ → Row
+refuseIf fails number = cond fails (some (refusal number 0)) none
 
 abbrev pub atEntry : Option ℕ → ℕ → Row
 atEntry (some e) number = some (refusal number e)
@@ -46,31 +46,31 @@ firstOf (r ∷ rs) = orNext r (firstOf rs)
 
 -- 1 (stub): "sheet under 8 bytes"
 unfoldable pub tooShort : List ℕ → Row
-tooShort s = when (ltb (length s) headerSize) 1
+tooShort s = refuseIf (ltb (length s) headerSize) 1
 
 -- 2 (ensemble): "N is 0 or above 64"
 unfoldable pub badCabinets : Settings → Row
-badCabinets c = when (eqb (c .n) 0 || ltb maxCabinets (c .n)) 2
+badCabinets c = refuseIf (eqb (c .n) 0 || ltb maxCabinets (c .n)) 2
 
 -- 3 (fault plan): "N below 3m+1"
 unfoldable pub badFaults : Settings → Row
-badFaults c = when (ltb (c .n) (3 * c .m + 1)) 3
+badFaults c = refuseIf (ltb (c .n) (3 * c .m + 1)) 3
 
 -- 4 (rule): "unknown rule or estimator"
 unfoldable pub badMethod : Settings → Row
-badMethod c = when (ltb cca (c .rule) || ltb midpoint (c .estimator)) 4
+badMethod c = refuseIf (ltb cca (c .rule) || ltb midpoint (c .estimator)) 4
 
 -- 5 (window): "δ above 1,000,000"
 unfoldable pub badWindow : Settings → Row
-badWindow c = when (ltb maxWindow (c .window)) 5
+badWindow c = refuseIf (ltb maxWindow (c .window)) 5
 
 -- 6 (length): "not 8 + 5E bytes"; for the writer "6 when an array is not E long"
 unfoldable pub badLength : ℕ → ℕ → Row
-badLength given wanted = when (not (eqb given wanted)) 6
+badLength given wanted = refuseIf (not (eqb given wanted)) 6
 
 -- 7 (tray): "answer buffer too short"; for the reader "7 when either array is shorter than E", for the writer "7 when its buffer is short"
 unfoldable pub noRoom : ℕ → ℕ → Row
-noRoom given wanted = when (ltb given wanted) 7
+noRoom given wanted = refuseIf (ltb given wanted) 7
 
 -- 8 (mark): "a mark not 0 or 1"
 unfoldable pub badMark : (ℕ → ℕ) → ℕ → Row
@@ -82,15 +82,15 @@ badMissing mark bits E = atEntry (lowest (λ e. eqb (mark e) 0 && not (eqb (bits
 
 -- 10 (too many faults): "no reading accepted"
 unfoldable pub tooManyFaults : ℕ → Row
-tooManyFaults accepted = when (eqb accepted 0) 10
+tooManyFaults accepted = refuseIf (eqb accepted 0) 10
 
 -- 11 (plan): "starting κ above 1,000,000,000, or above 32 rounds; for a step as said above"
 unfoldable pub badPlan : Bool → Row
-badPlan fails = when fails 11
+badPlan fails = refuseIf fails 11
 
 -- 12 (target): "window after 32 rounds above target"
 unfoldable pub targetMissed : ℕ → ℕ → Row
-targetMissed last target = when (ltb target last) 12
+targetMissed last target = refuseIf (ltb target last) 12
 
 -- rows 2 to 5, of any settings
 unfoldable pub settingsChecks : Settings → List Row

@@ -1,5 +1,5 @@
 -- Document 01, "Steps of a round" (document 004, section 3).
---   Decision, decide          the crusaders decision of a row
+--   Decision, decideRow       the crusaders decision of a row
 --   readingsOf                the reading of each cabinet: FCA as sent, CCA as decided
 --   inside, held              a reading lies in a span; how many readings a span holds
 --   accepted, acceptedAt      some span as wide as the window holds the reading and N-m readings
@@ -12,8 +12,8 @@ use mathlib.Core.Option.{Option, none, some}
 use Prim.Native.Nat.{ℕ, _+_, _*_, _/_}
 use lib.Dec.{leb, ltb, eqb}
 use lib.IntN.{ℤ, pos, _+ℤ_}
-use lib.Signed.{leZ, ltZ, shrZ}
-use Rattle.arithmetic.specs.Counting.{count, any, lowest, sum, eqZ}
+use lib.Signed.{leZ, ltZ}
+use Rattle.arithmetic.specs.Counting.{count, anyBelow, lowest, sum, eqZ, floorDiv}
 use Rattle.model.specs.declared.Settings.{Settings}
 use Rattle.model.specs.Ensemble.{Reading, missing, present, Readings, ticks, quorum}
 use mathlib.Core.List.{List}
@@ -39,13 +39,13 @@ decisionAt copy (some s) = decided (ticks (copy s))
 decisionAt copy none = knownFaulty
 
 -- "CCA first decides each row: the value that at least N-m present copies equal"
-unfoldable pub decide : ℕ → ℕ → Readings → Decision
-decide need n copy = decisionAt copy (lowest (λ s. leb need (count (λ t. same (copy s) (copy t)) n)) n)
+unfoldable pub decideRow : ℕ → ℕ → Readings → Decision
+decideRow need n copy = decisionAt copy (lowest (λ s. leb need (count (λ t. same (copy s) (copy t)) n)) n)
 
 -- "entry r × N + s being the copy of r's value that s relayed"
 unfoldable pub readingsOf : Settings → Readings → Readings
 readingsOf c entry r =
-    cond (eqb (c .rule) cca) (decidedReading (decide (quorum c) (c .n) (λ s. entry (r * c .n + s)))) (entry r)
+    cond (eqb (c .rule) cca) (decidedReading (decideRow (quorum c) (c .n) (λ s. entry (r * c .n + s)))) (entry r)
 
 -- a reading v with s ≤ v ≤ f
 abbrev pub inside : ℤ → ℤ → Reading → Bool
@@ -64,7 +64,7 @@ within w missing v = false
 -- "A reading v is accepted if some span [s, f] with s ≤ v ≤ f and f - s ≤ δ holds at least N-m present readings": it is enough
 -- to try the spans that start at a reading (the law `accepted-span` says so of any span)
 unfoldable pub accepted : ℕ → ℕ → ℕ → Readings → ℕ → Bool
-accepted w need n v r = any (λ s. within w (v s) (v r) && leb need (count (λ t. within w (v s) (v t)) n)) n
+accepted w need n v r = anyBelow (λ s. within w (v s) (v r) && leb need (count (λ t. within w (v s) (v t)) n)) n
 
 abbrev pub ticksAt : Readings → Option ℕ → ℤ
 ticksAt v (some r) = ticks (v r)
@@ -84,7 +84,7 @@ numbered acc n v h =
 
 -- "average, sum over count rounded down"
 unfoldable pub averageOf : (ℕ → Bool) → ℕ → Readings → ℤ
-averageOf acc n v = shrZ (sum (λ r. cond (acc r) (ticks (v r)) (pos 0)) n) (count acc n)
+averageOf acc n v = floorDiv (sum (λ r. cond (acc r) (ticks (v r)) (pos 0)) n) (count acc n)
 
 -- "median, the element numbered ⌈count/2⌉ from below, counting from 1"
 unfoldable pub medianOf : (ℕ → Bool) → ℕ → Readings → ℤ
@@ -92,7 +92,7 @@ medianOf acc n v = numbered acc n v ((count acc n + 1) / 2)
 
 -- "midpoint, half of lowest plus highest rounded down"
 unfoldable pub midpointOf : (ℕ → Bool) → ℕ → Readings → ℤ
-midpointOf acc n v = shrZ (numbered acc n v 1 +ℤ numbered acc n v (count acc n)) 2
+midpointOf acc n v = floorDiv (numbered acc n v 1 +ℤ numbered acc n v (count acc n)) 2
 
 -- "Estimate, over accepted readings only"
 unfoldable pub estimate : ℕ → (ℕ → Bool) → ℕ → Readings → ℤ
@@ -100,7 +100,7 @@ estimate kind acc n v = cond (eqb kind average) (averageOf acc n v) (cond (eqb k
 
 -- "the mean of N used values to the nearest whole number, a half going up": the whole part of (2S + N) / 2N
 unfoldable pub mean : ℕ → ℤ → ℤ
-mean n s = shrZ (s +ℤ s +ℤ pos n) (2 * n)
+mean n s = floorDiv (s +ℤ s +ℤ pos n) (2 * n)
 
 -- document 01, "The answer sheet": "0 missing or known faulty, 1 accepted, 2 present and not accepted"
 abbrev pub markOf : Bool → Reading → ℕ

@@ -16,7 +16,7 @@ use Rattle.crusaders.proofs.Rows.{read-direct, read-decided}
 use Rattle.model.specs.declared.Settings.{Settings}
 use Rattle.model.specs.Ensemble.{missing, present}
 use Rattle.model.specs.RoundSheet.{cca, byte, word, entryCount, entryAt, rowEntries, rowPart}
-use Rattle.model.specs.Steps.{decidedReading, decide, readingsOf}
+use Rattle.model.specs.Steps.{decidedReading, decideRow, readingsOf}
 use Rattle.sheets.proofs.Words.{word-ext}
 use Rattle.decisions.specs.Rows.{copyAt, rowDecision}
 use Rattle.rows.specs.Parts.{partAt}
@@ -60,7 +60,7 @@ entry-part s E j k i l e t ht hl a b =
     (ap (word s) b ∙ sym (word-part s i l (4 * t) hl))
 
 -- a row that fits is decided
-row-fit : (need n : ℕ) (marks row : List ℕ) → length marks ≡ n → length row ≡ 4 * n → n ≤ 64 → n / 2 < need → rowDecision need marks row ≡ decide need n (copyAt marks row)
+row-fit : (need n : ℕ) (marks row : List ℕ) → length marks ≡ n → length row ≡ 4 * n → n ≤ 64 → n / 2 < need → rowDecision need marks row ≡ decideRow need n (copyAt marks row)
 unfolding rowDecision
 row-fit need n marks row a b h most =
     rw (a, b, le-ltb 64 n h, eq-eqb (4 * n) (4 * n) refl, lt-leb need (n / 2) most)
@@ -95,7 +95,7 @@ module _ (s : List ℕ) (c : Settings) (values : List ℕ) where
         let room = row-room r (c .n) l in
         read-decided c (entryAt s (entryCount c)) r b
         ∙ ap decidedReading
-        (ap (λ (E : ℕ). decide (c .n - c .m) (c .n) (λ t. entryAt s E (r * c .n + t))) square
+        (ap (λ (E : ℕ). decideRow (c .n - c .m) (c .n) (λ t. entryAt s E (r * c .n + t))) square
         ∙ decide-ext (c .n - c .m) (c .n) (λ t. entryAt s (c .n * c .n) (r * c .n + t)) (copyAt (marks r) (readings r)) (λ t h. copy r t l h)
         ∙ sym (row-fit (c .n - c .m) (c .n) (marks r) (readings r) (length-part s (8 + r * c .n) (c .n) (omega arith)) (length-part s (8 + c .n * c .n + 4 * (r * c .n)) (4 * c .n) (omega arith)) small (half (c .n) (c .m) few))
         ∙ ap (rowDecision (c .n - c .m) (marks r)) (sym (row-of r l)))

@@ -6,7 +6,7 @@ use mathlib.Core.Option.{Option, none, some}
 use mathlib.Core.Path.{_≡_, refl, sym, ap, _∙_}
 use Prim.Native.Nat.{ℕ, zero, suc}
 use lib.ListN.{getD}
-use Rattle.model.specs.Refusals.{Row, when, atEntry, orNext, firstOf}
+use Rattle.model.specs.Refusals.{Row, refuseIf, atEntry, orNext, firstOf}
 
 -- the first of two lists joined: the first list's, or else the second's
 pub first-append : (xs ys : List Row) → firstOf (xs ++ ys) ≡ orNext (firstOf xs) (firstOf ys)
@@ -51,7 +51,7 @@ none-at (r ∷ rows) h zero = next-none-left r (firstOf rows) h
 none-at (r ∷ rows) h (suc i) = none-at rows (next-none-right r (firstOf rows) h) i
 
 -- a row by its test
-pub when-none : (b : Bool) (number : ℕ) → when b number ≡ none → b ≡ false
+pub when-none : (b : Bool) (number : ℕ) → refuseIf b number ≡ none → b ≡ false
 when-none true number h = cc
 when-none false number h = refl
 

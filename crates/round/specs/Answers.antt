@@ -1,7 +1,7 @@
 -- What the enum of settling says in document 01's terms.
 use mathlib.Core.List.{List}
 use Prim.Native.Nat.{ℕ}
-use Rattle.model.specs.Calls.{Verdict, granted, refused, Written}
+use Rattle.model.specs.Calls.{Verdict, granted, refused, Outcome}
 use Rattle.round.specs.declared.Settled.{Settled}
 use Rattle.round.specs.declared.Settled.the-variants.{Granted, Refused}
 
@@ -11,5 +11,5 @@ verdictOf (Granted size) = granted size
 verdictOf (Refused r) = refused r
 
 -- the answer, with the buffer as it is left
-abbrev pub settledAs : Settled → List ℕ → Written
+abbrev pub settledAs : Settled → List ℕ → Outcome
 settledAs r buffer = record { verdict = verdictOf r; buffer = buffer }

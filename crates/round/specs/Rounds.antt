@@ -11,7 +11,7 @@ use Rattle.arithmetic.proofs.Shift.{down}
 use Rattle.model.specs.RoundSheet.{bytes4, settingsAt}
 use Rattle.model.specs.AnswerSheet.{answerLength, answerBytes}
 use Rattle.model.specs.Refusals.{tooManyFaults}
-use Rattle.model.specs.Calls.{Written, writtenAfter}
+use Rattle.model.specs.Calls.{Outcome, writtenAfter}
 use Rattle.model.specs.Steps.{Round, roundAt}
 use Rattle.estimates.specs.Values.{valueAt, presentAt}
 
@@ -37,6 +37,6 @@ abbrev pub headerBytes : ℕ → ℕ → ℕ → ℕ → List ℕ
 headerBytes n count estimate value = (n ∷ count ∷ []) ++ (bytes4 estimate ++ bytes4 value)
 
 -- what settling gives for a sheet that passes checks 1 to 9: refusal 10, or the answer sheet
-abbrev pub settledAfter : List ℕ → List ℕ → Written
+abbrev pub settledAfter : List ℕ → List ℕ → Outcome
 settledAfter s old =
     writtenAfter (tooManyFaults (roundAt s .count)) (answerLength (settingsAt s .n)) (answerBytes (settingsAt s .n) (roundAt s)) old

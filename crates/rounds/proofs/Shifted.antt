@@ -12,7 +12,7 @@ use native.Mathlib.Omega.{arith}
 use lib.Dec.{leb, ltb, eqb}
 use lib.IntN.{ℤ, pos, _+ℤ_}
 use lib.Signed.{leZ, ltZ, shrZ}
-use Rattle.arithmetic.specs.Counting.{bit, count, any, lowest, sum}
+use Rattle.arithmetic.specs.Counting.{bit, count, anyBelow, lowest, sum}
 use Rattle.arithmetic.proofs.Bools.{and-left}
 use Rattle.arithmetic.proofs.Counting.{count-ext, any-ext, lowest-ext, lowest-found}
 use Rattle.arithmetic.proofs.Shift.{down, down-cong, pos-down, le-down, lt-down, add-down, add-pos-down, shr-down}
@@ -47,7 +47,7 @@ module _ (w : ℕ) (pres : ℕ → Bool) (x : ℕ → ℕ) where
   spans s r = within-nat w (pres s) (x s) (pres r) (x r)
 
   unfoldable pub accepted-nat : ℕ → ℕ → ℕ → Bool
-  accepted-nat need n r = any (λ s. spans s r && leb need (count (spans s) n)) n
+  accepted-nat need n r = anyBelow (λ s. spans s r && leb need (count (spans s) n)) n
 
   pub accepted-shifted : (k need n r : ℕ) → accepted w need n (shifted k pres x) r ≡ accepted-nat need n r
   unfolding accepted accepted-nat

@@ -1,7 +1,7 @@
 -- What the enum of this crate says in document 01's terms, and what the writer leaves.
 use mathlib.Core.List.{List}
 use Prim.Native.Nat.{ℕ}
-use Rattle.model.specs.Calls.{Verdict, granted, refused, Written}
+use Rattle.model.specs.Calls.{Verdict, granted, refused, Outcome}
 use Rattle.sheet_writer.specs.declared.Filled.{Filled}
 use Rattle.sheet_writer.specs.declared.Filled.the-variants.{Granted, Refused}
 
@@ -11,5 +11,5 @@ filledAs (Granted size) = granted size
 filledAs (Refused r) = refused r
 
 -- the writer's answer, with the buffer as it leaves it
-abbrev pub writtenAs : Filled → List ℕ → Written
+abbrev pub writtenAs : Filled → List ℕ → Outcome
 writtenAs r buffer = record { verdict = filledAs r; buffer = buffer }

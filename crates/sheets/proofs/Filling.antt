@@ -16,7 +16,7 @@ use Rattle.model.specs.declared.Settings.{Settings}
 use Rattle.model.specs.declared.Refusal.{Refusal}
 use Rattle.model.specs.RoundSheet.{byte, entryCount, sheetLength, readingBytes, sizeBytes, sheetBytes}
 use Rattle.model.specs.Refusals.{refusal, orNext, firstOf, settingsChecks, badLength, noRoom, badMark, badMissing}
-use Rattle.model.specs.Calls.{granted, write, Written}
+use Rattle.model.specs.Calls.{granted, write, Outcome}
 use Rattle.sheets.specs.Entries.{notZero, arrayRows, writeRows}
 use Rattle.refusals.proofs.Rows.{next-none-left, next-none-right}
 use Rattle.refusals.proofs.Limits.{limits, entries-most}
@@ -117,7 +117,7 @@ pub writer-fills :
     (c : Settings) (marks : List ℕ) (readings : List ℤ) (buffer filled : List ℕ)
     → writeRows c marks readings (length buffer) ≡ none → length marks ≡ entryCount c
     → filled ≡ overwrite (sizeBytes c ++ (marks ++ readingBytes readings)) buffer
-    → _≡_ {A = Written} (record { verdict = granted (8 + 5 * length marks); buffer = filled })
+    → _≡_ {A = Outcome} (record { verdict = granted (8 + 5 * length marks); buffer = filled })
     (write c marks readings buffer)
 unfolding sheetBytes
 writer-fills c marks readings buffer filled rows long f =

@@ -15,7 +15,7 @@ use Rattle.arithmetic.proofs.Writing.{length-table, take-overwrite, overwrite-w
 use Rattle.model.specs.declared.Settings.{Settings}
 use Rattle.model.specs.RoundSheet.{byte, settingsAt, entryCount, sheetLength, markAt, bitsAt, sheetBytes}
 use Rattle.model.specs.Refusals.{firstOf, settingsChecks, sheetChecks, entryChecks, readChecks, writeChecks, noRoom}
-use Rattle.model.specs.Calls.{granted, verdict, Read, marksOf, ticksOf, read, Written, write}
+use Rattle.model.specs.Calls.{granted, verdict, Read, marksOf, ticksOf, read, Outcome, write}
 use Rattle.sheets.specs.Entries.{readRows, writeRows}
 use Rattle.refusals.proofs.Rows.{first-append, next-none-left, next-none-right, none-at}
 use Rattle.sheets.proofs.Outcomes.{granted-none, granted-same, read-rows, read-grants, write-rows, write-grants}
@@ -118,7 +118,7 @@ module _
   -- the bytes of the sheet that the writer wrote
   pub write-bytes : take size (write c marks readings buffer .buffer) ≡ sheetBytes c marks readings
   write-bytes =
-      ap (λ (w : Written). take size (w .buffer)) (write-grants c marks readings buffer passed)
+      ap (λ (w : Outcome). take size (w .buffer)) (write-grants c marks readings buffer passed)
       ∙ ap (λ (k : ℕ). take k (overwrite (sheetBytes c marks readings) buffer)) (sym same-size ∙ sym (length-back c marks readings well-formed))
       ∙ take-overwrite (sheetBytes c marks readings) buffer
 

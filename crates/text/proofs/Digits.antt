@@ -13,20 +13,20 @@ use lib.ListN.{length, getD, length-append, List·getD-append}
 use lib.Seq.{getD-at}
 use Rattle.arithmetic.proofs.Bools.{both-ways}
 use Rattle.arithmetic.proofs.Counting.{split-last}
-use Rattle.model.specs.Listing.{digits, decimal}
+use Rattle.model.specs.Listing.{digitsUpTo, decimal}
 
 -- ---- one digit, or one digit more than the tenth part has
 
-pub digits-small : (k x : ℕ) → x < 10 → digits (suc k) x ≡ (48 + x) ∷ []
-unfolding digits
-digits-small k x h = rw (lt-ltb x 10 h, digits)
+pub digits-small : (k x : ℕ) → x < 10 → digitsUpTo (suc k) x ≡ (48 + x) ∷ []
+unfolding digitsUpTo
+digits-small k x h = rw (lt-ltb x 10 h, digitsUpTo)
 
-pub digits-large : (k x : ℕ) → 10 ≤ x → digits (suc k) x ≡ digits k (x / 10) ++ ((48 + x % 10) ∷ [])
-unfolding digits
-digits-large k x h = rw (le-ltb x 10 h, digits)
+pub digits-large : (k x : ℕ) → 10 ≤ x → digitsUpTo (suc k) x ≡ digitsUpTo k (x / 10) ++ ((48 + x % 10) ∷ [])
+unfolding digitsUpTo
+digits-large k x h = rw (le-ltb x 10 h, digitsUpTo)
 
 digits-cases : (P : List ℕ → Type 0) (k x : ℕ) → (x < 10 → P ((48 + x) ∷ []))
-    → (10 ≤ x → P (digits k (x / 10) ++ ((48 + x % 10) ∷ []))) → P (digits (suc k) x)
+    → (10 ≤ x → P (digitsUpTo k (x / 10) ++ ((48 + x % 10) ∷ []))) → P (digitsUpTo (suc k) x)
 digits-cases P k x small large =
     ⊎-elim
     (λ t. let h = ltb-true x 10 t in rw (digits-small k x h) (small h))
@@ -38,28 +38,28 @@ tenth-below k x h = div-lt-iff-lt-mul (lit< tt) .1 (rw pow-suc at h)
 
 -- ---- how many digits
 
-pub length-digits : (k x : ℕ) → length (digits k x) ≤ k
-unfolding digits
+pub length-digits : (k x : ℕ) → length (digitsUpTo k x) ≤ k
+unfolding digitsUpTo
 length-digits zero x = omega arith
 length-digits (suc k) x =
     digits-cases (λ l. length l ≤ suc k) k x
     (λ h. omega arith)
     (λ h.
     let ih = length-digits k (x / 10) in
-    let l = length-append (digits k (x / 10)) ((48 + x % 10) ∷ []) in
+    let l = length-append (digitsUpTo k (x / 10)) ((48 + x % 10) ∷ []) in
     omega arith)
 
-pub digits-some : (k x : ℕ) → 0 < length (digits (suc k) x)
+pub digits-some : (k x : ℕ) → 0 < length (digitsUpTo (suc k) x)
 digits-some k x =
     digits-cases (λ l. 0 < length l) k x
     (λ h. omega arith)
     (λ h.
-    let l = length-append (digits k (x / 10)) ((48 + x % 10) ∷ []) in
+    let l = length-append (digitsUpTo k (x / 10)) ((48 + x % 10) ∷ []) in
     omega arith)
 
 -- a number below 10^j has at most j digits
-pub length-digits-below : (k j x : ℕ) → x < 10 ^ suc j → length (digits k x) ≤ suc j
-unfolding digits
+pub length-digits-below : (k j x : ℕ) → x < 10 ^ suc j → length (digitsUpTo k x) ≤ suc j
+unfolding digitsUpTo
 length-digits-below zero j x below = omega arith
 length-digits-below (suc k) zero x below =
     digits-cases (λ l. length l ≤ 1) k x (λ h. omega arith) (λ h. let b : x < 10 = below in omega arith)
@@ -68,14 +68,14 @@ length-digits-below (suc k) (suc j) x below =
     (λ h. omega arith)
     (λ h.
     let ih = length-digits-below k j (x / 10) (tenth-below (suc j) x below) in
-    let l = length-append (digits k (x / 10)) ((48 + x % 10) ∷ []) in
+    let l = length-append (digitsUpTo k (x / 10)) ((48 + x % 10) ∷ []) in
     omega arith)
 
 -- room for more digits than a number has changes nothing
-pub digits-enough : (k x : ℕ) → x < 10 ^ suc k → digits (suc (suc k)) x ≡ digits (suc k) x
+pub digits-enough : (k x : ℕ) → x < 10 ^ suc k → digitsUpTo (suc (suc k)) x ≡ digitsUpTo (suc k) x
 digits-enough zero x below = digits-small 1 x below ∙ sym (digits-small 0 x below)
 digits-enough (suc k) x below =
-    digits-cases (λ l. l ≡ digits (suc (suc k)) x) (suc (suc k)) x
+    digits-cases (λ l. l ≡ digitsUpTo (suc (suc k)) x) (suc (suc k)) x
     (λ h. sym (digits-small (suc k) x h))
     (λ h.
     ap (λ (l : List ℕ). l ++ ((48 + x % 10) ∷ [])) (digits-enough k (x / 10) (tenth-below (suc k) x below))
@@ -93,24 +93,24 @@ digit-more l d all small i h =
     (λ (e : i ≡ length l). rw (getD-at l (48 + d) [] 0 i (sym e)) (omega arith))
     (split-last i (length l) (omega (arith, length-append l ((48 + d) ∷ []))))
 
-pub all-digits : (k x : ℕ) → AllDigits (digits k x)
-unfolding digits
+pub all-digits : (k x : ℕ) → AllDigits (digitsUpTo k x)
+unfolding digitsUpTo
 all-digits zero x = λ i h. absurd (not-suc-le-zero h)
 all-digits (suc k) x =
     digits-cases AllDigits k x
     (λ h. digit-more [] x (λ i l. absurd (not-suc-le-zero l)) h)
-    (λ h. digit-more (digits k (x / 10)) (x % 10) (all-digits k (x / 10)) (omega arith))
+    (λ h. digit-more (digitsUpTo k (x / 10)) (x % 10) (all-digits k (x / 10)) (omega arith))
 
 first-stays : (l m : List ℕ) → 48 < getD l 0 0 → 48 < getD (l ++ m) 0 0
 first-stays [] m h = omega arith
 first-stays (d ∷ l) m h = h
 
-pub leading : (k x : ℕ) → 0 < x → x < 10 ^ k → 48 < getD (digits k x) 0 0
+pub leading : (k x : ℕ) → 0 < x → x < 10 ^ k → 48 < getD (digitsUpTo k x) 0 0
 leading zero x some below = let b : x < 1 = below in omega arith
 leading (suc k) x some below =
     digits-cases (λ l. 48 < getD l 0 0) k x
     (λ h. omega arith)
-    (λ h. first-stays (digits k (x / 10)) ((48 + x % 10) ∷ []) (leading k (x / 10) (omega arith) (tenth-below k x below)))
+    (λ h. first-stays (digitsUpTo k (x / 10)) ((48 + x % 10) ∷ []) (leading k (x / 10) (omega arith) (tenth-below k x below)))
 
 -- ---- read back
 
@@ -124,15 +124,15 @@ unfolding readFrom
 readFrom-append a [] ys = refl
 readFrom-append a (x ∷ xs) ys = readFrom-append (10 * a + (x - 48)) xs ys
 
-pub read-digits : (k x : ℕ) → x < 10 ^ k → readFrom 0 (digits k x) ≡ x
-unfolding digits readFrom
+pub read-digits : (k x : ℕ) → x < 10 ^ k → readFrom 0 (digitsUpTo k x) ≡ x
+unfolding digitsUpTo readFrom
 read-digits zero x below = let b : x < 1 = below in omega arith
 read-digits (suc k) x below =
     digits-cases (λ l. readFrom 0 l ≡ x) k x
     (λ h. omega arith)
     (λ h.
     let ih = read-digits k (x / 10) (tenth-below k x below) in
-    readFrom-append 0 (digits k (x / 10)) ((48 + x % 10) ∷ []) ∙ omega arith)
+    readFrom-append 0 (digitsUpTo k (x / 10)) ((48 + x % 10) ∷ []) ∙ omega arith)
 
 -- ---- numbers of 32 bits
 
@@ -173,5 +173,5 @@ module _ (x : ℕ) (fits : x < 4_294_967_296) where
   no-leading-zero some = leading 10 x some below-ten-digits
 
 pub decimal-zero : decimal 0 ≡ 48 ∷ []
-unfolding digits
+unfolding digitsUpTo
 decimal-zero = refl

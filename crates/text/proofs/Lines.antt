@@ -12,7 +12,7 @@ use lib.ListN.{length, length-append}
 use mir.Syntax.{w32}
 use mir.Val.{toZ}
 use Rattle.model.specs.Steps.{Round}
-use Rattle.model.specs.Listing.{decimal, signed, line, roundWord, refusedWord, cabinetLines}
+use Rattle.model.specs.Listing.{decimal, signedDecimal, line, roundWord, refusedWord, cabinetLines}
 use Rattle.text.specs.Text.{roundLine, cabinetLine, cabinetCapacity, refusalCapacity}
 use Rattle.text.proofs.Digits.{length-decimal, length-decimal-byte}
 use Rattle.text.proofs.Signed.{length-signed}
@@ -43,9 +43,9 @@ module _ (number place : ℕ) where
 
 module _ (n count estimate value : ℕ) where
   pub round-size : length (roundLine n count estimate value)
-      ≡ 10 + length (decimal n) + length (decimal count) + length (signed (toZ w32 estimate)) + length (signed (toZ w32 value))
+      ≡ 10 + length (decimal n) + length (decimal count) + length (signedDecimal (toZ w32 estimate)) + length (signedDecimal (toZ w32 value))
   round-size =
-      omega (arith, length-line roundWord (decimal n ∷ decimal count ∷ signed (toZ w32 estimate) ∷ signed (toZ w32 value) ∷ []))
+      omega (arith, length-line roundWord (decimal n ∷ decimal count ∷ signedDecimal (toZ w32 estimate) ∷ signedDecimal (toZ w32 value) ∷ []))
 
   pub length-round-line : n < 256 → count < 256 → length (roundLine n count estimate value) ≤ 38
   length-round-line h k =
@@ -54,13 +54,13 @@ module _ (n count estimate value : ℕ) where
       omega (arith, round-size, length-decimal-byte n h, length-decimal-byte count k)
 
 pub cabinet-size : (r mark used : ℕ)
-    → length (cabinetLine r mark used) ≡ 3 + length (decimal r) + length (decimal mark) + length (signed (toZ w32 used))
-cabinet-size r mark used = omega (arith, length-line (decimal r) (decimal mark ∷ signed (toZ w32 used) ∷ []))
+    → length (cabinetLine r mark used) ≡ 3 + length (decimal r) + length (decimal mark) + length (signedDecimal (toZ w32 used))
+cabinet-size r mark used = omega (arith, length-line (decimal r) (decimal mark ∷ signedDecimal (toZ w32 used) ∷ []))
 
 length-cabinet : (r mark : ℕ) (used : ℤ) → r < 256 → mark < 256
-    → length (line (decimal r) (decimal mark ∷ signed used ∷ [])) ≤ cabinetCapacity
+    → length (line (decimal r) (decimal mark ∷ signedDecimal used ∷ [])) ≤ cabinetCapacity
 length-cabinet r mark used h k =
-    let whole = length-line (decimal r) (decimal mark ∷ signed used ∷ []) in
+    let whole = length-line (decimal r) (decimal mark ∷ signedDecimal used ∷ []) in
     omega (arith, length-decimal-byte r h, length-decimal-byte mark k, length-signed used)
 
 -- ---- the cabinets' lines
@@ -72,7 +72,7 @@ module _ (round : Round) where
 
   pub cabinets-more : (r : ℕ)
       → cabinetLines round (r + 1)
-      ≡ cabinetLines round r ++ line (decimal r) (decimal (round .mark r) ∷ signed (round .used r) ∷ [])
+      ≡ cabinetLines round r ++ line (decimal r) (decimal (round .mark r) ∷ signedDecimal (round .used r) ∷ [])
   unfolding cabinetLines
   cabinets-more r = rw (add-one r)
 
@@ -84,7 +84,7 @@ module _ (round : Round) where
       (λ (e : r ≡ suc n). rw e (le-refl (length (cabinetLines round (suc n)))))
       (λ (l : r < suc n).
       let ih = cabinets-grow r n (le-of-suc-le-suc l) in
-      let whole = length-append (cabinetLines round n) (line (decimal n) (decimal (round .mark n) ∷ signed (round .used n) ∷ [])) in
+      let whole = length-append (cabinetLines round n) (line (decimal n) (decimal (round .mark n) ∷ signedDecimal (round .used n) ∷ [])) in
       omega arith)
       (eq-or-lt-of-le h)
 
@@ -95,5 +95,5 @@ module _ (round : Round) where
   length-cabinets (suc n) h small =
       let ih = length-cabinets n (omega arith) (λ r l. small r (omega arith)) in
       let last = length-cabinet n (round .mark n) (round .used n) (omega arith) (small n (omega arith)) in
-      let whole = length-append (cabinetLines round n) (line (decimal n) (decimal (round .mark n) ∷ signed (round .used n) ∷ [])) in
+      let whole = length-append (cabinetLines round n) (line (decimal n) (decimal (round .mark n) ∷ signedDecimal (round .used n) ∷ [])) in
       omega arith

@@ -11,22 +11,22 @@ use lib.IntN.{ℤ, pos, negsuc}
 use lib.ListN.{length, getD}
 use mir.Syntax.{w32}
 use mir.Val.{SFits, toZ}
-use Rattle.model.specs.Listing.{decimal, signed}
+use Rattle.model.specs.Listing.{decimal, signedDecimal}
 use Rattle.text.proofs.Digits.{length-decimal, readFrom, read-decimal, decimal-some, all-digits}
 
 -- ---- by the bits
 
-pub signed-low : (bits : ℕ) → bits < 2_147_483_648 → signed (toZ w32 bits) ≡ decimal bits
+pub signed-low : (bits : ℕ) → bits < 2_147_483_648 → signedDecimal (toZ w32 bits) ≡ decimal bits
 signed-low bits h = rw (lt-ltb bits 2_147_483_648 h)
 
 pub signed-high : (bits : ℕ) → bits < 4_294_967_296 → 2_147_483_648 ≤ bits
-    → signed (toZ w32 bits) ≡ 45 ∷ decimal (4_294_967_295 - bits + 1)
+    → signedDecimal (toZ w32 bits) ≡ 45 ∷ decimal (4_294_967_295 - bits + 1)
 signed-high bits fits h = rw (le-ltb bits 2_147_483_648 h) (ap (λ (x : ℕ). 45 ∷ decimal x) magnitude)
   where
     magnitude : suc (4_294_967_296 - suc bits) ≡ 4_294_967_295 - bits + 1
     magnitude = omega arith
 
-pub length-signed : (z : ℤ) → length (signed z) ≤ 11
+pub length-signed : (z : ℤ) → length (signedDecimal z) ≤ 11
 length-signed (pos x) = omega (arith, length-decimal x)
 length-signed (negsuc x) = omega (arith, length-decimal (suc x))
 
@@ -46,7 +46,7 @@ unfolding readSigned readFrom
 read-unsigned [] h = refl
 read-unsigned (b ∷ bytes) h = rw (ne-eqb b 45 (λ e. omega arith), readSigned)
 
-pub read-signed : (z : ℤ) → SFits w32 z → readSigned (signed z) ≡ z
+pub read-signed : (z : ℤ) → SFits w32 z → readSigned (signedDecimal z) ≡ z
 unfolding readSigned
 read-signed (pos x) fits =
     let h : x < 2_147_483_648 = fits .sfits in

@@ -17,7 +17,7 @@ use Rattle.model.specs.RoundSheet.{byte, word}
 use Rattle.model.specs.AnswerSheet.{answerHeaderSize}
 use Rattle.model.specs.Steps.{Round}
 use Rattle.model.specs.Refusals.{refusal}
-use Rattle.model.specs.Listing.{decimal, signed, line, roundWord, roundText, refusalText}
+use Rattle.model.specs.Listing.{decimal, signedDecimal, line, roundWord, roundText, refusalText}
 
 -- document 01, "The answer sheet", read back
 unfoldable pub roundIn : List ℕ → Round
@@ -33,11 +33,11 @@ roundIn answer =
 -- "First line: `round`, N, count, estimate, new value"
 abbrev pub roundLine : ℕ → ℕ → ℕ → ℕ → List ℕ
 roundLine n count estimate value =
-    line roundWord (decimal n ∷ decimal count ∷ signed (toZ w32 estimate) ∷ signed (toZ w32 value) ∷ [])
+    line roundWord (decimal n ∷ decimal count ∷ signedDecimal (toZ w32 estimate) ∷ signedDecimal (toZ w32 value) ∷ [])
 
 -- "Then per cabinet: number, mark, used value"
 abbrev pub cabinetLine : ℕ → ℕ → ℕ → List ℕ
-cabinetLine r mark used = line (decimal r) (decimal mark ∷ signed (toZ w32 used) ∷ [])
+cabinetLine r mark used = line (decimal r) (decimal mark ∷ signedDecimal (toZ w32 used) ∷ [])
 
 -- the longest cabinet's line: numbers of three, three and eleven bytes, two spaces, a line feed
 abbrev pub cabinetCapacity : ℕ

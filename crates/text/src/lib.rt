@@ -6,7 +6,7 @@ ghost use lib.ListN.{length};
 ghost use mir.Syntax.{w32};
 ghost use mir.Val.{toZ};
 ghost use Rattle.model.specs.RoundSheet.{byte};
-ghost use Rattle.model.specs.Listing.{decimal, signed, cabinetLines};
+ghost use Rattle.model.specs.Listing.{decimal, signedDecimal, cabinetLines};
 ghost use Rattle.text.specs.Putting.{Puts};
 ghost use Rattle.text.specs.Text.{roundIn, roundLine, cabinetLine, roundWritten, refusalWritten};
 
@@ -51,8 +51,8 @@ fn put_decimal(text: &mut [u8], at: usize, x: u32) -> usize
 
 // Puts the number that 32 bits in two's complement are, a minus sign before a negative one.
 fn put_signed(text: &mut [u8], at: usize, bits: u32) -> usize
-    requires { ⌜ at + length (signed (toZ w32 bits)) ≤ length (now text) ⌝ }
-    ensures { λ r. ⌜ Puts (now (text .entry)) at (signed (toZ w32 bits)) (now (text .exit)) r ⌝ }
+    requires { ⌜ at + length (signedDecimal (toZ w32 bits)) ≤ length (now text) ⌝ }
+    ensures { λ r. ⌜ Puts (now (text .entry)) at (signedDecimal (toZ w32 bits)) (now (text .exit)) r ⌝ }
 {
     if bits < 2_147_483_648 {
         return put_decimal(text, at, bits);
@@ -72,8 +72,8 @@ fn put_field(text: &mut [u8], at: usize, x: u32) -> usize
 
 // Puts a line's next field: a space, then a signed number.
 fn put_signed_field(text: &mut [u8], at: usize, bits: u32) -> usize
-    requires { ⌜ at + length (signed (toZ w32 bits)) < length (now text) ⌝ }
-    ensures { λ r. ⌜ Puts (now (text .entry)) at (32 ∷ signed (toZ w32 bits)) (now (text .exit)) r ⌝ }
+    requires { ⌜ at + length (signedDecimal (toZ w32 bits)) < length (now text) ⌝ }
+    ensures { λ r. ⌜ Puts (now (text .entry)) at (32 ∷ signedDecimal (toZ w32 bits)) (now (text .exit)) r ⌝ }
 {
     let field = put_byte(text, at, b' ');
     put_signed(text, field, bits)

@@ -10,7 +10,7 @@ use Rattle.model.specs.Calls.{Verdict, granted, refused, Target}
 use Rattle.tohiranga.specs.declared.Sizes.{Sizes}
 use Rattle.tohiranga.specs.declared.Opening.{Opening}
 use Rattle.tohiranga.specs.declared.Planning.{Planning}
-use Rattle.tohiranga.specs.Answers.{packedRefusal, packed, sizesOf, noSizes, openingOf, planningOf, Fits}
+use Rattle.tohiranga.specs.Answers.{packedRefusal, packed, sizesOf, noSizes, openingOf, planningOf, TargetPacked}
 
 abbrev pub opening : ℕ → Sizes → Opening
 opening answer sizes = record { answer = answer; settings = sizes }
@@ -38,5 +38,5 @@ module _ (answer : ℕ) (sizes : Sizes) where
   planning-refused v r number same given =
       ap₂ (λ (a : ℕ) (z : Sizes). planning a z 0 0) number same ∙ ap planningOf given
 
-pub fits : (c : Settings) (κ target answer : ℕ) (v : Verdict ℕ) → answer ≡ packed v → Target c κ target v → Fits c κ target answer
-fits c κ target answer v same reached = record { verdict = v; is-packed = same; is-target = reached }
+pub target-packed : (c : Settings) (κ target answer : ℕ) (v : Verdict ℕ) → answer ≡ packed v → Target c κ target v → TargetPacked c κ target answer
+target-packed c κ target answer v same reached = record { verdict = v; is-packed = same; is-target = reached }

@@ -18,7 +18,7 @@ use Rattle.model.specs.RoundSheet.{settingsAt, entryCount, sheetLength, markAt,
 use Rattle.model.specs.AnswerSheet.{answerLength}
 use Rattle.model.specs.Steps.{roundAt}
 use Rattle.model.specs.Planner.{Plan, planFrom, advance, after, windowAfter}
-use Rattle.model.specs.Refusals.{Row, when, atEntry, firstOf, tooShort, badCabinets, badFaults, badMethod, badWindow, badLength, noRoom, badMark, badMissing, tooManyFaults, badPlan, targetMissed, settingsChecks, sheetChecks, entryChecks, readChecks, writeChecks, settleChecks, planChecks, stepChecks, targetChecks}
+use Rattle.model.specs.Refusals.{Row, refuseIf, atEntry, firstOf, tooShort, badCabinets, badFaults, badMethod, badWindow, badLength, noRoom, badMark, badMissing, tooManyFaults, badPlan, targetMissed, settingsChecks, sheetChecks, entryChecks, readChecks, writeChecks, settleChecks, planChecks, stepChecks, targetChecks}
 use Rattle.model.specs.Calls.{verdict, granted, refused, read, write, settle, plan, step, Target}
 use Rattle.refusals.proofs.Rows.{none-left}
 use Rattle.sheets.proofs.Outcomes.{granted-none, granted-same, refused-some}
@@ -42,7 +42,7 @@ unfolding firstOf
 more none rows h rest = record { numbered = rest .numbered }
 more (some r) rows h rest = record { numbered = h }
 
-by-test : (fails : Bool) (number : ℕ) → 1 ≤ number → 1 ≤ numberOf (when fails number)
+by-test : (fails : Bool) (number : ℕ) → 1 ≤ number → 1 ≤ numberOf (refuseIf fails number)
 by-test true number h = h
 by-test false number h = omega arith
 

@@ -5,7 +5,7 @@
 --   openingOf                the reader's answer: the number of entries, with the settings
 --   planningOf               the answer of the planner and of a step: the rounds done, with the plan
 --   partIn                   the part of a sheet that start × 2^32 + length names
---   Fits                     a count for a target, or a refusal, packed
+--   TargetPacked             a count for a target, or a refusal, packed
 use mathlib.Core.List.{List}
 use mathlib.Core.Path.{_≡_}
 use Prim.Native.Nat.{ℕ, _+_, _*_, _/_, _%_}
@@ -57,7 +57,7 @@ abbrev pub partIn : List ℕ → ℕ → List ℕ
 partIn s answer = take (answer % 4294967296) (drop (answer / 4294967296) s)
 
 -- which count that reaches the target is free
-pub record Fits (c : Settings) (κ target answer : ℕ) : Type 0 where
+pub record TargetPacked (c : Settings) (κ target answer : ℕ) : Type 0 where
   pub verdict : Verdict ℕ
   pub is-packed : answer ≡ packed verdict
   pub is-target : Target c κ target verdict

@@ -4,7 +4,7 @@ ghost use Prim.Native.Nat.{_+_, _/_, _%_, _≤_};
 ghost use lib.ListN.{length};
 ghost use Rattle.model.specs.Calls.{settle, read, write, row, plan, step};
 ghost use Rattle.planner.specs.Answers.{verdictOf};
-ghost use Rattle.tohiranga.specs.Answers.{packedRefusal, packed, settingsOf, sizesOf, planOf, noSizes, openingOf, planningOf, partIn, Fits};
+ghost use Rattle.tohiranga.specs.Answers.{packedRefusal, packed, settingsOf, sizesOf, planOf, noSizes, openingOf, planningOf, partIn, TargetPacked};
 use inspection::Opened;
 use model::Refusal;
 use model::Settings;
@@ -201,7 +201,7 @@ pub extern "C" fn tohiranga_step(plan: Schedule) -> Planning
 // A count of at most 32 rounds whose window is at or below the target. Which of those that fit is not promised.
 #[no_mangle]
 pub extern "C" fn tohiranga_target(settings: Sizes, accuracy: u32, target: u32) -> u64
-    ensures { λ r. ⌜ Fits (settingsOf settings) accuracy target r ⌝ }
+    ensures { λ r. ⌜ TargetPacked (settingsOf settings) accuracy target r ⌝ }
 {
     match planner::rounds_for(settings_of(settings), accuracy, target) {
         Counted::Granted(rounds) => rounds as u64,

@@ -12,7 +12,7 @@ use lib.IntN.{ℤ}
 use lib.ListN.{length, length-replicate}
 use lib.Signed.{mag}
 use mir.Facts.{sfits-lit}
-use Rattle.arithmetic.specs.Counting.{any}
+use Rattle.arithmetic.specs.Counting.{anyBelow}
 use Rattle.arithmetic.proofs.Bools.{clash, to-T, and-left, and-right, and-intro}
 use Rattle.arithmetic.proofs.Counting.{any-true}
 use Rattle.model.specs.declared.Settings.{Settings}
@@ -55,7 +55,7 @@ sends-tested st told relays e =
 -- ---- the good set
 
 -- a test that no index fails
-tested : (p q : ℕ → Bool) (n : ℕ) → any (λ i. p i && not (q i)) n ≡ false → (i : ℕ) → i < n → p i ≡ true → q i ≡ true
+tested : (p q : ℕ → Bool) (n : ℕ) → anyBelow (λ i. p i && not (q i)) n ≡ false → (i : ℕ) → i < n → p i ≡ true → q i ≡ true
 tested p q n e i l h = go (q i) refl
   where
     go : (b : Bool) → q i ≡ b → b ≡ true
@@ -68,7 +68,7 @@ module _ (st : Station) (good : ℕ → Bool) (truth : ℤ) where
 
   -- p reads within δ of every good cabinet, and within κ of true
   abbrev pub near-good : ℕ → Bool
-  near-good p = not (any (λ q. good q && not (near p q)) (N st))
+  near-good p = not (anyBelow (λ q. good q && not (near p q)) (N st))
 
   abbrev pub near-truth : ℕ → Bool
   near-truth p = leb (apart (ticks (st .first p)) truth) (κ st)
@@ -79,7 +79,7 @@ module _ (st : Station) (good : ℕ → Bool) (truth : ℤ) where
 
   -- a good cabinet is not
   abbrev pub amiss : Bool
-  amiss = any (λ p. good p && not (fine p)) (N st)
+  amiss = anyBelow (λ p. good p && not (fine p)) (N st)
 
   good-tested : amiss ≡ false → Good st good truth
   good-tested e =
@@ -96,7 +96,7 @@ module _ (st : Station) (good : ℕ → Bool) (truth : ℤ) where
       is-near : (p : ℕ) → p < N st → good p ≡ true → (near-truth p && near-good p) ≡ true
       is-near p l g = and-right (isPresent (st .first p)) _ (and-right (st .sound p) _ (is-fine p l g))
 
-      none-far : (p : ℕ) → p < N st → good p ≡ true → any (λ q. good q && not (near p q)) (N st) ≡ false
+      none-far : (p : ℕ) → p < N st → good p ≡ true → anyBelow (λ q. good q && not (near p q)) (N st) ≡ false
       none-far p l g = not-true _ (and-right (near-truth p) (near-good p) (is-near p l g))
 
 -- ---- a run

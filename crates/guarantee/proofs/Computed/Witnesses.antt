@@ -4,11 +4,11 @@ use mathlib.Core.List.{[], _∷_}
 use mathlib.Core.Path.{refl}
 use lib.Dec.{lit<}
 use lib.IntN.{pos}
-use Rattle.arithmetic.specs.Counting.{count, any, lowest, sum}
+use Rattle.arithmetic.specs.Counting.{count, anyBelow, lowest, sum}
 use Rattle.arithmetic.specs.Writing.{table, overwrite}
 use Rattle.model.specs.RoundSheet.{word, entryCount, entryAt, bytes4, readingBytes, sizeBytes, sheetBytes}
 use Rattle.model.specs.AnswerSheet.{answerHeader, answerBytes}
-use Rattle.model.specs.Steps.{decide, readingsOf, accepted, acceptedAt, numbered, averageOf, medianOf, midpointOf}
+use Rattle.model.specs.Steps.{decideRow, readingsOf, accepted, acceptedAt, numbered, averageOf, medianOf, midpointOf}
 use Rattle.model.specs.Steps.{estimate, mean, roundOf, roundAt}
 use Rattle.model.specs.Planner.{ceilDiv, windowFactor, nextWindow, growth, advance}
 use Rattle.model.specs.Refusals.{firstOf, tooShort, badCabinets, badFaults, badMethod, badWindow, badLength, noRoom}
@@ -28,9 +28,9 @@ use Rattle.guarantee.proofs.Computed.Tested.{sends-tested, meets-tested
 
 -- a round, with all that it computes by: whoever unfolds it unfolds its line
 computed : Station → State → Sends → State
-unfolding count any lowest sum table overwrite
+unfolding count anyBelow lowest sum table overwrite
     word entryCount entryAt bytes4 readingBytes sizeBytes sheetBytes answerHeader answerBytes
-    decide readingsOf accepted acceptedAt numbered averageOf medianOf midpointOf estimate mean roundOf roundAt
+    decideRow readingsOf accepted acceptedAt numbered averageOf medianOf midpointOf estimate mean roundOf roundAt
     ceilDiv windowFactor nextWindow growth advance
     firstOf tooShort badCabinets badFaults badMethod badWindow badLength noRoom badMark badMissing tooManyFaults badPlan
     settingsChecks sheetChecks entryChecks writeChecks settleChecks planChecks stepChecks

@@ -6,7 +6,7 @@ use Rattle.model.specs.declared.Settings.{Settings}
 use Rattle.model.specs.Calls.{Target}
 use Rattle.planner.specs.Answers.{countedOf}
 use Rattle.tohiranga.specs.Answers.{packed, settingsOf}
-use Rattle.tohiranga.proofs.Handing.{fits}
+use Rattle.tohiranga.proofs.Handing.{target-packed}
 use Rattle.tohiranga.proofs.tohiranga_target.Statement.{statement}
 use Rattle.tohiranga.proofs.tohiranga_target.Tie as tie
 
@@ -32,7 +32,7 @@ returns : tie.Need-returns
 returns c =
     let a = c .before .before .before .before .before .args in
     let call = c .before .before .before .rounds-for in
-    fits (settingsOf (a .settings)) (a .accuracy) (a .target) (c .before .rounds .given .0 .0) (countedOf (call .result))
+    target-packed (settingsOf (a .settings)) (a .accuracy) (a .target) (c .before .rounds .given .0 .0) (countedOf (call .result))
     (sym (ap (λ r. packed (countedOf r)) (c .before .rounds .given .1)))
     (subst (λ (d : Settings). Target d (a .accuracy) (a .target) (countedOf (call .result))) (c .before .before .before .before .settings-of .ensures) (call .ensures))
 
@@ -40,7 +40,7 @@ returns-2 : tie.Need-returns-2
 returns-2 c =
     let a = c .before .before .before .before .before .before .args in
     let call = c .before .before .before .before .rounds-for in
-    fits (settingsOf (a .settings)) (a .accuracy) (a .target) (c .refused .result) (countedOf (call .result))
+    target-packed (settingsOf (a .settings)) (a .accuracy) (a .target) (c .refused .result) (countedOf (call .result))
     (c .refused .ensures ∙ sym (ap (λ r. packed (countedOf r)) (c .before .before .refusal .given .1)))
     (subst (λ (d : Settings). Target d (a .accuracy) (a .target) (countedOf (call .result))) (c .before .before .before .before .before .settings-of .ensures) (call .ensures))
 

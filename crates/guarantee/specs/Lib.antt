@@ -1,3 +1,4 @@
+pub mod Exact
 pub mod Guarantee
 pub mod Regulator
 pub mod Witnesses

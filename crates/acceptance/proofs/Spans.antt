@@ -16,7 +16,7 @@ use lib.Seq.{getD-set-same, getD-set-other}
 use Rattle.arithmetic.specs.Counting.{bit, count}
 use Rattle.arithmetic.proofs.Bools.{iff-eq, and-left, and-right, and-intro, clash}
 use Rattle.arithmetic.proofs.Counting.{split-last, bit-le-one, count-le, any-true, any-false}
-use Rattle.rounds.proofs.Shifted.{within-nat, spans, accepted-nat}
+use Rattle.rounds.specs.Naturals.{within-nat, spans, accepted-nat}
 use Rattle.arithmetic.proofs.Bools.{and-false}
 use Rattle.loops.proofs.Loops.{count-next}
 use Rattle.estimates.specs.Values.{valueAt, presentAt}

@@ -12,7 +12,7 @@ use lib.Dec.{leb, ltb}
 use lib.ListN.{length, getD}
 use Rattle.arithmetic.specs.Counting.{bit, count}
 use Rattle.arithmetic.specs.Writing.{table, overwrite}
-use Rattle.rounds.proofs.Shifted.{spans, accepted-nat}
+use Rattle.rounds.specs.Naturals.{spans, accepted-nat}
 use Rattle.estimates.specs.Values.{valueAt, presentAt}
 
 -- t's reading lies in the span of width w that starts at a's

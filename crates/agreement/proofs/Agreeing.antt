@@ -12,10 +12,11 @@ use Rattle.arithmetic.specs.Counting.{count, lowest}
 use Rattle.arithmetic.specs.Writing.{table, overwrite}
 use Rattle.arithmetic.proofs.Bools.{and-left}
 use Rattle.arithmetic.proofs.Counting.{count-ext, lowest-ext, lowest-found}
-use Rattle.arithmetic.proofs.Sums.{total, total-ext}
+use Rattle.arithmetic.specs.Naturals.{total}
+use Rattle.arithmetic.proofs.Sums.{total-ext}
 use Rattle.arithmetic.proofs.Writing.{length-table, getD-table}
 use Rattle.rounds.proofs.Natural.{accepted-present}
-use Rattle.rounds.proofs.Shifted.{is-numbered, nat-at, numbered-nat, average-nat, median-nat, midpoint-nat, estimate-nat, mean-nat}
+use Rattle.rounds.specs.Naturals.{is-numbered, nat-at, numbered-nat, average-nat, median-nat, midpoint-nat, estimate-nat, mean-nat}
 use Rattle.estimates.specs.Values.{valueAt, presentAt, usedAt, newValueOf, evaluatedOf, nothing}
 use Rattle.estimates.specs.Values.{estimateOf as estimateOfPresent}
 use Rattle.estimates.specs.declared.Estimated.{Estimated}

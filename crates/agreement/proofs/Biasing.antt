@@ -9,7 +9,7 @@ use lib.Dec.{ltb}
 use mir.Syntax.{w32}
 use mir.Val.{toZ, ofZ}
 use Rattle.arithmetic.proofs.Biased.{bias, toZ-low, toZ-high, ofZ-low, ofZ-high}
-use Rattle.arithmetic.proofs.Shift.{down}
+use Rattle.arithmetic.specs.Naturals.{down}
 
 low : (x : ℕ) → x < bias → (x + bias) % 4294967296 ≡ x + bias
 low x h = omega arith

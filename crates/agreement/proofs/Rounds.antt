@@ -6,19 +6,18 @@ use mathlib.Core.Path.{_≡_, refl, sym, ap, subst, _∙_}
 use Prim.Native.Nat.{ℕ, _<_}
 use lib.ListN.{length}
 use Rattle.arithmetic.specs.Counting.{count}
-use Rattle.arithmetic.proofs.Shift.{down}
-use Rattle.arithmetic.proofs.Sums.{total}
+use Rattle.arithmetic.specs.Naturals.{down, total}
 use Rattle.model.specs.declared.Settings.{Settings}
 use Rattle.model.specs.Ensemble.{Readings, quorum}
 use Rattle.model.specs.Steps.{markOf, roundOf}
-use Rattle.rounds.proofs.Local.{Agree, round-local}
+use Rattle.rounds.proofs.Local.{EqualBelow, round-local}
 use Rattle.rounds.proofs.Natural.{accepted-at, round-count, round-estimate, round-value, round-used}
-use Rattle.rounds.proofs.Shifted.{shift, shifted, accepted-nat, estimate-nat, mean-nat, used-nat}
+use Rattle.rounds.specs.Naturals.{shift, shifted, accepted-nat, estimate-nat, mean-nat, used-nat}
 use Rattle.estimates.specs.Values.{valueAt, presentAt}
 use Rattle.acceptance.specs.Values.{acceptedAt as acceptedNat, countOf}
 use Rattle.agreement.specs.Values.{estimateOf, valueOf}
 
-module _ (c : Settings) (v : Readings) (s : List ℕ) (size : length s ≡ c .n) (same : Agree (c .n) v (shifted 2147483648 (presentAt s) (valueAt s))) where
+module _ (c : Settings) (v : Readings) (s : List ℕ) (size : length s ≡ c .n) (same : EqualBelow (c .n) v (shifted 2147483648 (presentAt s) (valueAt s))) where
   -- the cabinets accepted, of n
   acc : ℕ → ℕ → Bool
   acc n = accepted-nat (c .window) (presentAt s) (valueAt s) (quorum c) n

@@ -7,8 +7,8 @@ use Prim.Native.Nat.{ℕ}
 use lib.Dec.{ltb, eqb}
 use lib.ListN.{length, getD}
 use Rattle.arithmetic.specs.Writing.{table}
-use Rattle.arithmetic.proofs.Sums.{total}
-use Rattle.rounds.proofs.Shifted.{estimate-nat, used-nat, mean-nat}
+use Rattle.arithmetic.specs.Naturals.{total}
+use Rattle.rounds.specs.Naturals.{estimate-nat, used-nat, mean-nat}
 use Rattle.estimates.specs.Values.{valueAt, nothing}
 use Rattle.acceptance.specs.Values.{acceptedAt, countOf}
 use Rattle.estimates.specs.declared.Estimated.{Estimated}

@@ -9,7 +9,8 @@ use lib.IntN.{pos, negsuc}
 use mir.Syntax.{w32}
 use mir.Val.{toZ, ofZ}
 use mir.Facts as facts
-use Rattle.arithmetic.proofs.Shift.{down, down-pos, down-neg}
+use Rattle.arithmetic.specs.Naturals.{down}
+use Rattle.arithmetic.proofs.Shift.{down-pos, down-neg}
 
 -- 2^31
 abbrev pub bias : ℕ

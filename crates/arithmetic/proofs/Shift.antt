@@ -9,12 +9,9 @@ use borrow.Author.Tests.{lt-ltb, le-ltb, le-leb, lt-leb, ltb-true, ltb-false, le
 use lib.Dec.{leb, ltb}
 use lib.IntN.{ℤ, pos, negsuc, negℤ, natAbs, subℕ, _+ℤ_, _-ℤ_}
 use lib.Signed.{leZ, ltZ, shrZ, mag}
+use Rattle.arithmetic.specs.Naturals.{down}
 use Rattle.arithmetic.proofs.Bools.{iff-eq}
 use Rattle.arithmetic.proofs.Division.{div-sub-mul, div-from-above}
-
--- a - k
-unfoldable pub down : ℕ → ℕ → ℤ
-down k a = subℕ a k
 
 -- the natural that `down k` takes to z, where z is at least -k
 unfoldable pub up : ℕ → ℤ → ℕ

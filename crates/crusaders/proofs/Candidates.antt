@@ -19,28 +19,29 @@ use Rattle.arithmetic.proofs.Counting.{count-ext, count-mono}
 use Rattle.model.specs.Ensemble.{missing, present, Readings}
 use Rattle.model.specs.Steps.{same, decided, knownFaulty, decideRow}
 use Rattle.crusaders.proofs.Equality.{same-true, eq-same, present-inj, missing-present}
-use Rattle.crusaders.proofs.Decision.{copies, copies-some, decide-value, decide-none}
-use Rattle.crusaders.proofs.Majority.{Candidate, begin, raise, replace, keep, majority}
+use Rattle.crusaders.proofs.Decision.{copiesOf, copies-some, decide-value, decide-none}
+use Rattle.crusaders.specs.Majority.{Candidate, holds-bits}
+use Rattle.crusaders.proofs.Majority.{vote-begin, vote-raise, vote-replace, vote-keep, majority}
 
 -- a test that passes where c has need copies, and fails only where no value has, decides the row
-decide-test : (need n : ℕ) (copy : Readings) (c : ℤ) (b : Bool) → n < need + need → (b ≡ true → need ≤ copies copy c n) → (b ≡ false → (z : ℤ) → need ≤ copies copy z n → ⊥) → decideRow need n copy ≡ cond b (decided c) knownFaulty
+decide-test : (need n : ℕ) (copy : Readings) (c : ℤ) (b : Bool) → n < need + need → (b ≡ true → need ≤ copiesOf copy c n) → (b ≡ false → (z : ℤ) → need ≤ copiesOf copy z n → ⊥) → decideRow need n copy ≡ cond b (decided c) knownFaulty
 decide-test need n copy c true most f g = decide-value need n copy c most (f refl)
 decide-test need n copy c false most f g = decide-none need n copy (omega arith) (λ z. omega (arith, g refl z))
 
 -- the candidate's count decides, where `holds v` counts the copies of `value v` and every copy is counted for some v
 module _ {A : Type 0} (holds : A → ℕ → Bool) (equal : (u v : A) → (u ≡ v) ⊎ (u ≡ v → ⊥)) (value : A → ℤ) (copy : Readings) (n : ℕ) where
-  pub decide-candidate : ((v : A) → count (holds v) n ≤ copies copy (value v) n) → ((s : ℕ) (z : ℤ) → s < n → copy s ≡ present z → (v : A) × (copies copy z n ≤ count (holds v) n)) → (c : A) (k : ℕ) → Candidate holds c k n → (need : ℕ) → n < need + need → decideRow need n copy ≡ cond (leb need (count (holds c) n)) (decided (value c)) knownFaulty
+  pub decide-candidate : ((v : A) → count (holds v) n ≤ copiesOf copy (value v) n) → ((s : ℕ) (z : ℤ) → s < n → copy s ≡ present z → (v : A) × (copiesOf copy z n ≤ count (holds v) n)) → (c : A) (k : ℕ) → Candidate holds c k n → (need : ℕ) → n < need + need → decideRow need n copy ≡ cond (leb need (count (holds c) n)) (decided (value c)) knownFaulty
   decide-candidate counted found c k w need most =
       decide-test need n copy (value c) (leb need (count (holds c) n)) most
       (λ e. omega (arith, leb-true need (count (holds c) n) e, counted c))
       none
     where
-      none : leb need (count (holds c) n) ≡ false → (z : ℤ) → need ≤ copies copy z n → ⊥
+      none : leb need (count (holds c) n) ≡ false → (z : ℤ) → need ≤ copiesOf copy z n → ⊥
       none e z h =
           let s = copies-some copy n z (omega arith) in
           let v = found (s .0) z (s .1) (s .2) in
           let voted : v .0 ≡ c = majority holds c k n w equal (v .0) (omega (arith, v .1)) in
-          let most-c : copies copy z n ≤ count (holds c) n = rw voted at (v .1) in
+          let most-c : copiesOf copy z n ≤ count (holds c) n = rw voted at (v .1) in
           omega (arith, leb-false need (count (holds c) n) e)
 
 -- ---- copies that are natural numbers
@@ -48,10 +49,6 @@ module _ {A : Type 0} (holds : A → ℕ → Bool) (equal : (u v : A) → (u ≡
 -- the copies: the value of the number bits t where pres t passes, else missing
 abbrev pub encoded : (ℕ → ℤ) → (ℕ → Bool) → (ℕ → ℕ) → Readings
 encoded value pres bits t = cond (pres t) (present (value (bits t))) missing
-
--- the copy t is present, and its number is v
-abbrev pub holds-bits : (ℕ → Bool) → (ℕ → ℕ) → ℕ → ℕ → Bool
-holds-bits pres bits v t = pres t && eqb v (bits t)
 
 -- two naturals are equal or they are not
 pub equal-bits : (a b : ℕ) → (a ≡ b) ⊎ (a ≡ b → ⊥)
@@ -72,18 +69,18 @@ module _ (pres : ℕ → Bool) (bits : ℕ → ℕ) where
   absent i v e = ap (λ (b : Bool). b && eqb v (bits i)) e
 
   pub bits-begin : (c : ℕ) → Candidate (holds-bits pres bits) c 0 0
-  bits-begin c = begin (holds-bits pres bits) c
+  bits-begin c = vote-begin (holds-bits pres bits) c
 
   module _ (c k i : ℕ) (w : Candidate (holds-bits pres bits) c k i) where
     pub bits-agree : pres i ≡ true → bits i ≡ c → Candidate (holds-bits pres bits) c (k + 1) (i + 1)
-    bits-agree p e = raise (holds-bits pres bits) c k i w holds-bits-unique (and-intro p (eq-eqb c (bits i) (sym e)))
+    bits-agree p e = vote-raise (holds-bits pres bits) c k i w holds-bits-unique (and-intro p (eq-eqb c (bits i) (sym e)))
 
     pub bits-replace : k ≡ 0 → pres i ≡ true → Candidate (holds-bits pres bits) (bits i) 1 (i + 1)
     bits-replace z p =
-        replace (holds-bits pres bits) c k i w holds-bits-unique equal-bits (bits i) z (and-intro p (eq-eqb (bits i) (bits i) refl))
+        vote-replace (holds-bits pres bits) c k i w holds-bits-unique equal-bits (bits i) z (and-intro p (eq-eqb (bits i) (bits i) refl))
 
     pub bits-missing : k ≡ 0 → pres i ≡ false → Candidate (holds-bits pres bits) c k (i + 1)
-    bits-missing z e = keep (holds-bits pres bits) c k i w z (λ v. absent i v e)
+    bits-missing z e = vote-keep (holds-bits pres bits) c k i w z (λ v. absent i v e)
 
 -- the numbers below lim stand for one value each
 module _ (value : ℕ → ℤ) (lim : ℕ) (one : (a b : ℕ) → a < lim → b < lim → value a ≡ value b → a ≡ b) (pres : ℕ → Bool) (bits : ℕ → ℕ) where
@@ -109,7 +106,7 @@ module _ (value : ℕ → ℤ) (lim : ℕ) (one : (a b : ℕ) → a < lim → b 
       (λ e. eq-same (value v) (encoded value pres bits t) (encoded-true v t e))
 
   module _ (n : ℕ) (low : (t : ℕ) → t < n → bits t < lim) where
-    pub copies-encoded : (v : ℕ) → v < lim → copies (encoded value pres bits) (value v) n ≡ count (holds-bits pres bits v) n
+    pub copies-encoded : (v : ℕ) → v < lim → copiesOf (encoded value pres bits) (value v) n ≡ count (holds-bits pres bits v) n
     copies-encoded v h =
         count-ext (λ t. same (present (value v)) (encoded value pres bits t)) (holds-bits pres bits v) n
         (λ t l. same-encoded v t h (low t l))
@@ -125,7 +122,7 @@ module _ (value : ℕ → ℤ) (lim : ℕ) (one : (a b : ℕ) → a < lim → b 
           found
           c k w need most
         where
-          found : (s : ℕ) (z : ℤ) → s < n → encoded value pres bits s ≡ present z → (v : ℕ) × (copies (encoded value pres bits) z n ≤ count (holds-bits pres bits v) n)
+          found : (s : ℕ) (z : ℤ) → s < n → encoded value pres bits s ≡ present z → (v : ℕ) × (copiesOf (encoded value pres bits) z n ≤ count (holds-bits pres bits v) n)
           found s z l e =
               let p = encoded-present s z e in
               let counted = copies-encoded (bits s) (low s l) in

@@ -17,8 +17,8 @@ use Rattle.model.specs.Steps.{same, Decision, decided, knownFaulty, decisionAt,
 use Rattle.crusaders.proofs.Equality.{same-true, same-present, same-unique}
 
 -- how many of the first n copies are present and hold z
-abbrev pub copies : Readings → ℤ → ℕ → ℕ
-copies copy z n = count (λ t. same (present z) (copy t)) n
+abbrev pub copiesOf : Readings → ℤ → ℕ → ℕ
+copiesOf copy z n = count (λ t. same (present z) (copy t)) n
 
 -- ---- decisions
 
@@ -34,14 +34,14 @@ not-both {d} {z} p q = absurd (impossible (cc))
 -- ---- counts
 
 -- two values that together hold more than n of the n copies are one
-pub copies-unique : (copy : Readings) (n : ℕ) (a b : ℤ) → n < copies copy a n + copies copy b n → a ≡ b
+pub copies-unique : (copy : Readings) (n : ℕ) (a b : ℤ) → n < copiesOf copy a n + copiesOf copy b n → a ≡ b
 copies-unique copy n a b h =
     let all : count (λ _. true) n ≤ n = count-le (λ _. true) n in
     let s = share (λ t. same (present a) (copy t)) (λ t. same (present b) (copy t)) (λ _. true) n (λ i l e. refl) (λ i l e. refl) (omega arith) in
     same-unique a b (copy (s .0)) (s .2) (s .3)
 
 -- where z is counted, some copy holds z
-pub copies-some : (copy : Readings) (n : ℕ) (z : ℤ) → 0 < copies copy z n → (s : ℕ) × (s < n) × (copy s ≡ present z)
+pub copies-some : (copy : Readings) (n : ℕ) (z : ℤ) → 0 < copiesOf copy z n → (s : ℕ) × (s < n) × (copy s ≡ present z)
 copies-some copy n z h =
     let s = count-some (λ t. same (present z) (copy t)) n h in
     (s .0, s .1, same-true z (copy (s .0)) (s .2))
@@ -52,7 +52,7 @@ module _ (need n : ℕ) (copy : Readings) where
   enough s = leb need (count (λ t. same (copy s) (copy t)) n)
 
   -- need copies are as s, and need is not 0: s is present, and need copies hold its value
-  enough-value : (s : ℕ) → 0 < need → enough s ≡ true → (z : ℤ) × (copy s ≡ present z) × (need ≤ copies copy z n)
+  enough-value : (s : ℕ) → 0 < need → enough s ≡ true → (z : ℤ) × (copy s ≡ present z) × (need ≤ copiesOf copy z n)
   unfolding enough
   enough-value s some-need e =
       let least : need ≤ count (λ t. same (copy s) (copy t)) n = leb-true need (count (λ t. same (copy s) (copy t)) n) e in
@@ -61,27 +61,27 @@ module _ (need n : ℕ) (copy : Readings) where
       (p .0, p .1, rw (p .1) at least)
 
   -- the decision is a value that need copies hold, or no value has that many
-  pub decide-cases : 0 < need → ((z : ℤ) × (decideRow need n copy ≡ decided z) × (need ≤ copies copy z n)) ⊎ ((decideRow need n copy ≡ knownFaulty) × ((z : ℤ) → copies copy z n < need))
+  pub decide-cases : 0 < need → ((z : ℤ) × (decideRow need n copy ≡ decided z) × (need ≤ copiesOf copy z n)) ⊎ ((decideRow need n copy ≡ knownFaulty) × ((z : ℤ) → copiesOf copy z n < need))
   unfolding decideRow enough
   decide-cases some-need = ⊎-elim found nowhere (lowest-cases enough n)
     where
       Out : Type 0
       Out =
-          ((z : ℤ) × (decideRow need n copy ≡ decided z) × (need ≤ copies copy z n))
-          ⊎ ((decideRow need n copy ≡ knownFaulty) × ((z : ℤ) → copies copy z n < need))
+          ((z : ℤ) × (decideRow need n copy ≡ decided z) × (need ≤ copiesOf copy z n))
+          ⊎ ((decideRow need n copy ≡ knownFaulty) × ((z : ℤ) → copiesOf copy z n < need))
 
       found : ((s : ℕ) × (lowest enough n ≡ some s) × Lowest enough n s) → Out
       found w =
           let v = enough-value (w .0) some-need (w .2 .passes) in
           inl (v .0, ap (decisionAt copy) (w .1) ∙ ap (λ r. decided (ticks r)) (v .1), v .2)
 
-      short : ((s : ℕ) → s < n → enough s ≡ false) → (z : ℤ) → copies copy z n < need
-      short f z = go (leb need (copies copy z n)) refl
+      short : ((s : ℕ) → s < n → enough s ≡ false) → (z : ℤ) → copiesOf copy z n < need
+      short f z = go (leb need (copiesOf copy z n)) refl
         where
-          go : (b : Bool) → leb need (copies copy z n) ≡ b → copies copy z n < need
-          go false e = leb-false need (copies copy z n) e
+          go : (b : Bool) → leb need (copiesOf copy z n) ≡ b → copiesOf copy z n < need
+          go false e = leb-false need (copiesOf copy z n) e
           go true e =
-              let least = leb-true need (copies copy z n) e in
+              let least = leb-true need (copiesOf copy z n) e in
               let s = copies-some copy n z (omega arith) in
               let no : leb need (count (λ t. same (copy (s .0)) (copy t)) n) ≡ false = f (s .0) (s .1) in
               clash e (rw (s .2) at no)
@@ -90,25 +90,25 @@ module _ (need n : ℕ) (copy : Readings) where
       nowhere w = inr (ap (decisionAt copy) (w .0), short (w .1))
 
   -- a decided value has need copies
-  pub decided-need : (z : ℤ) → decideRow need n copy ≡ decided z → 0 < need → need ≤ copies copy z n
+  pub decided-need : (z : ℤ) → decideRow need n copy ≡ decided z → 0 < need → need ≤ copiesOf copy z n
   decided-need z e some-need =
       ⊎-elim
       (λ w. let q : w .0 ≡ z = decided-inj (sym (w .1) ∙ e) in rw q at (w .2))
       (λ w. not-both e (w .0))
       (decide-cases some-need)
 
-  pub decide-value : (z : ℤ) → n < need + need → need ≤ copies copy z n → decideRow need n copy ≡ decided z
+  pub decide-value : (z : ℤ) → n < need + need → need ≤ copiesOf copy z n → decideRow need n copy ≡ decided z
   decide-value z most h =
       ⊎-elim
       (λ w. let q : w .0 ≡ z = copies-unique copy n (w .0) z (omega (arith, w .2)) in rw q at (w .1))
       (λ w. absurd (omega (arith, w .1 z)))
       (decide-cases (omega arith))
 
-  pub decide-none : 0 < need → ((z : ℤ) → copies copy z n < need) → decideRow need n copy ≡ knownFaulty
+  pub decide-none : 0 < need → ((z : ℤ) → copiesOf copy z n < need) → decideRow need n copy ≡ knownFaulty
   decide-none some-need f = ⊎-elim (λ w. absurd (omega (arith, f (w .0), w .2))) (λ w. w .0) (decide-cases some-need)
 
   -- a row's decision is unique: two values that have need copies each are one
-  pub need-unique : (a b : ℤ) → n < need + need → need ≤ copies copy a n → need ≤ copies copy b n → a ≡ b
+  pub need-unique : (a b : ℤ) → n < need + need → need ≤ copiesOf copy a n → need ≤ copiesOf copy b n → a ≡ b
   need-unique a b most p q = copies-unique copy n a b (omega arith)
 
   -- the decided value is one of the copies

@@ -10,14 +10,9 @@ use Rattle.arithmetic.specs.Counting.{bit, count}
 use Rattle.arithmetic.proofs.Bools.{not-true-false}
 use Rattle.arithmetic.proofs.Counting.{bit-le-one}
 use Rattle.loops.proofs.Loops.{count-next}
+use Rattle.crusaders.specs.Majority.{Candidate}
 
 module _ {A : Type 0} (holds : A → ℕ → Bool) where
-  -- the candidate c with the counter k, after i copies
-  pub record Candidate (c : A) (k i : ℕ) : Type 0 where
-    pub bounded : k ≤ i
-    pub others : (v : A) → (v ≡ c → ⊥) → 2 * count (holds v) i + k ≤ i
-    pub own : 2 * count (holds c) i ≤ i + k
-
   -- the count of a value after one copy more
   passed : (v : A) (i : ℕ) → holds v i ≡ false → count (holds v) (i + 1) ≡ count (holds v) i
   passed v i e =
@@ -32,14 +27,14 @@ module _ {A : Type 0} (holds : A → ℕ → Bool) where
       omega arith
 
   -- no copy is passed
-  pub begin : (c : A) → Candidate c 0 0
+  pub vote-begin : (c : A) → Candidate holds c 0 0
   unfolding count
-  begin c = record { bounded = omega arith; others = λ v d. omega arith; own = omega arith }
+  vote-begin c = record { bounded = omega arith; others = λ v d. omega arith; own = omega arith }
 
-  module _ (c : A) (k i : ℕ) (w : Candidate c k i) where
+  module _ (c : A) (k i : ℕ) (w : Candidate holds c k i) where
     -- a copy that does not hold the candidate, and the counter is above 0
-    pub lower : 0 < k → holds c i ≡ false → Candidate c (k - 1) (i + 1)
-    lower h e =
+    pub vote-lower : 0 < k → holds c i ≡ false → Candidate holds c (k - 1) (i + 1)
+    vote-lower h e =
         record {
           bounded = omega (arith, w .bounded);
           others = λ v d. omega (arith, w .others v d, at-most v i);
@@ -47,8 +42,8 @@ module _ {A : Type 0} (holds : A → ℕ → Bool) where
         }
 
     -- a missing copy, and the counter is 0
-    pub keep : k ≡ 0 → ((v : A) → holds v i ≡ false) → Candidate c k (i + 1)
-    keep z f =
+    pub vote-keep : k ≡ 0 → ((v : A) → holds v i ≡ false) → Candidate holds c k (i + 1)
+    vote-keep z f =
         record {
           bounded = omega (arith, w .bounded);
           others = λ v d. omega (arith, w .others v d, passed v i (f v));
@@ -60,8 +55,8 @@ module _ {A : Type 0} (holds : A → ℕ → Bool) where
       other u v d e = not-true-false (holds v i) (λ q. d (unique v u i q e))
 
       -- a copy that holds the candidate
-      pub raise : holds c i ≡ true → Candidate c (k + 1) (i + 1)
-      raise e =
+      pub vote-raise : holds c i ≡ true → Candidate holds c (k + 1) (i + 1)
+      vote-raise e =
           record {
             bounded = omega (arith, w .bounded);
             others = λ v d. omega (arith, w .others v d, passed v i (other c v d e));
@@ -70,8 +65,8 @@ module _ {A : Type 0} (holds : A → ℕ → Bool) where
 
       module _ (equal : (u v : A) → (u ≡ v) ⊎ (u ≡ v → ⊥)) where
         -- a present copy, and the counter is 0: its value is the candidate
-        pub replace : (u : A) → k ≡ 0 → holds u i ≡ true → Candidate u 1 (i + 1)
-        replace u z e =
+        pub vote-replace : (u : A) → k ≡ 0 → holds u i ≡ true → Candidate holds u 1 (i + 1)
+        vote-replace u z e =
             record {
               bounded = omega arith;
               others = λ v d. omega (arith, before v, passed v i (other u v d e));

@@ -16,7 +16,7 @@ use Rattle.model.specs.Ensemble.{missing, present, Readings, quorum}
 use Rattle.model.specs.RoundSheet.{cca}
 use Rattle.model.specs.Steps.{same, Decision, decided, knownFaulty, decidedReading, decideRow, readingsOf}
 use Rattle.crusaders.proofs.Equality.{present-inj, missing-present, equal-or-not, same-true, eq-same, same-unique}
-use Rattle.crusaders.proofs.Decision.{copies, decided-need, decided-all, decide-cases, decide-value}
+use Rattle.crusaders.proofs.Decision.{copiesOf, decided-need, decided-all, decide-cases, decide-value}
 
 -- how many of the first n relays are not sound
 abbrev pub faults : (ℕ → Bool) → ℕ → ℕ
@@ -36,14 +36,14 @@ reading-decided knownFaulty z e = missing-present e
 
 module _ (sound : ℕ → Bool) (n : ℕ) where
   -- a value that every sound relay hands on has a copy from each
-  handed-on : (copy : Readings) (x : ℤ) → Relayed sound n (λ _. present x) copy → n ≤ copies copy x n + faults sound n
+  handed-on : (copy : Readings) (x : ℤ) → Relayed sound n (λ _. present x) copy → n ≤ copiesOf copy x n + faults sound n
   handed-on copy x h =
       let all = count-not sound n in
       let some = count-mono sound (λ t. same (present x) (copy t)) n (λ s l e. eq-same x (copy s) (h s l e)) in
       omega arith
 
   -- a value that no sound relay hands on has copies from faulty ones only
-  not-handed-on : (copy : Readings) (z : ℤ) → ((s : ℕ) → s < n → sound s ≡ true → copy s ≡ present z → ⊥) → copies copy z n ≤ faults sound n
+  not-handed-on : (copy : Readings) (z : ℤ) → ((s : ℕ) → s < n → sound s ≡ true → copy s ≡ present z → ⊥) → copiesOf copy z n ≤ faults sound n
   not-handed-on copy z h = count-mono (λ t. same (present z) (copy t)) (λ s. not (sound s)) n (λ s l e. go (sound s) s refl l e)
     where
       go : (b : Bool) (s : ℕ) → sound s ≡ b → s < n → same (present z) (copy s) ≡ true → not b ≡ true
@@ -51,7 +51,7 @@ module _ (sound : ℕ → Bool) (n : ℕ) where
       go false s q l e = refl
 
   -- of the copies of a value all but f come from sound relays
-  from-sound : (copy : Readings) (z : ℤ) → copies copy z n ≤ count (λ t. sound t && same (present z) (copy t)) n + faults sound n
+  from-sound : (copy : Readings) (z : ℤ) → copiesOf copy z n ≤ count (λ t. sound t && same (present z) (copy t)) n + faults sound n
   from-sound copy z =
       let all = count-not sound n in
       let both = count-both sound (λ t. same (present z) (copy t)) n in
@@ -96,7 +96,7 @@ module _ (sound : ℕ → Bool) (n m : ℕ) (planned : 3 * m < n) where
       (λ w. inr (w .0))
       (decide-cases (n - m) n copy (omega arith))
     where
-      others : (z : ℤ) → (z ≡ x → ⊥) → copies copy z n ≤ faults sound n
+      others : (z : ℤ) → (z ≡ x → ⊥) → copiesOf copy z n ≤ faults sound n
       others z d = not-handed-on sound n copy z (λ s l e q. d (present-inj (sym q ∙ h s l e)))
 
   -- any transmitter, at most m faults: what two receivers decide is one value

@@ -14,8 +14,9 @@ use Rattle.arithmetic.specs.Counting.{count}
 use Rattle.arithmetic.proofs.Bools.{and-left, and-right}
 use Rattle.model.specs.RoundSheet.{word}
 use Rattle.model.specs.Steps.{decided, knownFaulty}
-use Rattle.crusaders.proofs.Majority.{Candidate, lower}
-use Rattle.crusaders.proofs.Candidates.{holds-bits, bits-begin, bits-agree, bits-replace, bits-missing, bits-decide, toZ-one}
+use Rattle.crusaders.specs.Majority.{Candidate, holds-bits}
+use Rattle.crusaders.proofs.Majority.{vote-lower}
+use Rattle.crusaders.proofs.Candidates.{bits-begin, bits-agree, bits-replace, bits-missing, bits-decide, toZ-one}
 use Rattle.arithmetic.proofs.Bools.{or-left, or-right}
 use Rattle.decisions.specs.Rows.{presentAt, bitsAt, Elected, rowDecision}
 
@@ -49,7 +50,7 @@ module _ (marks row : List ℕ) where
 
     pub vote-differ : b ≡ false → 0 < k → Voted c (k - 1) (t + 1)
     vote-differ e l =
-        record { upTo = omega arith; vote = lower holds c k t (so-far .vote) l (sym (holds-test c v t read test) ∙ e) }
+        record { upTo = omega arith; vote = vote-lower holds c k t (so-far .vote) l (sym (holds-test c v t read test) ∙ e) }
 
     module _ (zero : k ≤ 0) where
       none : k ≡ 0

@@ -14,8 +14,7 @@ use mir.Val.{toZ}
 use Rattle.model.specs.Ensemble.{Readings, missing, present}
 use Rattle.model.specs.RoundSheet.{word}
 use Rattle.model.specs.Steps.{Decision, decided, knownFaulty, decideRow}
-use Rattle.crusaders.proofs.Majority.{Candidate}
-use Rattle.crusaders.proofs.Candidates.{holds-bits}
+use Rattle.crusaders.specs.Majority.{Candidate, holds-bits}
 use Rattle.decisions.specs.declared.Decided.{Decided}
 use Rattle.decisions.specs.declared.Decided.the-variants.{Bits, KnownFaulty}
 

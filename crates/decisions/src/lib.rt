@@ -5,7 +5,7 @@ ghost use Prim.Native.Nat.{_+_, _*_, _/_, _≤_, _<_};
 ghost use lib.Dec.{leb, eqb};
 ghost use lib.ListN.{length};
 ghost use Rattle.arithmetic.specs.Counting.{count};
-ghost use Rattle.crusaders.proofs.Candidates.{holds-bits};
+ghost use Rattle.crusaders.specs.Majority.{holds-bits};
 ghost use Rattle.decisions.specs.Rows.{presentAt, bitsAt, Elected, decisionOf, rowDecision};
 
 // The bits of the decided value, or "known faulty".

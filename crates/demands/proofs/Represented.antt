@@ -8,12 +8,14 @@ use lib.IntN.{ℤ}
 use lib.Signed.{leZ, mag, _≤ℤ_}
 use borrow.Author.Tests.{le-leb}
 use Rattle.arithmetic.proofs.Bools.{to-T}
-use Rattle.arithmetic.proofs.Shift.{down, up, down-up, le-down}
+use Rattle.arithmetic.specs.Naturals.{down}
+use Rattle.arithmetic.proofs.Shift.{up, down-up, le-down}
 use Rattle.model.specs.Ensemble.{Readings, isPresent}
 use Rattle.model.specs.Steps.{accepted}
 use Rattle.rounds.proofs.Local.{accepted-local}
 use Rattle.rounds.proofs.Represent.{reach, represented, raise}
-use Rattle.rounds.proofs.Shifted.{shifted, accepted-nat, accepted-shifted}
+use Rattle.rounds.specs.Naturals.{shifted, accepted-nat}
+use Rattle.rounds.proofs.Shifted.{accepted-shifted}
 
 -- the order of whole numbers is that of the naturals that they are moved up to
 pub le-up : (k : ℕ) (a b : ℤ) → mag a < k → mag b < k → leZ a b ≡ leb (up k a) (up k b)

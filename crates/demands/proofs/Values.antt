@@ -13,14 +13,15 @@ use mir.Val.{SFits}
 use Rattle.arithmetic.specs.Counting.{count}
 use Rattle.arithmetic.proofs.Biased.{bias}
 use Rattle.arithmetic.proofs.Counting.{count-pos}
-use Rattle.arithmetic.proofs.Shift.{down, up, down-up, down-ind}
+use Rattle.arithmetic.specs.Naturals.{down}
+use Rattle.arithmetic.proofs.Shift.{up, down-up, down-ind}
 use Rattle.model.specs.declared.Settings.{Settings}
 use Rattle.model.specs.Ensemble.{Readings, isPresent, ticks}
 use Rattle.model.specs.Steps.{acceptedAt, roundOf}
-use Rattle.rounds.proofs.Local.{Agree}
+use Rattle.rounds.proofs.Local.{EqualBelow}
 use Rattle.rounds.proofs.Natural.{acc-of, estimate-of, used-of, value-of, round-count, round-estimate, round-used, round-value}
 use Rattle.rounds.proofs.Represent.{reach, reach-above, represented, raise, shift-raise}
-use Rattle.rounds.proofs.Shifted.{shifted}
+use Rattle.rounds.specs.Naturals.{shifted}
 use Rattle.limits.proofs.Estimates.{estimate-within, used-within, estimate-between}
 use Rattle.limits.proofs.Extremes.{least, greatest}
 use Rattle.limits.proofs.Means.{mean-above, mean-below}
@@ -52,7 +53,7 @@ module _ (c : Settings) (v : Readings) (some-acc : 0 < roundOf c v .count) where
   abbrev pres : ℕ → Bool
   pres r = isPresent (v r)
 
-  same : Agree (c .n) v (shifted (reach v (c .n)) (λ r. isPresent (v r)) (raise (reach v (c .n)) v))
+  same : EqualBelow (c .n) v (shifted (reach v (c .n)) (λ r. isPresent (v r)) (raise (reach v (c .n)) v))
   same = represented k v (c .n) (le-refl k)
 
   counted : 0 < count (acc-of c pres (raise k v)) (c .n)
@@ -112,7 +113,7 @@ module _ (c : Settings) (v : Readings) (fits : (r : ℕ) → r < c .n → SFits 
   abbrev here : ℕ → Bool
   here r = isPresent (v r)
 
-  same32 : Agree (c .n) v (shifted bias (λ r. isPresent (v r)) (raise bias v))
+  same32 : EqualBelow (c .n) v (shifted bias (λ r. isPresent (v r)) (raise bias v))
   same32 r l = sym (shift-raise bias (v r) (fits r l .sfits))
 
   counted32 : 0 < count (acc-of c here (raise bias v)) (c .n)

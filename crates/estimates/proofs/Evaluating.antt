@@ -10,8 +10,9 @@ use borrow.Author.Tests.{lt-ltb, le-ltb, eq-eqb, ne-eqb, ltb-true}
 use lib.ListN.{length, getD}
 use Rattle.arithmetic.specs.Counting.{bit, count}
 use Rattle.arithmetic.proofs.Counting.{count-le, count-not}
-use Rattle.arithmetic.proofs.Sums.{total, total-ext, total-add, total-scale, count-total}
-use Rattle.rounds.proofs.Shifted.{average-nat, median-nat, midpoint-nat, estimate-nat, mean-nat}
+use Rattle.arithmetic.specs.Naturals.{total}
+use Rattle.arithmetic.proofs.Sums.{total-ext, total-add, total-scale, count-total}
+use Rattle.rounds.specs.Naturals.{average-nat, median-nat, midpoint-nat, estimate-nat, mean-nat}
 use Rattle.estimates.specs.Values.{presentAt, usedAt, presentCount, numberedAt, Summarizes, estimateOf, newValueOf, nothing, evaluatedOf}
 use Rattle.estimates.proofs.Dividing.{div-less}
 use Rattle.estimates.specs.declared.Estimated.{Estimated}

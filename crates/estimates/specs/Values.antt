@@ -15,8 +15,8 @@ use Prim.Native.Nat.{ℕ, _<_}
 use lib.Dec.{leb, ltb, eqb}
 use lib.ListN.{length, getD}
 use Rattle.arithmetic.specs.Counting.{count}
-use Rattle.arithmetic.proofs.Sums.{total}
-use Rattle.rounds.proofs.Shifted.{numbered-nat, estimate-nat, mean-nat}
+use Rattle.arithmetic.specs.Naturals.{total}
+use Rattle.rounds.specs.Naturals.{numbered-nat, estimate-nat, mean-nat}
 use Rattle.estimates.specs.declared.Estimated.{Estimated}
 use Rattle.estimates.specs.declared.Summary.{Summary}
 

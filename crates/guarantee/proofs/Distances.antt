@@ -8,7 +8,8 @@ use lib.Signed.{mag}
 use mir.Syntax.{w32}
 use mir.Val.{SFits}
 use Rattle.arithmetic.proofs.Biased.{bias}
-use Rattle.arithmetic.proofs.Shift.{down, up, down-up, dist-down}
+use Rattle.arithmetic.specs.Naturals.{down}
+use Rattle.arithmetic.proofs.Shift.{up, down-up, dist-down}
 
 -- the distance of two numbers that reach no further than k
 pub dist-up : (k : ℕ) (a b : ℤ) → mag a < k → mag b < k → natAbs (a -ℤ b) ≡ up k a - up k b + (up k b - up k a)

@@ -24,7 +24,7 @@ use Rattle.model.specs.AnswerSheet.{answerLength, answerBytes}
 use Rattle.model.specs.Refusals.{Row, refusal, orNext, firstOf, settingsChecks, entryChecks, settleChecks, noRoom, tooManyFaults}
 use Rattle.model.specs.Calls.{granted, Outcome, writtenAfter, write, settle}
 use Rattle.model.specs.Steps.{decidedReading, readingsOf, roundOf, roundAt}
-use Rattle.rounds.proofs.Local.{Agree, Alike, round-local, answer-local}
+use Rattle.rounds.proofs.Local.{EqualBelow, EqualRounds, round-local, answer-local}
 use Rattle.sheets.proofs.Answer.{answer-value}
 use Rattle.sheets.proofs.Checks.{room-pass}
 use Rattle.sheets.proofs.Entries.{marksFrom, ticksFrom, filled-well-formed, filled-entry, filled-write}
@@ -34,7 +34,7 @@ use Rattle.guarantee.specs.Guarantee.{Station, Sends, Allowed, State, en
 use Rattle.guarantee.proofs.Entries.{at, seen}
 
 -- readings depend on the entries below E alone
-pub readings-local : (c : Settings) (f g : Readings) → Agree (entryCount c) f g → Agree (c .n) (readingsOf c f) (readingsOf c g)
+pub readings-local : (c : Settings) (f g : Readings) → EqualBelow (entryCount c) f g → EqualBelow (c .n) (readingsOf c f) (readingsOf c g)
 unfolding entryCount
 readings-local c f g same r l =
     ⊎-elim
@@ -71,7 +71,7 @@ module _ (st : Station) (now : State) (x : Sends) (w : ℕ) (plan : now .plan .s
       (filled-write (at st now x w) (entryOf st now x p) pass fits-here (replicate (sheetLength (st .settings)) 0) (length-replicate (sheetLength (st .settings)) 0))
 
   -- the round that settling finds is the round of what p reads
-  round-is : Alike (st .settings .n) (roundAt bytes) (roundOf (at st now x w) (seen st now x w p))
+  round-is : EqualRounds (st .settings .n) (roundAt bytes) (roundOf (at st now x w) (seen st now x w p))
   unfolding roundAt bytes seen
   round-is =
       let formed = filled-well-formed (at st now x w) (entryOf st now x p) pass fits-here in

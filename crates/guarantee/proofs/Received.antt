@@ -10,14 +10,15 @@ use mir.Syntax.{w32}
 use mir.Val.{SFits}
 use Rattle.arithmetic.specs.Counting.{count}
 use Rattle.arithmetic.proofs.Biased.{bias}
-use Rattle.arithmetic.proofs.Shift.{down, up}
+use Rattle.arithmetic.specs.Naturals.{down}
+use Rattle.arithmetic.proofs.Shift.{up}
 use Rattle.model.specs.declared.Settings.{Settings}
 use Rattle.model.specs.Ensemble.{Reading, missing, present, Readings, isPresent, ticks}
 use Rattle.model.specs.Steps.{roundOf}
-use Rattle.rounds.proofs.Local.{Agree}
+use Rattle.rounds.proofs.Local.{EqualBelow}
 use Rattle.rounds.proofs.Natural.{round-count, round-value}
 use Rattle.rounds.proofs.Represent.{shift-raise}
-use Rattle.rounds.proofs.Shifted.{shifted}
+use Rattle.rounds.specs.Naturals.{shifted}
 use Rattle.limits.proofs.Settled.{Received, accepts, valueOf}
 use Rattle.demands.proofs.Values as values
 use Rattle.guarantee.specs.Guarantee.{IsReading}
@@ -35,7 +36,7 @@ module _ (c : Settings) (v : Readings) (reads : (r : ℕ) → r < c .n → IsRea
   abbrev pub received : ℕ → Received
   received k = record { pres = λ r. isPresent (v r); x = λ r. up k (ticks (v r)); k = k; kind = c .estimator }
 
-  represented : (k : ℕ) → bias ≤ k → Agree (c .n) v (shifted k (λ r. isPresent (v r)) (λ r. up k (ticks (v r))))
+  represented : (k : ℕ) → bias ≤ k → EqualBelow (c .n) v (shifted k (λ r. isPresent (v r)) (λ r. up k (ticks (v r))))
   represented k h r l = sym (shift-raise k (v r) (lt-of-lt-of-le (reading-mag (v r) (reads r l)) h))
 
   pub received-count : (k : ℕ) → bias ≤ k → roundOf c v .count ≡ count (accepts (c .n) (c .m) (c .window) (received k)) (c .n)

@@ -20,7 +20,8 @@ use Rattle.arithmetic.specs.Counting.{count}
 use Rattle.arithmetic.proofs.Biased.{bias}
 use Rattle.arithmetic.proofs.Bools.{clash}
 use Rattle.arithmetic.proofs.Counting.{count-mono}
-use Rattle.arithmetic.proofs.Shift.{down, up, down-up}
+use Rattle.arithmetic.specs.Naturals.{down}
+use Rattle.arithmetic.proofs.Shift.{up, down-up}
 use Rattle.crusaders.proofs.Rows.{faults}
 use Rattle.model.specs.declared.Settings.{Settings}
 use Rattle.model.specs.Ensemble.{Reading, missing, present, isPresent, ticks}

@@ -14,7 +14,7 @@ use borrow.Author.Tests.{le-leb, leb-true}
 use Rattle.arithmetic.specs.Counting.{count}
 use Rattle.arithmetic.proofs.Bools.{and-left, and-right, and-intro}
 use Rattle.arithmetic.proofs.Counting.{count-mono, count-pos, any-some, any-true}
-use Rattle.rounds.proofs.Shifted.{spans, accepted-nat}
+use Rattle.rounds.specs.Naturals.{spans, accepted-nat}
 use Rattle.rounds.proofs.Natural.{accepted-present}
 use Rattle.limits.proofs.Extremes.{Least, Greatest, least}
 

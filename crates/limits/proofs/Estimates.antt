@@ -9,9 +9,10 @@ use native.Mathlib.Nat.{le-refl, le-div-iff-mul-le, div-le-of-le-mul, mul-comm}
 use native.Mathlib.Omega.{arith}
 use lib.Dec.{eqb}
 use Rattle.arithmetic.specs.Counting.{bit, count}
-use Rattle.arithmetic.proofs.Sums.{total, total-mono, total-scale, count-total}
+use Rattle.arithmetic.specs.Naturals.{total}
+use Rattle.arithmetic.proofs.Sums.{total-mono, total-scale, count-total}
 use Rattle.model.specs.RoundSheet.{average, median}
-use Rattle.rounds.proofs.Shifted.{numbered-nat, average-nat, median-nat, midpoint-nat, estimate-nat, used-nat}
+use Rattle.rounds.specs.Naturals.{numbered-nat, average-nat, median-nat, midpoint-nat, estimate-nat, used-nat}
 use Rattle.limits.proofs.Extremes.{Least, Greatest}
 use Rattle.limits.proofs.Ranks.{Numbered, numbered-found}
 

@@ -13,7 +13,8 @@ use native.Mathlib.Omega.{arith}
 use Rattle.arithmetic.specs.Counting.{bit, count}
 use Rattle.arithmetic.proofs.Bools.{both-ways, and-left, and-right, and-intro}
 use Rattle.arithmetic.proofs.Counting.{count-mono, count-not, count-some}
-use Rattle.arithmetic.proofs.Sums.{total, count-total}
+use Rattle.arithmetic.specs.Naturals.{total}
+use Rattle.arithmetic.proofs.Sums.{count-total}
 use Rattle.rounds.proofs.Natural.{accepted-present}
 use Rattle.limits.proofs.Acceptance.{inside, inside-low, inside-high, Span, accepted-span}
 use Rattle.limits.proofs.Counts.{count-overlap}

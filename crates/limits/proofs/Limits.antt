@@ -15,7 +15,8 @@ use native.Mathlib.Omega.{arith}
 use Rattle.arithmetic.specs.Counting.{bit, count}
 use Rattle.arithmetic.proofs.Bools.{both-ways, clash, and-right, and-intro}
 use Rattle.arithmetic.proofs.Counting.{count-mono, count-not, share}
-use Rattle.arithmetic.proofs.Sums.{total, total-add, total-const, total-scale, count-total}
+use Rattle.arithmetic.specs.Naturals.{total}
+use Rattle.arithmetic.proofs.Sums.{total-add, total-const, total-scale, count-total}
 use Rattle.model.specs.Planner.{ceilDiv}
 use Rattle.model.specs.RoundSheet.{median}
 use Rattle.limits.proofs.Extremes.{Least, Greatest, least, greatest}

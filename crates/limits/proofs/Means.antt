@@ -5,10 +5,11 @@ use Prim.Native.Nat.{ℕ, _+_, _*_, _/_, _≤_, _<_}
 use native.Mathlib.Nat.{div-mul-le-self, lt-div-mul-add, add-mul-div-right, div-eq-of-lt, mul-comm, mul-assoc, mul-le-mul-right}
 use native.Mathlib.Omega.{arith}
 use Rattle.arithmetic.proofs.Division.{div-mono}
-use Rattle.arithmetic.proofs.Sums.{total, total-mono, total-add, total-const, total-scale}
+use Rattle.arithmetic.specs.Naturals.{total}
+use Rattle.arithmetic.proofs.Sums.{total-mono, total-add, total-const, total-scale}
 use Rattle.model.specs.Planner.{ceilDiv}
 use Rattle.planning.proofs.Ceiling.{ceil-div-covers}
-use Rattle.rounds.proofs.Shifted.{mean-nat}
+use Rattle.rounds.specs.Naturals.{mean-nat}
 
 -- y is a nearest whole number to s / n
 pub record Nearest (n s y : ℕ) : Type 0 where

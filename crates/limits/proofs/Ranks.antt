@@ -13,7 +13,7 @@ use borrow.Author.Tests.{le-leb, leb-true, lt-ltb, ltb-true, ltb-false}
 use Rattle.arithmetic.specs.Counting.{count, lowest}
 use Rattle.arithmetic.proofs.Bools.{both-ways, clash, and-left, and-right, and-intro}
 use Rattle.arithmetic.proofs.Counting.{count-mono, count-pos, lowest-cases}
-use Rattle.rounds.proofs.Shifted.{nat-at, is-numbered, numbered-nat}
+use Rattle.rounds.specs.Naturals.{nat-at, is-numbered, numbered-nat}
 use Rattle.limits.proofs.Extremes.{Least, Greatest, least, greatest}
 
 pub record Numbered (acc : ℕ → Bool) (n : ℕ) (x : ℕ → ℕ) (h e : ℕ) : Type 0 where

@@ -10,8 +10,8 @@ use mathlib.Core.Bool.{Bool, true, false, not}
 use mathlib.Core.Path.{_≡_}
 use Prim.Native.Nat.{ℕ, _+_, _*_, _-_, _≤_, _<_}
 use Rattle.arithmetic.specs.Counting.{count}
-use Rattle.arithmetic.proofs.Sums.{total}
-use Rattle.rounds.proofs.Shifted.{accepted-nat, estimate-nat, used-nat, mean-nat}
+use Rattle.arithmetic.specs.Naturals.{total}
+use Rattle.rounds.specs.Naturals.{accepted-nat, estimate-nat, used-nat, mean-nat}
 
 -- pres says which readings x are present; k is what a search that finds nothing answers; kind is the estimator's number
 pub record Received : Type 0 where

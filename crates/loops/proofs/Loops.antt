@@ -15,7 +15,7 @@ use Rattle.arithmetic.specs.Counting.{bit, count}
 use Rattle.arithmetic.specs.Writing.{table, overwrite}
 use Rattle.arithmetic.proofs.Writing.{length-table, overwrite-snoc}
 use Rattle.arithmetic.proofs.Counting.{count-le}
-use Rattle.arithmetic.proofs.Sums.{total}
+use Rattle.arithmetic.specs.Naturals.{total}
 
 -- a flag as a number
 pub flag : (b : Bool) → boolByte b ≡ bit b

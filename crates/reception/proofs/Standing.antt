@@ -12,7 +12,7 @@ use lib.ListN.{length, getD, set, length-set}
 use lib.Seq.{getD-set-same, getD-set-other}
 use Rattle.arithmetic.proofs.Counting.{split-last}
 use Rattle.model.specs.Ensemble.{Reading, Readings}
-use Rattle.rounds.proofs.Shifted.{shift}
+use Rattle.rounds.specs.Naturals.{shift}
 use Rattle.reception.specs.Standing.{Stands}
 
 -- the reading that a natural stands for

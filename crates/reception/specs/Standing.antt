@@ -14,7 +14,7 @@ use Rattle.model.specs.declared.Settings.{Settings}
 use Rattle.model.specs.Ensemble.{Reading, Readings}
 use Rattle.model.specs.RoundSheet.{entryCount, entryAt, sheetLength}
 use Rattle.model.specs.Steps.{decidedReading, readingsOf}
-use Rattle.rounds.proofs.Shifted.{shift}
+use Rattle.rounds.specs.Naturals.{shift}
 use Rattle.estimates.specs.Values.{valueAt, presentAt}
 use Rattle.decisions.specs.Rows.{rowDecision}
 use Rattle.rows.specs.Parts.{partAt}

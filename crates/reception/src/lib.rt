@@ -4,7 +4,7 @@ ghost use Prim.Native.Nat.{_+_, _*_, _≤_, _<_};
 ghost use lib.Dec.{ltb};
 ghost use lib.ListN.{length};
 ghost use Rattle.model.specs.Steps.{decidedReading};
-ghost use Rattle.rounds.proofs.Shifted.{shift};
+ghost use Rattle.rounds.specs.Naturals.{shift};
 ghost use Rattle.decisions.specs.Rows.{copyAt, rowDecision};
 ghost use Rattle.reception.specs.Standing.{Stands, rowReading, fitting, Filled};
 use decisions::Decided;

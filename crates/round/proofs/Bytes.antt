@@ -8,7 +8,7 @@ use lib.ListN.{length, set, take, drop, length-append}
 use mir.Syntax.{w32}
 use mir.Val.{ofZ}
 use Rattle.arithmetic.specs.Writing.{table, overwrite}
-use Rattle.arithmetic.proofs.Shift.{down}
+use Rattle.arithmetic.specs.Naturals.{down}
 use Rattle.arithmetic.proofs.Writing.{overwrite-nil, overwrite-snoc, length-table}
 use Rattle.model.specs.RoundSheet.{bytes4, readingBytes}
 use Rattle.model.specs.AnswerSheet.{answerHeader, answerBytes}

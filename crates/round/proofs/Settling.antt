@@ -12,15 +12,15 @@ use lib.ListN.{length, getD, take, replicate}
 use lib.Seq.{length-take-le}
 use Rattle.arithmetic.specs.Counting.{count}
 use Rattle.arithmetic.specs.Writing.{table, overwrite}
-use Rattle.arithmetic.proofs.Shift.{down}
+use Rattle.arithmetic.specs.Naturals.{down}
 use Rattle.arithmetic.proofs.Writing.{length-table}
 use Rattle.model.specs.declared.Settings.{Settings}
 use Rattle.model.specs.Ensemble.{Readings, quorum}
 use Rattle.model.specs.RoundSheet.{settingsAt, entryCount, entryAt}
 use Rattle.model.specs.Steps.{readingsOf, acceptedAt, roundOf, roundAt}
-use Rattle.rounds.proofs.Local.{Agree, Alike, answer-local}
+use Rattle.rounds.proofs.Local.{EqualBelow, EqualRounds, answer-local}
 use Rattle.rounds.proofs.Natural.{accepted-present}
-use Rattle.rounds.proofs.Shifted.{shifted}
+use Rattle.rounds.specs.Naturals.{shifted}
 use Rattle.estimates.specs.Values.{valueAt, presentAt, nothing}
 use Rattle.acceptance.specs.Values as acceptance
 use Rattle.acceptance.specs.Values.{countOf}
@@ -51,7 +51,7 @@ kept-or : (b : Bool) (v e : ℕ) → cond b (keptValue b v) e ≡ cond b v e
 kept-or true v e = refl
 kept-or false v e = refl
 
-module _ (c : Settings) (v : Readings) (values : List ℕ) (long : length values ≡ c .n) (same : Agree (c .n) v (shifted 2147483648 (presentAt values) (valueAt values))) where
+module _ (c : Settings) (v : Readings) (values : List ℕ) (long : length values ≡ c .n) (same : EqualBelow (c .n) v (shifted 2147483648 (presentAt values) (valueAt values))) where
   accepts-present : (r : ℕ) → acceptance.acceptedAt (c .window) (quorum c) values r ≡ true → presentAt values r ≡ true
   unfolding acceptance.acceptedAt
   accepts-present r = accepted-present (c .window) (presentAt values) (valueAt values) (quorum c) (length values) r
@@ -75,7 +75,7 @@ module _ (c : Settings) (v : Readings) (values : List ℕ) (long : length values
         ∙ sym (used-of-round c v values long same some-acc r l)
 
     -- the round that is written is the round of the readings
-    pub settled-alike : Alike (c .n) (roundIn (countOf (c .window) (quorum c) values) (estimateOf (c .window) (quorum c) (c .estimator) values) (valueOf (c .window) (quorum c) values (estimateOf (c .window) (quorum c) (c .estimator) values)) kept) (roundOf c v)
+    pub settled-alike : EqualRounds (c .n) (roundIn (countOf (c .window) (quorum c) values) (estimateOf (c .window) (quorum c) (c .estimator) values) (valueOf (c .window) (quorum c) values (estimateOf (c .window) (quorum c) (c .estimator) values)) kept) (roundOf c v)
     settled-alike =
         record {
           count = sym (count-of-round c v values long same);
@@ -120,7 +120,7 @@ module _ (s : List ℕ) (pass : firstOf (sheetChecks s) ≡ none) where
     fit-here : ltb 64 (length values) ≡ false
     fit-here = le-ltb 64 (length values) (rw long-here (within .cabinets))
 
-    same-here : Agree (settingsAt s .n) (readingsOf (settingsAt s) (entryAt s (entryCount (settingsAt s)))) (shifted 2147483648 (presentAt values) (valueAt values))
+    same-here : EqualBelow (settingsAt s .n) (readingsOf (settingsAt s) (entryAt s (entryCount (settingsAt s)))) (shifted 2147483648 (presentAt values) (valueAt values))
     same-here = received-here .each
 
     counted-here : countOf (settingsAt s .window) (quorum (settingsAt s)) values ≡ roundAt s .count
@@ -167,7 +167,7 @@ module _ (s : List ℕ) (pass : firstOf (sheetChecks s) ≡ none) where
     unfolding tooManyFaults
     none-settled old z = rw (eq-eqb (roundAt s .count) 0 (count-none z))
 
-    alike-here : (a .count ≡ 0 → ⊥) → Alike (settingsAt s .n) (roundIn (a .count) (a .estimate) (a .value) kept) (roundAt s)
+    alike-here : (a .count ≡ 0 → ⊥) → EqualRounds (settingsAt s .n) (roundIn (a .count) (a .estimate) (a .value) kept) (roundAt s)
     unfolding roundAt
     alike-here d =
         rw (agreed-some (count-some d))

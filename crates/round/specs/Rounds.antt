@@ -7,7 +7,7 @@ use mathlib.Core.List.{List, [], _∷_, _++_}
 use Prim.Native.Nat.{ℕ}
 use lib.Dec.{ltb}
 use lib.IntN.{ℤ}
-use Rattle.arithmetic.proofs.Shift.{down}
+use Rattle.arithmetic.specs.Naturals.{down}
 use Rattle.model.specs.RoundSheet.{bytes4, settingsAt}
 use Rattle.model.specs.AnswerSheet.{answerLength, answerBytes}
 use Rattle.model.specs.Refusals.{tooManyFaults}

@@ -8,7 +8,7 @@ ghost use lib.ListN.{length};
 ghost use mir.Syntax.{w32};
 ghost use mir.Val.{ofZ};
 ghost use Rattle.arithmetic.specs.Writing.{table, overwrite};
-ghost use Rattle.arithmetic.proofs.Shift.{down};
+ghost use Rattle.arithmetic.specs.Naturals.{down};
 ghost use Rattle.model.specs.RoundSheet.{readingBytes, settingsAt};
 ghost use Rattle.model.specs.AnswerSheet.{answerBytes};
 ghost use Rattle.model.specs.Refusals.{firstOf, sheetChecks};

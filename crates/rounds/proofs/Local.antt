@@ -18,10 +18,10 @@ use Rattle.model.specs.AnswerSheet.{answerHeader, answerBytes}
 use Rattle.model.specs.Steps.{within, accepted, acceptedAt, numbered, ticksAt, averageOf, medianOf, midpointOf, estimate, mean, usedValue, markOf, Round, roundOf}
 
 -- two functions agree below n
-abbrev pub Agree : {A : Type 0} → ℕ → (ℕ → A) → (ℕ → A) → Type 0
-Agree n f g = (i : ℕ) → i < n → f i ≡ g i
+abbrev pub EqualBelow : {A : Type 0} → ℕ → (ℕ → A) → (ℕ → A) → Type 0
+EqualBelow n f g = (i : ℕ) → i < n → f i ≡ g i
 
-module _ (n : ℕ) (v u : Readings) (same : Agree n v u) where
+module _ (n : ℕ) (v u : Readings) (same : EqualBelow n v u) where
   pub accepted-local : (w need r : ℕ) → r < n → accepted w need n v r ≡ accepted w need n u r
   unfolding accepted
   accepted-local w need r h =
@@ -35,7 +35,7 @@ module _ (n : ℕ) (v u : Readings) (same : Agree n v u) where
       (ap₂ (within w) (same s l) (same r h))
       (count-ext (λ t. within w (v s) (v t)) (λ t. within w (u s) (u t)) n (λ t k. ap₂ (within w) (same s l) (same t k))))
 
-  module _ (acc bcc : ℕ → Bool) (both : Agree n acc bcc) where
+  module _ (acc bcc : ℕ → Bool) (both : EqualBelow n acc bcc) where
     pub count-local : count acc n ≡ count bcc n
     count-local = count-ext acc bcc n both
 
@@ -88,24 +88,24 @@ module _ (n : ℕ) (v u : Readings) (same : Agree n v u) where
         (ap (λ (c : ℕ). numbered acc n v ((c + 1) / 2)) count-local ∙ numbered-local ((count bcc n + 1) / 2))
         (ap₂ (λ (a b : ℤ). shrZ (a +ℤ b) 2) (numbered-local 1) (ap (numbered acc n v) count-local ∙ numbered-local (count bcc n))))
 
-    pub used-local : {d e : ℤ} → d ≡ e → Agree n (usedValue acc v d) (usedValue bcc u e)
+    pub used-local : {d e : ℤ} → d ≡ e → EqualBelow n (usedValue acc v d) (usedValue bcc u e)
     used-local p r l = rw (both r l, same r l, p)
 
-    pub mark-local : Agree n (λ r. markOf (acc r) (v r)) (λ r. markOf (bcc r) (u r))
+    pub mark-local : EqualBelow n (λ r. markOf (acc r) (v r)) (λ r. markOf (bcc r) (u r))
     mark-local r l = ap₂ markOf (both r l) (same r l)
 
 -- what two rounds that agree below n have in common
-pub record Alike (n : ℕ) (a b : Round) : Type 0 where
+pub record EqualRounds (n : ℕ) (a b : Round) : Type 0 where
   pub count : a .count ≡ b .count
   pub estimate : a .estimate ≡ b .estimate
   pub value : a .value ≡ b .value
-  pub mark : Agree n (a .mark) (b .mark)
-  pub used : Agree n (a .used) (b .used)
+  pub mark : EqualBelow n (a .mark) (b .mark)
+  pub used : EqualBelow n (a .used) (b .used)
 
-pub round-local : (c : Settings) (v u : Readings) → Agree (c .n) v u → Alike (c .n) (roundOf c v) (roundOf c u)
+pub round-local : (c : Settings) (v u : Readings) → EqualBelow (c .n) v u → EqualRounds (c .n) (roundOf c v) (roundOf c u)
 unfolding roundOf acceptedAt
 round-local c v u same =
-    let both : Agree (c .n) (λ r. accepted (c .window) (quorum c) (c .n) v r) (λ r. accepted (c .window) (quorum c) (c .n) u r) = λ r l. accepted-local (c .n) v u same (c .window) (quorum c) r l in
+    let both : EqualBelow (c .n) (λ r. accepted (c .window) (quorum c) (c .n) v r) (λ r. accepted (c .window) (quorum c) (c .n) u r) = λ r l. accepted-local (c .n) v u same (c .window) (quorum c) r l in
     let e = estimate-local (c .n) v u same _ _ both (c .estimator) in
     let used = used-local (c .n) v u same _ _ both e in
     record {
@@ -117,7 +117,7 @@ round-local c v u same =
     }
 
 -- rounds alike below n have the same answer sheet
-pub answer-local : (n : ℕ) (a b : Round) → Alike n a b → answerBytes n a ≡ answerBytes n b
+pub answer-local : (n : ℕ) (a b : Round) → EqualRounds n a b → answerBytes n a ≡ answerBytes n b
 unfolding answerBytes answerHeader
 answer-local n a b s =
     simp (s .count, s .estimate, s .value, table-ext (a .mark) (b .mark) n (s .mark), table-ext (a .used) (b .used) n (s .used))

@@ -7,13 +7,14 @@ use lib.Dec.{leb}
 use Rattle.arithmetic.specs.Counting.{count}
 use Rattle.arithmetic.proofs.Bools.{and-left, and-right}
 use Rattle.arithmetic.proofs.Counting.{count-ext, any-some}
-use Rattle.arithmetic.proofs.Shift.{down}
-use Rattle.arithmetic.proofs.Sums.{total, sum-ext, sum-down}
+use Rattle.arithmetic.specs.Naturals.{down, total}
+use Rattle.arithmetic.proofs.Sums.{sum-ext, sum-down}
 use Rattle.model.specs.declared.Settings.{Settings}
 use Rattle.model.specs.Ensemble.{Readings, quorum}
 use Rattle.model.specs.Steps.{acceptedAt, estimate, mean, roundOf}
-use Rattle.rounds.proofs.Local.{Agree, Alike, round-local, estimate-local}
-use Rattle.rounds.proofs.Shifted.{shifted, spans, accepted-nat, accepted-shifted, estimate-nat, estimate-shifted, mean-nat, mean-down, used-nat, used-shifted}
+use Rattle.rounds.proofs.Local.{EqualBelow, EqualRounds, round-local, estimate-local}
+use Rattle.rounds.specs.Naturals.{shifted, spans, accepted-nat, estimate-nat, mean-nat, used-nat}
+use Rattle.rounds.proofs.Shifted.{accepted-shifted, estimate-shifted, mean-down, used-shifted}
 
 -- an accepted reading is present
 pub accepted-present : (w : ℕ) (pres : ℕ → Bool) (x : ℕ → ℕ) (need n r : ℕ) → accepted-nat w pres x need n r ≡ true → pres r ≡ true
@@ -67,8 +68,8 @@ module _ (c : Settings) (pres : ℕ → Bool) (x : ℕ → ℕ) where
         ∙ mean-down k (c .n) (total (used-of k) (c .n)) h
 
   -- the same of any readings that agree with these below N
-  module _ (v : Readings) (k : ℕ) (same : Agree (c .n) v (shifted k pres x)) where
-    alike : Alike (c .n) (roundOf c v) (roundOf c (shifted k pres x))
+  module _ (v : Readings) (k : ℕ) (same : EqualBelow (c .n) v (shifted k pres x)) where
+    alike : EqualRounds (c .n) (roundOf c v) (roundOf c (shifted k pres x))
     alike = round-local c v (shifted k pres x) same
 
     pub round-count : roundOf c v .count ≡ count acc-of (c .n)

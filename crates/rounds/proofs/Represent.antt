@@ -8,8 +8,8 @@ use lib.Signed.{mag}
 use Rattle.arithmetic.proofs.Counting.{split-last}
 use Rattle.arithmetic.proofs.Shift.{up, down-up}
 use Rattle.model.specs.Ensemble.{Reading, missing, present, Readings, isPresent, ticks}
-use Rattle.rounds.proofs.Shifted.{shift, shifted}
-use Rattle.rounds.proofs.Local.{Agree}
+use Rattle.rounds.specs.Naturals.{shift, shifted}
+use Rattle.rounds.proofs.Local.{EqualBelow}
 use mathlib.Core.Logic.{⊎-elim}
 
 -- a number above the magnitude of each of the first n readings
@@ -38,5 +38,5 @@ shift-raise k missing h = refl
 shift-raise k (present z) h = ap present (down-up k z h)
 
 -- every set of readings is one of naturals, moved down by any number that reaches
-pub represented : (k : ℕ) (v : Readings) (n : ℕ) → reach v n ≤ k → Agree n v (shifted k (λ r. isPresent (v r)) (raise k v))
+pub represented : (k : ℕ) (v : Readings) (n : ℕ) → reach v n ≤ k → EqualBelow n v (shifted k (λ r. isPresent (v r)) (raise k v))
 represented k v n h r l = sym (shift-raise k (v r) (le-trans (reach-above v n r l) h))

@@ -15,25 +15,14 @@ use lib.Signed.{leZ, ltZ, shrZ}
 use Rattle.arithmetic.specs.Counting.{bit, count, anyBelow, lowest, sum}
 use Rattle.arithmetic.proofs.Bools.{and-left}
 use Rattle.arithmetic.proofs.Counting.{count-ext, any-ext, lowest-ext, lowest-found}
-use Rattle.arithmetic.proofs.Shift.{down, down-cong, pos-down, le-down, lt-down, add-down, add-pos-down, shr-down}
-use Rattle.arithmetic.proofs.Sums.{total}
-use Rattle.model.specs.Ensemble.{Reading, missing, present, Readings, ticks}
+use Rattle.arithmetic.specs.Naturals.{down, total}
+use Rattle.arithmetic.proofs.Shift.{down-cong, pos-down, le-down, lt-down, add-down, add-pos-down, shr-down}
+use Rattle.model.specs.Ensemble.{ticks}
 use Rattle.model.specs.RoundSheet.{average, median}
 use Rattle.model.specs.Steps.{within, accepted, numbered, ticksAt, averageOf, medianOf, midpointOf, estimate, mean, usedValue}
-
--- the reading of one cabinet
-abbrev pub shift : ℕ → Bool → ℕ → Reading
-shift k true x = present (down k x)
-shift k false x = missing
-
-abbrev pub shifted : ℕ → (ℕ → Bool) → (ℕ → ℕ) → Readings
-shifted k pres x r = shift k (pres r) (x r)
+use Rattle.rounds.specs.Naturals.{shift, shifted, within-nat, spans, accepted-nat, nat-at, is-numbered, numbered-nat, average-nat, median-nat, midpoint-nat, estimate-nat, mean-nat, used-nat}
 
 -- ---- acceptance
-
--- the present reading b lies in the span of width w from the present reading a
-abbrev pub within-nat : ℕ → Bool → ℕ → Bool → ℕ → Bool
-within-nat w p a q b = p && (q && (leb a b && leb b (a + w)))
 
 pub within-shift : (k w : ℕ) (p : Bool) (a : ℕ) (q : Bool) (b : ℕ) → within w (shift k p a) (shift k q b) ≡ within-nat w p a q b
 within-shift k w true a true b =
@@ -42,19 +31,12 @@ within-shift k w true a false b = refl
 within-shift k w false a q b = refl
 
 module _ (w : ℕ) (pres : ℕ → Bool) (x : ℕ → ℕ) where
-  -- r's reading lies in the span that starts at s's
-  abbrev pub spans : ℕ → ℕ → Bool
-  spans s r = within-nat w (pres s) (x s) (pres r) (x r)
-
-  unfoldable pub accepted-nat : ℕ → ℕ → ℕ → Bool
-  accepted-nat need n r = anyBelow (λ s. spans s r && leb need (count (spans s) n)) n
-
-  pub accepted-shifted : (k need n r : ℕ) → accepted w need n (shifted k pres x) r ≡ accepted-nat need n r
+  pub accepted-shifted : (k need n r : ℕ) → accepted w need n (shifted k pres x) r ≡ accepted-nat w pres x need n r
   unfolding accepted accepted-nat
   accepted-shifted k need n r =
       any-ext
       (λ s. within w (shifted k pres x s) (shifted k pres x r) && leb need (count (λ t. within w (shifted k pres x s) (shifted k pres x t)) n))
-      (λ s. spans s r && leb need (count (spans s) n))
+      (λ s. spans w pres x s r && leb need (count (spans w pres x s) n))
       n
       (λ s _.
       ap₂
@@ -62,42 +44,11 @@ module _ (w : ℕ) (pres : ℕ → Bool) (x : ℕ → ℕ) where
       (within-shift k w (pres s) (x s) (pres r) (x r))
       (count-ext
       (λ t. within w (shifted k pres x s) (shifted k pres x t))
-      (spans s)
+      (spans w pres x s)
       n
       (λ t _. within-shift k w (pres s) (x s) (pres t) (x t))))
 
 -- ---- estimates, over cabinets acc that are present
-
-abbrev pub nat-at : ℕ → (ℕ → ℕ) → Option ℕ → ℕ
-nat-at k x (some r) = x r
-nat-at k x none = k
-
--- whether r's number is numbered h from below among those that acc admits
-abbrev pub is-numbered : (ℕ → Bool) → ℕ → (ℕ → ℕ) → ℕ → ℕ → Bool
-is-numbered acc n x h r =
-    acc r && (leb h (count (λ s. acc s && leb (x s) (x r)) n) && ltb (count (λ s. acc s && ltb (x s) (x r)) n) h)
-
-unfoldable pub numbered-nat : ℕ → (ℕ → Bool) → ℕ → (ℕ → ℕ) → ℕ → ℕ
-numbered-nat k acc n x h = nat-at k x (lowest (is-numbered acc n x h) n)
-
-unfoldable pub average-nat : (ℕ → Bool) → ℕ → (ℕ → ℕ) → ℕ
-average-nat acc n x = total (λ r. cond (acc r) (x r) 0) n / count acc n
-
-unfoldable pub median-nat : ℕ → (ℕ → Bool) → ℕ → (ℕ → ℕ) → ℕ
-median-nat k acc n x = numbered-nat k acc n x ((count acc n + 1) / 2)
-
-unfoldable pub midpoint-nat : ℕ → (ℕ → Bool) → ℕ → (ℕ → ℕ) → ℕ
-midpoint-nat k acc n x = (numbered-nat k acc n x 1 + numbered-nat k acc n x (count acc n)) / 2
-
-unfoldable pub estimate-nat : ℕ → ℕ → (ℕ → Bool) → ℕ → (ℕ → ℕ) → ℕ
-estimate-nat k kind acc n x = cond (eqb kind average) (average-nat acc n x) (cond (eqb kind median) (median-nat k acc n x) (midpoint-nat k acc n x))
-
--- the mean of n numbers with the sum s, to the nearest, a half going up
-unfoldable pub mean-nat : ℕ → ℕ → ℕ
-mean-nat n s = (s + s + n) / (2 * n)
-
-abbrev pub used-nat : (ℕ → Bool) → (ℕ → ℕ) → ℕ → ℕ → ℕ
-used-nat acc x e r = cond (acc r) (x r) e
 
 -- two conjunctions are equal where their second parts are whenever the first part passes
 and-ext : (a b c : Bool) → (a ≡ true → b ≡ c) → (a && b) ≡ (a && c)

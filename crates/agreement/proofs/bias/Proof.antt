@@ -2,7 +2,7 @@
 -- Assumes nothing.
 use mathlib.Core.Path.{sym, ap, _∙_}
 use native.Mathlib.Omega.{arith}
-use Rattle.arithmetic.proofs.Shift.{down}
+use Rattle.arithmetic.specs.Naturals.{down}
 use Rattle.agreement.proofs.Biasing.{wrapped-up}
 use borrow.Author.Needs.{needs}
 use Rattle.agreement.proofs.bias.Statement.{statement}

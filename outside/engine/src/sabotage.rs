@@ -3,7 +3,7 @@
 use crate::{number, packed, Engine, Plan, Refusal, Settings};
 use reference::Round;
 
-/// Names, and what is wrong. The first ten are about the round itself.
+/// Names, and what is wrong. The first `OF_THE_ROUND` are about the round itself.
 pub const SABOTAGES: &[(&str, &str)] = &[
     ("need-low", "N-m-1 readings in a span are enough"),
     ("need-high", "N-m+1 readings in a span are needed"),
@@ -15,6 +15,10 @@ pub const SABOTAGES: &[(&str, &str)] = &[
     ("all-readings", "the estimate is over all present readings"),
     ("truncate", "the mean is rounded towards zero, not down"),
     ("half-down", "a half goes down"),
+    ("tick-off", "the new value is a tick high on a sheet whose bytes add up to an odd number"),
+    ("span-wide", "a span may be a tick wider than the window"),
+    ("highest", "the estimate is the highest accepted reading"),
+    ("refuse-need", "a sheet with just N-m accepted readings is refused as too many faults"),
     ("order", "marks are checked before the tray"),
     ("ghost-first", "a ghost before the first bad mark is refused as 9"),
     ("place", "the highest entry at fault is given as the place"),
@@ -25,8 +29,11 @@ pub const SABOTAGES: &[(&str, &str)] = &[
     ("from-one", "rows are numbered from one"),
     ("repeat", "the plan repeats the first window"),
     ("step-late", "a step after 32 rounds is granted"),
+    ("step-wide", "a step does not narrow the window"),
     ("target-short", "the target's count is one round too few"),
 ];
+
+const OF_THE_ROUND: usize = 14;
 
 pub struct Sabotaged {
     engine: Box<dyn Engine>,
@@ -123,7 +130,11 @@ impl Engine for Sabotaged {
         if self.how == "step-late" && plan.rounds == 32 {
             return self.engine.step(&Plan { rounds: 31, ..*plan }, next);
         }
-        self.engine.step(plan, next)
+        let given = self.engine.step(plan, next);
+        if self.how == "step-wide" && number(given) == 0 {
+            next.settings.window = plan.settings.window;
+        }
+        given
     }
 
     fn target(&self, settings: &Settings, accuracy: u32, target: u32) -> u64 {
@@ -152,7 +163,7 @@ fn ghosts(sheet: &[u8]) -> impl Iterator<Item = usize> + '_ {
 /// The round of a sheet that passed checks 1 to 9, wrong in the named way; None when the way
 /// is not about the round.
 fn wrong_round(how: &str, sheet: &[u8]) -> Option<Result<Vec<u8>, Refusal>> {
-    if !SABOTAGES[..10].iter().any(|(name, _)| *name == how) {
+    if !SABOTAGES[..OF_THE_ROUND].iter().any(|(name, _)| *name == how) {
         return None;
     }
     let settings = reference::settings_of(sheet).ok()?;
@@ -172,10 +183,11 @@ fn wrong_round(how: &str, sheet: &[u8]) -> Option<Result<Vec<u8>, Refusal>> {
         .zip(&accepted)
         .filter_map(|(v, &accepted)| if accepted { v.map(i64::from) } else { None })
         .collect();
-    if values.is_empty() {
+    if values.is_empty() || (how == "refuse-need" && values.len() == settings.need()) {
         return Some(Err(Refusal::new(10)));
     }
     let estimate = match how {
+        "highest" => *values.iter().max().unwrap(),
         "middle-two" if settings.estimator == reference::MEDIAN => middle_two(&values),
         "all-readings" => reference::estimate(settings.estimator, &present),
         _ => reference::estimate(settings.estimator, &values),
@@ -195,13 +207,17 @@ fn wrong_round(how: &str, sheet: &[u8]) -> Option<Result<Vec<u8>, Refusal>> {
     let new = match how {
         "truncate" => (2 * sum + n) / (2 * n),
         "half-down" => -(n - 2 * sum).div_euclid(2 * n),
+        "tick-off" => {
+            let odd = sheet.iter().map(|&byte| byte as i64).sum::<i64>() % 2;
+            (reference::mean(&used) + odd).min(i32::MAX as i64)
+        }
         _ => reference::mean(&used),
     };
     Some(Ok(Round { count: values.len(), estimate, new, marks, used }.bytes()))
 }
 
 fn wrong_acceptance(how: &str, settings: &Settings, present: &[i64], v: i64) -> bool {
-    let window = settings.window as i64 - (how == "strict") as i64;
+    let window = settings.window as i64 + (how == "span-wide") as i64 - (how == "strict") as i64;
     let need = match how {
         "need-low" => settings.need() - 1,
         "need-high" => settings.need() + 1,

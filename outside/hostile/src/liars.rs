@@ -21,6 +21,8 @@ pub struct Liars<'a> {
     held: &'a [Reading],
     /// The present readings of sound cabinets.
     sound: Vec<i64>,
+    /// They act as one: all say the outermost reading that is accepted, or a tick beside it.
+    united: bool,
 }
 
 /// CCA: what each cabinet told each relay, and the low and high value each faulty row favours.
@@ -35,6 +37,7 @@ impl<'a> Liars<'a> {
         settings: &Settings,
         faulty: &'a [bool],
         held: &'a [Reading],
+        united: bool,
     ) -> Liars<'a> {
         let sound = (0..held.len()).filter(|&c| !faulty[c]).filter_map(|c| held[c]);
         Liars {
@@ -44,6 +47,7 @@ impl<'a> Liars<'a> {
             faulty,
             held,
             sound: sound.map(i64::from).collect(),
+            united,
         }
     }
 
@@ -92,6 +96,12 @@ impl<'a> Liars<'a> {
         Some(clamp(value))
     }
 
+    /// What united liars say.
+    fn one_lie(&self, low: bool) -> i32 {
+        let beside = self.random.pick(&[0, 0, 0, 0, 1, -1]);
+        clamp(self.edge(low, self.number_of_faulty()) + beside)
+    }
+
     fn is_low(&self, aim: Aim) -> bool {
         match aim {
             Aim::Low => true,
@@ -102,6 +112,12 @@ impl<'a> Liars<'a> {
 
     /// FCA: the entries of a sheet for one face.
     pub fn direct(&self, aim: Aim) -> Vec<Reading> {
+        if self.united {
+            let lie = Some(self.one_lie(self.is_low(aim)));
+            return (0..self.n())
+                .map(|c| if self.faulty[c] { lie } else { self.held[c] })
+                .collect();
+        }
         let f = self.number_of_faulty();
         let together = self.random.percent(60);
         let speaking = match self.random.percent(80) {
@@ -131,11 +147,16 @@ impl<'a> Liars<'a> {
         let sound = n - f;
         let together = random.percent(60);
         // More than m liars can have a row decided low at one face and high at another.
-        let favour = if f + self.need > n && random.percent(60) { 2 } else { random.below(4) };
+        let both = f + self.need > n && (self.united || random.percent(60));
+        let favour = if both { 2 } else { random.below(4) };
         let just = self.need.saturating_sub(f).min(sound);
         let draw_spread =
             || random.pick(&[just, just, just, just + 1, sound / 2, sound]).min(sound);
-        let for_all_rows = random.percent(70).then(draw_spread);
+        let for_all_rows = match self.united {
+            true => Some(just),
+            false => random.percent(70).then(draw_spread),
+        };
+        let said = self.united.then(|| [Some(self.one_lie(true)), Some(self.one_lie(false))]);
         let mut told = Told { sent: vec![None; n * n], favoured: vec![[None; 2]; n] };
         for r in 0..n {
             if !self.faulty[r] {
@@ -146,7 +167,7 @@ impl<'a> Liars<'a> {
                 true => Some(clamp(self.edge(low, f))),
                 false => self.lie(low, f),
             };
-            let [low, high] = [value(true), value(false)];
+            let [low, high] = said.unwrap_or_else(|| [value(true), value(false)]);
             told.favoured[r] = [low, high];
             let spread = for_all_rows.unwrap_or_else(draw_spread);
             let (tell_low, tell_high) = match favour {
@@ -175,8 +196,8 @@ impl<'a> Liars<'a> {
     pub fn relayed(&self, told: &Told, aim: Aim) -> Vec<Reading> {
         let (random, n) = (self.random, self.n());
         let (lowest, highest) = self.ends();
-        let of_sound_rows = random.below(4);
-        let steady = random.percent(70);
+        let of_sound_rows = if self.united { 0 } else { random.below(4) };
+        let steady = self.united || random.percent(70);
         let mut entries = told.sent.clone();
         for r in 0..n {
             let low = self.is_low(aim);

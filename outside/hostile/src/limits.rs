@@ -1,6 +1,7 @@
 //! The limits for sound cabinets, for every good set and every true value.
 
 use crate::run::Run;
+use engine::Settings;
 
 /// Good sets of one size, N-t. Their true values reach from the highest reading less κ to the
 /// lowest reading plus κ, so the lowest of the highest and the highest of the lowest readings
@@ -39,6 +40,40 @@ pub fn good_sets(run: &Run) -> Vec<GoodSets> {
     sets
 }
 
+/// How far two new values can be apart after the first round, and one from true time past κ,
+/// where t are bad, m < t < N-m.
+#[derive(Clone, Copy, Debug, PartialEq, Eq)]
+pub struct Wide {
+    pub gap: i64,
+    pub error: i64,
+}
+
+impl Wide {
+    /// Document 01's limits.
+    pub fn document(settings: &Settings, t: usize) -> Wide {
+        let (n, m, w) = (settings.n as i64, settings.m as i64, settings.window as i64);
+        let t = t as i64;
+        Wide { gap: ceiling((n + 2 * t + 2 * m) * w, n), error: ceiling((m + t) * w, n) }
+    }
+
+    /// The exact ones. The used values of a cabinet add up to at most N times the highest good
+    /// reading plus (m+t)δ, and to at least N times the lowest less (m+t)δ.
+    pub fn exact(settings: &Settings, t: usize) -> Wide {
+        let (n, w) = (settings.n as i64, settings.window as i64);
+        let excess = (settings.m as i64 + t as i64) * w;
+        Wide { gap: w + near(excess, n) - near(-excess, n), error: near(excess, n) }
+    }
+}
+
+pub fn ceiling(number: i64, by: i64) -> i64 {
+    (number + by - 1).div_euclid(by)
+}
+
+/// The mean's rounding: the nearest whole number to a sum of n values over n, a half going up.
+fn near(sum: i64, n: i64) -> i64 {
+    (2 * sum + n).div_euclid(2 * n)
+}
+
 /// How close a limit was met.
 #[derive(Clone, Copy, Default)]
 pub struct Met {
@@ -52,11 +87,14 @@ pub struct Met {
     pub reached: u64,
     /// The largest limit that was reached exactly.
     pub largest: i64,
+    /// How often it was passed.
+    pub broken: u64,
 }
 
 impl Met {
-    /// A use of a limit above zero. A limit of zero is checked, not counted.
+    /// A use of a limit. One of zero can be broken, and is not counted as held or reached.
     pub fn count(&mut self, used: i64, limit: i64) {
+        self.broken += (used > limit) as u64;
         if limit > 0 {
             self.times += 1;
             let share = used as f64 / limit as f64;
@@ -75,11 +113,29 @@ impl Met {
 #[cfg(test)]
 mod tests {
     use super::*;
-    use engine::Settings;
+
+    #[test]
+    fn three_of_seven() {
+        let wide = |window| {
+            let settings = Settings { n: 7, m: 2, rule: 0, estimator: 1, window };
+            (Wide::document(&settings, 3), Wide::exact(&settings, 3))
+        };
+        assert_eq!(wide(7), (Wide { gap: 17, error: 5 }, Wide { gap: 17, error: 5 }));
+        assert_eq!(wide(2), (Wide { gap: 5, error: 2 }, Wide { gap: 4, error: 1 }));
+        let (document, exact) = wide(167_772);
+        assert_eq!((document.gap, exact.gap), (407_447, 407_446));
+    }
 
     fn run(accuracy: u32, held: &[Option<i32>]) -> Run {
         let settings = Settings { n: 4, m: 1, rule: 0, estimator: 1, window: 10 };
-        Run { settings, accuracy, faulty: vec![false; 4], held: held.to_vec(), rounds: 1 }
+        Run {
+            settings,
+            accuracy,
+            faulty: vec![false; 4],
+            held: held.to_vec(),
+            rounds: 1,
+            united: false,
+        }
     }
 
     #[test]

@@ -8,9 +8,9 @@ mod run;
 
 use engine::sabotage::Sabotaged;
 use engine::Engine;
-use limits::Met;
+use limits::{Met, Wide};
 use random::Random;
-use run::{Run, Tally, LIMITS};
+use run::{question, Run, Tally, LIMITS, QUESTION, WINDOWS};
 use std::process::ExitCode;
 use std::time::Instant;
 
@@ -60,9 +60,9 @@ fn engine(options: &Options) -> Option<Box<dyn Engine>> {
 }
 
 /// One run from its seed. The same seed gives the same run.
-fn run(seed: u64, engine: &dyn Engine, tally: &mut Tally, show: bool) -> Result<(), String> {
+fn run(seed: u64, engine: &dyn Engine, tally: &mut Tally, show: bool) {
     let random = Random::new(seed);
-    Run::draw(&random).run(&random, engine, tally, show)
+    Run::draw(&random).run(&random, engine, tally, show);
 }
 
 fn main() -> ExitCode {
@@ -76,9 +76,10 @@ fn main() -> ExitCode {
     };
     let mut tally = Tally::default();
     if let Some(seed) = options.run {
-        return match run(seed, &*engine, &mut tally, true) {
-            Ok(()) => ExitCode::SUCCESS,
-            Err(broken) => {
+        run(seed, &*engine, &mut tally, true);
+        return match tally.first {
+            None => ExitCode::SUCCESS,
+            Some(broken) => {
                 println!("BROKEN: {broken}");
                 ExitCode::FAILURE
             }
@@ -88,41 +89,78 @@ fn main() -> ExitCode {
     let start = Instant::now();
     for i in 0..options.runs {
         let seed = (options.seed << 32) + i;
-        if let Err(broken) = run(seed, &*engine, &mut tally, false) {
-            println!("FAILED at run {seed}: {broken}\nThe run again, with all that was sent:");
-            let _ = run(seed, &*engine, &mut Tally::default(), true);
-            println!("FAILED at run {seed}: {broken}");
-            return ExitCode::FAILURE;
+        let before = tally.first.is_some();
+        run(seed, &*engine, &mut tally, false);
+        if let (Some(broken), false) = (&tally.first, before) {
+            println!("BROKEN at run {seed}: {broken}\nThe run again, with all that was sent:");
+            run(seed, &*engine, &mut Tally::default(), true);
         }
     }
     report(&tally);
     println!("{:.1} s", start.elapsed().as_secs_f64());
-    println!("PASSED: no limit broken in {} runs", options.runs);
-    ExitCode::SUCCESS
+    let faults = tally.faults();
+    if faults.is_empty() {
+        println!("PASSED: in {} runs every limit was held, reached and not broken", options.runs);
+        return ExitCode::SUCCESS;
+    }
+    for fault in &faults {
+        println!("{fault}");
+    }
+    println!("FAILED: {} faults in {} runs", faults.len(), options.runs);
+    ExitCode::FAILURE
 }
 
 fn report(tally: &Tally) {
-    println!("{} runs with t ≤ m, in which nobody refused", tally.few_bad);
+    println!(
+        "{} runs with t ≤ m, in which {} sheets were settled and {} refused",
+        tally.few_bad, tally.few_settled, tally.few_refused
+    );
     println!("{} runs with m < t < N-m", tally.many_bad);
     println!(
         "{} rounds; {} sheets settled, {} refused as too many faults",
         tally.rounds, tally.settled, tally.refused
     );
+    println!("{} answers of the planner, {} of them wrong", tally.plans, tally.wrong_plans);
     println!(
-        "{:38} {:>8} {:>8} {:>8} {:>8} {:>8}",
-        "limit", "held", "share", "large", "reached", "largest"
+        "{:38} {:>8} {:>8} {:>8} {:>8} {:>8} {:>8}",
+        "limit", "held", "share", "large", "reached", "largest", "broken"
     );
     for (name, met) in LIMITS.iter().zip(&tally.met) {
-        let Met { times, share, share_of_large, reached, largest } = met;
+        let Met { times, share, share_of_large, reached, largest, broken } = met;
         println!(
-            "{name:38} {times:>8} {share:>8.3} {share_of_large:>8.3} {reached:>8} {largest:>8}"
+            "{name:38} {times:>8} {share:>8.3} {share_of_large:>8.3} {reached:>8} {largest:>8} \
+             {broken:>8}"
         );
     }
     println!("share    the largest share of the limit that was used; above 1 it would be broken");
     println!("large    the same for limits of 1000 ticks and more, where rounding plays no part");
     println!("reached  how often the limit was reached exactly");
     println!("largest  the largest limit, in ticks, that was reached exactly");
+    println!("broken   how often it was passed");
     println!(
         "An error counts by its growth past the starting κ. Limits of 0 are held, not counted."
     );
+    answer(tally);
+}
+
+/// The regulator's question: what was met beside the exact limits and document 01's.
+fn answer(tally: &Tally) {
+    let (n, m, t) = QUESTION;
+    println!("N {n}, m {m}, {t} bad, the first round, in ticks; the error is past κ");
+    println!(
+        "{:>9} {:>9} {:>9} {:>9} {:>9} {:>9} {:>9}",
+        "window", "gap met", "exact", "document", "error met", "exact", "document"
+    );
+    for (&window, met) in WINDOWS.iter().zip(&tally.answer) {
+        let (exact, document) =
+            (Wide::exact(&question(window), t), Wide::document(&question(window), t));
+        let [gap, error] = match met {
+            None => ["-".into(), "-".into()],
+            Some(met) => [met.gap.to_string(), met.error.to_string()],
+        };
+        println!(
+            "{window:>9} {gap:>9} {:>9} {:>9} {error:>9} {:>9} {:>9}",
+            exact.gap, document.gap, exact.error, document.error
+        );
+    }
 }

@@ -1,13 +1,13 @@
 //! One run, as document 01 writes it out: a start, then rounds of sending, sheets and settling.
 
 use crate::liars::{clamp, outermost, Aim, Liars, Reading};
-use crate::limits::{good_sets, GoodSets, Met};
+use crate::limits::{good_sets, GoodSets, Met, Wide};
 use engine::{number, words, Engine, Plan, Settings};
 use random::Random;
-use reference::{CCA, FCA, MEDIAN};
+use reference::{AVERAGE, CCA, FCA, MEDIAN};
 
 /// The limits, by name. Each is counted apart.
-pub const LIMITS: [&str; 14] = [
+pub const LIMITS: [&str; 18] = [
     "t ≤ m    gap   round 1  FCA",
     "t ≤ m    gap   round 1  CCA, median",
     "t ≤ m    gap   round 1  CCA, others",
@@ -18,20 +18,85 @@ pub const LIMITS: [&str; 14] = [
     "t ≤ m    error round 1  CCA",
     "t ≤ m    error later    FCA",
     "t ≤ m    error later    CCA",
-    "m < t    gap   round 1  FCA",
-    "m < t    gap   round 1  CCA",
-    "m < t    error round 1  FCA",
-    "m < t    error round 1  CCA",
+    "m < t    gap   document FCA",
+    "m < t    gap   document CCA",
+    "m < t    error document FCA",
+    "m < t    error document CCA",
+    "m < t    gap   exact    FCA",
+    "m < t    gap   exact    CCA",
+    "m < t    error exact    FCA",
+    "m < t    error exact    CCA",
 ];
+
+/// The regulator's question: three of seven bad, planned for two, at these windows.
+pub const QUESTION: (u8, u8, usize) = (7, 2, 3);
+pub const WINDOWS: [u32; 6] = [2, 7, 1_677, 16_777, 167_772, 1_000_000];
 
 #[derive(Default)]
 pub struct Tally {
-    pub met: [Met; 14],
+    pub met: [Met; 18],
+    /// The greatest gap, and the greatest error past κ, that were met at each of `WINDOWS`.
+    pub answer: [Option<Wide>; 6],
     pub few_bad: u64,
     pub many_bad: u64,
     pub rounds: u64,
     pub settled: u64,
     pub refused: u64,
+    /// Sheets settled, and refused, where t ≤ m.
+    pub few_settled: u64,
+    pub few_refused: u64,
+    /// Sheets refused under another number than 10.
+    pub misrefused: u64,
+    /// Answers of the planner, and wrong ones among them.
+    pub plans: u64,
+    pub wrong_plans: u64,
+    /// What was broken first.
+    pub first: Option<String>,
+}
+
+impl Tally {
+    fn broken(&mut self, what: impl FnOnce() -> String) {
+        if self.first.is_none() {
+            self.first = Some(what());
+        }
+    }
+
+    /// Everything that the station is to show and did not.
+    pub fn faults(&self) -> Vec<String> {
+        let mut faults = Vec::new();
+        for (name, met) in LIMITS.iter().zip(&self.met) {
+            match met {
+                Met { broken: 1.., .. } => faults.push(format!("broken: {name}")),
+                Met { times: 0, .. } => faults.push(format!("never held: {name}")),
+                Met { reached: 0, .. } => faults.push(format!("never reached: {name}")),
+                _ => {}
+            }
+        }
+        match (self.few_settled, self.few_refused) {
+            (_, 1..) => faults.push("broken: t ≤ m    no sound cabinet refuses".into()),
+            (0, _) => faults.push("never held: t ≤ m    no sound cabinet refuses".into()),
+            _ => {}
+        }
+        if self.misrefused > 0 {
+            faults.push("broken: every sheet and tray passes checks 1 to 9".into());
+        }
+        match (self.plans, self.wrong_plans) {
+            (_, 1..) => faults.push("broken: the planner's windows and accuracies".into()),
+            (0, _) => faults.push("never held: the planner's windows and accuracies".into()),
+            _ => {}
+        }
+        for (window, met) in WINDOWS.iter().zip(&self.answer) {
+            if *met != Some(Wide::exact(&question(*window), QUESTION.2)) {
+                faults.push(format!("three of seven, window {window}: the exact limits not met"));
+            }
+        }
+        faults
+    }
+}
+
+/// The settings of the regulator's question.
+pub fn question(window: u32) -> Settings {
+    Settings { n: QUESTION.0, m: QUESTION.1, rule: FCA, estimator: MEDIAN, window }
 }
 
 pub struct Run {
@@ -40,6 +105,8 @@ pub struct Run {
     pub faulty: Vec<bool>,
     pub held: Vec<Reading>,
     pub rounds: u32,
+    /// The liars act as one: see `Liars`.
+    pub united: bool,
 }
 
 impl Run {
@@ -49,6 +116,11 @@ impl Run {
 
     /// Settings, faulty cabinets and first readings.
     pub fn draw(random: &Random) -> Run {
+        match random.below(100) {
+            0..=9 => return Run::draw_sharp(random),
+            10..=12 => return Run::draw_close(random),
+            _ => {}
+        }
         let settings = draw_settings(random);
         let (n, m) = (settings.n as usize, settings.m as usize);
         let w = settings.window as i64;
@@ -74,28 +146,66 @@ impl Run {
         cabinets.extend(good.iter().map(|&v| (false, Some(clamp(v)))));
         cabinets.extend((f..t).map(|_| (false, draw_bad(random, &settings, &good, t))));
         cabinets.extend((0..f).map(|_| (true, None)));
+        let most_rounds = if settings.rule == CCA && n > 16 { 4 } else { 32 };
+        let rounds = random.pick(&[1, 2, 3, 8, 32, random.below(33) as u32]).min(most_rounds);
+        Run::shuffled(random, settings, accuracy, cabinets, rounds, false)
+    }
+
+    /// A round that reaches the exact limits for m < t < N-m, where N ≤ 2m+t. With k = N-m-t,
+    /// k good ones read 0, k read δ and the others lie between; the liars say -δ to one cabinet
+    /// and 2δ to another. The median is then a liar's at both.
+    fn draw_sharp(random: &Random) -> Run {
+        let (settings, t) = draw_sharp_settings(random);
+        let w = settings.window as i64;
+        let k = settings.need() - t;
+        let base = random.pick(&[0, 0, i32::MIN as i64 + w, i32::MAX as i64 - 2 * w]);
+        let reading = |i: usize| match i {
+            i if i < k => base,
+            i if i < 2 * k || w < 2 => base + w,
+            _ => base + random.between(1, w - 1),
+        };
+        let mut cabinets: Vec<(bool, Reading)> = Vec::new();
+        cabinets.extend((0..settings.n as usize - t).map(|i| (false, Some(clamp(reading(i))))));
+        cabinets.extend((0..t).map(|_| (true, None)));
+        let accuracy = random.pick(&[(w + 1) / 2, w, 1_000_000_000]);
+        Run::shuffled(random, settings, accuracy, cabinets, 1, true)
+    }
+
+    /// A round that reaches the next window of CCA with average, where the liar's row is decided
+    /// at one cabinet and not at another.
+    fn draw_close(random: &Random) -> Run {
+        let settings = Settings { n: 4, m: 1, rule: CCA, estimator: AVERAGE, window: 4 };
+        let base = random.pick(&[0, 0, i32::MIN as i64 + 4, i32::MAX as i64 - 8]);
+        let mut cabinets: Vec<(bool, Reading)> = Vec::new();
+        cabinets.extend([0, 2, 2].map(|v| (false, Some(clamp(base + v)))));
+        cabinets.push((true, None));
+        Run::shuffled(random, settings, random.between(2, 5), cabinets, 3, true)
+    }
+
+    fn shuffled(
+        random: &Random,
+        settings: Settings,
+        accuracy: i64,
+        mut cabinets: Vec<(bool, Reading)>,
+        rounds: u32,
+        united: bool,
+    ) -> Run {
+        let n = cabinets.len();
         for i in 0..n {
             cabinets.swap(i, random.below(n));
         }
-        let most_rounds = if settings.rule == CCA && n > 16 { 4 } else { 32 };
-        let rounds = random.pick(&[1, 2, 3, 8, 32, random.below(33) as u32]).min(most_rounds);
         Run {
             settings,
             accuracy: accuracy as u32,
             faulty: cabinets.iter().map(|c| c.0).collect(),
             held: cabinets.iter().map(|c| c.1).collect(),
             rounds,
+            united,
         }
     }
 
-    /// Runs the rounds and holds every limit against them. The error tells which was broken.
-    pub fn run(
-        mut self,
-        random: &Random,
-        engine: &dyn Engine,
-        tally: &mut Tally,
-        show: bool,
-    ) -> Result<(), String> {
+    /// Runs the rounds and holds every limit against them. What is broken is tallied.
+    pub fn run(mut self, random: &Random, engine: &dyn Engine, tally: &mut Tally, show: bool) {
         let sets = good_sets(&self);
         let m = self.settings.m as usize;
         let few: Vec<GoodSets> = sets.iter().copied().filter(|set| set.t <= m).collect();
@@ -104,7 +214,7 @@ impl Run {
         let start = self.accuracy;
         let mut plan = Plan::default();
         let answer = engine.plan(&self.settings, start, 0, &mut plan);
-        self.same_plan(answer, plan, reference::plan(&self.settings, start, 0).unwrap())?;
+        let mut plan = same_plan(tally, answer, plan, reference::plan(&self.settings, start, 0));
         if show {
             println!("{:?}, κ {start}, {} rounds", self.settings, self.rounds);
             println!("faulty {:?}", (0..self.n()).filter(|&c| self.faulty[c]).collect::<Vec<_>>());
@@ -116,7 +226,7 @@ impl Run {
         let steady = random.percent(40).then(|| random.pick(&[Aim::Low, Aim::High]));
         for round in 1..=rounds {
             let settings = plan.settings;
-            self.round(random, engine, &settings, steady, few_bad, tally, show)?;
+            self.round(random, engine, &settings, steady, few_bad, tally, show);
             let next_window = reference::next_window(&settings) as i64;
             let next_accuracy = reference::next_accuracy(&settings, plan.accuracy) as i64;
             let values = self.values();
@@ -124,25 +234,23 @@ impl Run {
             let kind = self.kind();
             if few_bad {
                 let late = (round > 1) as usize;
-                self.hold(tally, 3 * late + kind, gap, next_window, 0)?;
+                hold(tally, 3 * late + kind, gap, next_window, 0);
                 for set in &few {
                     for &value in &values {
                         let error = set.error(value, start as i64);
                         let limit = 6 + 2 * late + (kind > 0) as usize;
-                        self.hold(tally, limit, error, next_accuracy, start as i64)?;
+                        hold(tally, limit, error, next_accuracy, start as i64);
                     }
                 }
             }
             if round == 1 {
-                self.wide_limits(tally, &sets, &values)?;
+                self.wide_limits(tally, &sets, &values);
             }
             let mut next = Plan::default();
             let answer = engine.step(&plan, &mut next);
-            self.same_plan(answer, next, reference::step(&plan).unwrap())?;
-            plan = next;
+            plan = same_plan(tally, answer, next, reference::step(&plan));
             tally.rounds += 1;
         }
-        Ok(())
     }
 
     fn kind(&self) -> usize {
@@ -159,53 +267,29 @@ impl Run {
         sound.filter_map(|c| self.held[c]).map(i64::from).collect()
     }
 
-    /// Good sets with m < t < N-m, first round.
-    fn wide_limits(
-        &self,
-        tally: &mut Tally,
-        sets: &[GoodSets],
-        values: &[i64],
-    ) -> Result<(), String> {
+    /// Good sets with m < t < N-m, first round: the exact limits, and document 01's.
+    fn wide_limits(&self, tally: &mut Tally, sets: &[GoodSets], values: &[i64]) {
         let Settings { n, m, window, .. } = self.settings;
-        let (n, m, w, start) = (n as i64, m as i64, window as i64, self.accuracy as i64);
+        let start = self.accuracy as i64;
         let crusaders = (self.kind() > 0) as usize;
-        for set in sets.iter().filter(|set| set.t as i64 > m) {
-            let t = set.t as i64;
-            let widest_gap = ceiling((n + 2 * t + 2 * m) * w, n);
-            self.hold(tally, 10 + crusaders, gap(values), widest_gap, 0)?;
-            let widest_error = start + ceiling((m + t) * w, n);
+        let gap = gap(values);
+        for set in sets.iter().filter(|set| set.t > m as usize) {
+            let document = Wide::document(&self.settings, set.t);
+            let exact = Wide::exact(&self.settings, set.t);
+            hold(tally, 10 + crusaders, gap, document.gap, 0);
+            hold(tally, 14 + crusaders, gap, exact.gap, 0);
             for &value in values {
                 let error = set.error(value, start);
-                self.hold(tally, 12 + crusaders, error, widest_error, start)?;
+                hold(tally, 12 + crusaders, error, start + document.error, start);
+                hold(tally, 16 + crusaders, error, start + exact.error, start);
+            }
+            let asked = WINDOWS.iter().position(|&w| w == window);
+            if let (Some(row), true) = (asked, (n, m, set.t) == QUESTION) {
+                let error = values.iter().map(|&v| set.error(v, start) - start).max().unwrap_or(0);
+                let met = tally.answer[row].get_or_insert(Wide { gap, error });
+                *met = Wide { gap: met.gap.max(gap), error: met.error.max(error) };
             }
         }
-        Ok(())
-    }
-
-    /// Holds a limit. What is counted is the part of it past `from`.
-    fn hold(
-        &self,
-        tally: &mut Tally,
-        limit: usize,
-        used: i64,
-        most: i64,
-        from: i64,
-    ) -> Result<(), String> {
-        tally.met[limit].count(used - from, most - from);
-        if used > most {
-            return Err(format!("{}: {used}, and the limit is {most}", LIMITS[limit]));
-        }
-        Ok(())
-    }
-
-    fn same_plan(&self, answer: u64, given: Plan, right: Plan) -> Result<(), String> {
-        if number(answer) != 0 {
-            return Err(format!("the planner: {}", words(answer)));
-        }
-        if given != right {
-            return Err(format!("the plan is {given:?}, not {right:?}"));
-        }
-        Ok(())
     }
 
     /// One round. Cabinets that the liars show the same face have the same sheet, byte for
@@ -220,9 +304,9 @@ impl Run {
         few_bad: bool,
         tally: &mut Tally,
         show: bool,
-    ) -> Result<(), String> {
+    ) {
         let (faces, face_of) = self.faces(random, steady);
-        let liars = Liars::new(random, settings, &self.faulty, &self.held);
+        let liars = Liars::new(random, settings, &self.faulty, &self.held, self.united);
         let told = (settings.rule == CCA).then(|| liars.tell());
         let mut next = self.held.clone();
         for (face, &aim) in faces.iter().enumerate() {
@@ -233,7 +317,8 @@ impl Run {
             }
             // The liars try a few sheets and keep the one that leads furthest.
             let mut kept: Option<(i64, Reading, Vec<Reading>)> = None;
-            for _ in 0..random.pick(&[1, 2, 4]) {
+            let tries = if self.united { 4 } else { random.pick(&[1, 2, 4]) };
+            for _ in 0..tries {
                 let entries = match &told {
                     Some(told) => liars.relayed(told, aim),
                     None => liars.direct(aim),
@@ -242,12 +327,15 @@ impl Run {
                 let (worth, new) = match answer {
                     Ok(new) => {
                         tally.settled += 1;
+                        tally.few_settled += few_bad as u64;
                         (new as i64 * if aim == Aim::Low { -1 } else { 1 }, Some(new))
                     }
                     Err(answer) => {
                         tally.refused += 1;
+                        tally.few_refused += few_bad as u64;
+                        tally.misrefused += (number(answer) != 10) as u64;
                         if few_bad || number(answer) != 10 {
-                            return Err(format!("cabinet {} {}", members[0], words(answer)));
+                            tally.broken(|| format!("cabinet {} {}", members[0], words(answer)));
                         }
                         (i64::MIN, None)
                     }
@@ -268,11 +356,15 @@ impl Run {
             }
         }
         self.held = next;
-        Ok(())
     }
 
     /// The faces that the liars show, and which one each cabinet sees.
     fn faces(&self, random: &Random, steady: Option<Aim>) -> (Vec<Aim>, Vec<usize>) {
+        if self.united {
+            let alone = (0..self.n()).find(|&c| !self.faulty[c]);
+            let face = |c: usize| (Some(c) == alone || random.percent(30)) as usize;
+            return (vec![Aim::Low, Aim::High], (0..self.n()).map(face).collect());
+        }
         if let Some(aim) = steady {
             if random.percent(80) {
                 return (vec![aim], vec![0; self.n()]);
@@ -300,8 +392,28 @@ impl Run {
     }
 }
 
-fn ceiling(number: i64, by: i64) -> i64 {
-    (number + by - 1).div_euclid(by)
+/// Holds a limit. What is counted is the part of it past `from`.
+fn hold(tally: &mut Tally, limit: usize, used: i64, most: i64, from: i64) {
+    tally.met[limit].count(used - from, most - from);
+    if used > most {
+        tally.broken(|| format!("{}: {used}, and the limit is {most}", LIMITS[limit]));
+    }
+}
+
+/// Holds a plan to the reference's, with which the run goes on.
+fn same_plan(
+    tally: &mut Tally,
+    answer: u64,
+    given: Plan,
+    right: Result<Plan, engine::Refusal>,
+) -> Plan {
+    let right = right.expect("a run's plan is granted");
+    tally.plans += 1;
+    if number(answer) != 0 || given != right {
+        tally.wrong_plans += 1;
+        tally.broken(|| format!("the plan: {}, {given:?}, not {right:?}", words(answer)));
+    }
+    right
 }
 
 /// The largest difference of two values.
@@ -351,6 +463,25 @@ fn draw_settings(random: &Random) -> Settings {
         estimator: random.below(3) as u8,
         window,
     }
+}
+
+/// Settings with N ≤ 2m+t and t of m < t < N-m: most often those of the regulator's question.
+fn draw_sharp_settings(random: &Random) -> (Settings, usize) {
+    let rule = random.pick(&[FCA, CCA]);
+    if random.percent(40) {
+        return (Settings { rule, ..question(random.pick(&WINDOWS)) }, QUESTION.2);
+    }
+    let n = if random.percent(80) { random.between(4, 13) } else { random.between(14, 64) };
+    let m = random.between(1, (n - 1) / 3);
+    let t = random.between((m + 1).max(n - 2 * m), n - m - 1);
+    let window = match random.below(4) {
+        0 => random.between(1, 30),
+        1 => n * random.between(1, 15_000),
+        2 => random.between(1, 2000),
+        _ => random.between(1, 1_000_000),
+    };
+    let window = window as u32;
+    (Settings { n: n as u8, m: m as u8, rule, estimator: MEDIAN, window }, t as usize)
 }
 
 /// First readings of N-t cabinets, within the window of each other and twice κ.

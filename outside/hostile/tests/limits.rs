@@ -1,19 +1,92 @@
-//! No limit is broken, and engines that break limits are found.
+//! No limit is broken; engines that break limits are found, each limit by itself; and a station
+//! that holds or reaches too little fails.
 
 use std::process::Command;
+
+/// All that the station holds, in the words of its report.
+const HELD: [&str; 20] = [
+    "t ≤ m    gap   round 1  FCA",
+    "t ≤ m    gap   round 1  CCA, median",
+    "t ≤ m    gap   round 1  CCA, others",
+    "t ≤ m    gap   later    FCA",
+    "t ≤ m    gap   later    CCA, median",
+    "t ≤ m    gap   later    CCA, others",
+    "t ≤ m    error round 1  FCA",
+    "t ≤ m    error round 1  CCA",
+    "t ≤ m    error later    FCA",
+    "t ≤ m    error later    CCA",
+    "m < t    gap   document FCA",
+    "m < t    gap   document CCA",
+    "m < t    error document FCA",
+    "m < t    error document CCA",
+    "m < t    gap   exact    FCA",
+    "m < t    gap   exact    CCA",
+    "m < t    error exact    FCA",
+    "m < t    error exact    CCA",
+    "t ≤ m    no sound cabinet refuses",
+    "the planner's windows and accuracies",
+];
 
 fn hostile(words: &[&str]) -> (Option<i32>, String) {
     let output = Command::new(env!("CARGO_BIN_EXE_hostile")).args(words).output().unwrap();
     (output.status.code(), String::from_utf8(output.stdout).unwrap())
 }
 
+/// What the report names as broken, where it fails.
+fn broken(sabotage: &str) -> Vec<String> {
+    let (status, text) = hostile(&["--runs", "3000", "--sabotage", sabotage]);
+    assert_eq!(status, Some(1), "{sabotage} was not found\n{text}");
+    assert!(text.contains("BROKEN at run") && text.contains("FAILED"), "{sabotage}\n{text}");
+    text.lines().filter_map(|line| line.strip_prefix("broken: ")).map(String::from).collect()
+}
+
 #[test]
 fn no_limit_is_broken() {
     for engine in ["reference", "plain"] {
-        let (status, text) = hostile(&["--engine", engine, "--runs", "1000"]);
+        let (status, text) = hostile(&["--engine", engine, "--runs", "3000"]);
         assert_eq!(status, Some(0), "{text}");
-        assert!(text.contains("PASSED"), "{text}");
+        assert!(text.contains("PASSED") && !text.contains("BROKEN"), "{text}");
     }
+}
+
+#[test]
+fn a_station_without_runs_fails() {
+    let (status, text) = hostile(&["--runs", "0"]);
+    assert_eq!(status, Some(1), "{text}");
+    for limit in HELD {
+        assert!(text.lines().any(|line| line == format!("never held: {limit}")), "{limit}\n{text}");
+    }
+    assert_eq!(text.matches("the exact limits not met").count(), 6, "{text}");
+}
+
+#[test]
+fn a_station_that_reaches_too_little_fails() {
+    let (status, text) = hostile(&["--runs", "100"]);
+    assert_eq!(status, Some(1), "{text}");
+    assert!(text.contains("never reached: ") && !text.contains("broken: "), "{text}");
+}
+
+/// A new value a tick off breaks each of the limits.
+#[test]
+fn each_limit_finds_a_tick() {
+    let found = broken("tick-off");
+    for limit in &HELD[..18] {
+        assert!(found.iter().any(|name| name == limit), "{limit} finds no tick: {found:?}");
+    }
+}
+
+/// An engine that refuses where t ≤ m, one whose plan does not narrow, and one whose estimate is
+/// no median, each by the limit that it breaks.
+#[test]
+fn refusals_plans_and_medians_are_held() {
+    let names = |sabotage: &str, limit: &str| {
+        let found = broken(sabotage);
+        assert!(found.iter().any(|name| name == limit), "{sabotage}, {limit}: {found:?}");
+    };
+    names("refuse-need", HELD[18]);
+    names("step-wide", HELD[19]);
+    names("highest", HELD[1]);
+    names("highest", HELD[4]);
 }
 
 #[test]
@@ -27,10 +100,9 @@ fn engines_that_break_limits_are_found() {
         "row-low",
         "all-readings",
         "truncate",
+        "span-wide",
     ];
     for name in break_limits {
-        let (status, text) = hostile(&["--runs", "1000", "--sabotage", name]);
-        assert_eq!(status, Some(1), "{name} was not found\n{text}");
-        assert!(text.contains("FAILED at run"), "{name} was not found\n{text}");
+        assert!(!broken(name).is_empty(), "{name} was not found");
     }
 }

@@ -3,9 +3,8 @@
 set -e
 cd "$(dirname "$0")"
 cargo build --release -j1 -q
-cargo test -j1 -q
+cargo test --release -j1 -q
 target/release/compare
-./sabotage.sh
 target/release/compare --program target/release/reference-settle
 target/release/hostile
 target/release/bench

@@ -87,7 +87,7 @@ module _ (w need n : ℕ) (v : Readings) where
         ∙ of-T (leZ f (s +ℤ pos w)) (h .span .narrow .le))
 
     -- a reading inside the span is inside it as a natural
-    inside-up : (t : ℕ) (y : Reading) → v t ≡ y → t < n → inside s f y ≡ true → (isPresent y && A.inside w (up k s) (up k (ticks y))) ≡ true
+    inside-up : (t : ℕ) (y : Reading) → v t ≡ y → t < n → inside s f y ≡ true → (isPresent y && A.insideSpan w (up k s) (up k (ticks y))) ≡ true
     inside-up t missing e i z = z
     inside-up t (present y) e i z =
         let near : mag y < k = subst (λ (x : Reading). mag (ticks x) < k) e (reading-near t i) in
@@ -104,7 +104,7 @@ module _ (w need n : ℕ) (v : Readings) where
           start = up k s;
           low = A.inside-low w (up k s) (up k (ticks (v r))) (and-right (isPresent (v r)) _ here);
           high = A.inside-high w (up k s) (up k (ticks (v r))) (and-right (isPresent (v r)) _ here);
-          holds = le-trans (h .span .enough) (count-mono (λ t. inside s f (v t)) (λ t. isPresent (v t) && A.inside w (up k s) (up k (ticks (v t)))) n (λ t i z. inside-up t (v t) refl i z));
+          holds = le-trans (h .span .enough) (count-mono (λ t. inside s f (v t)) (λ t. isPresent (v t) && A.insideSpan w (up k s) (up k (ticks (v t)))) n (λ t i z. inside-up t (v t) refl i z));
         })
 
 -- document 01's words: a reading is accepted exactly where some span as wide as the window holds it and N-m readings

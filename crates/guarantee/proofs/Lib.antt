@@ -3,7 +3,9 @@ pub mod Distances
 pub mod Entries
 pub mod Link
 pub mod Received
+pub mod Ready
 pub mod Round
+pub mod Exact
 pub mod Guarantee
 pub mod Regulator
 pub mod Sanity

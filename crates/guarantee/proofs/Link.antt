@@ -11,6 +11,7 @@ use native.Mathlib.Omega.{arith}
 use borrow.Author.Tests.{eq-eqb, ne-eqb}
 use lib.Arith.{digits-lt}
 use lib.Dec.{eqb}
+use lib.IntN.{ℤ}
 use lib.ListN.{length, replicate, length-replicate}
 use mir.Syntax.{w32}
 use mir.Val.{SFits}
@@ -22,16 +23,17 @@ use Rattle.model.specs.Ensemble.{missing, present, Readings, ticks, quorum}
 use Rattle.model.specs.RoundSheet.{cca, settingsAt, entryCount, entryAt, sheetLength, sheetBytes}
 use Rattle.model.specs.AnswerSheet.{answerLength, answerBytes}
 use Rattle.model.specs.Refusals.{Row, refusal, orNext, firstOf, settingsChecks, entryChecks, settleChecks, noRoom, tooManyFaults}
-use Rattle.model.specs.Calls.{granted, Outcome, writtenAfter, write, settle}
-use Rattle.model.specs.Steps.{decidedReading, readingsOf, roundOf, roundAt}
+use Rattle.model.specs.Calls.{granted, refused, Outcome, writtenAfter, write, settle}
+use Rattle.model.specs.Planner.{withWindow}
+use Rattle.model.specs.Steps.{Round, decidedReading, readingsOf, roundOf, roundAt}
 use Rattle.rounds.proofs.Local.{EqualBelow, EqualRounds, round-local, answer-local}
 use Rattle.sheets.proofs.Answer.{answer-value}
 use Rattle.sheets.proofs.Checks.{room-pass}
 use Rattle.sheets.proofs.Entries.{marksFrom, ticksFrom, filled-well-formed, filled-entry, filled-write}
 use Rattle.sheets.proofs.Outcomes.{settle-rows}
-use Rattle.sheets.proofs.Written.{settings-back, sheet-passes, entries-pass}
-use Rattle.guarantee.specs.Guarantee.{Station, Sends, Allowed, State, entryOf, sheetOf, settled, holds}
-use Rattle.guarantee.proofs.Entries.{at, seen}
+use Rattle.sheets.proofs.Written.{WellFormed, settings-back, sheet-passes, entries-pass}
+use Rattle.guarantee.specs.Guarantee.{Station, N, Sends, Allowed, State, entryOf, sheetOf, settled, holds}
+use Rattle.guarantee.proofs.Entries.{seen}
 
 -- readings depend on the entries below E alone
 pub readings-local : (c : Settings) (f g : Readings) → EqualBelow (entryCount c) f g → EqualBelow (c .n) (readingsOf c f) (readingsOf c g)
@@ -51,88 +53,116 @@ readings-local c f g same r l =
     direct : eqb (c .rule) cca ≡ false → r < entryCount c
     direct b = rw b l
 
-module _ (st : Station) (now : State) (x : Sends) (w : ℕ) (plan : now .plan .settings ≡ at st now x w) (pass : firstOf (settingsChecks (at st now x w)) ≡ none) (allowed : Allowed st x) (p : ℕ) (fits : (e : ℕ) → e < entryCount (st .settings) → SFits w32 (ticks (entryOf st now x p e))) where
-  same-entries : entryCount (at st now x w) ≡ entryCount (st .settings)
-  unfolding entryCount
-  same-entries = refl
+module _ (st : Station) (now : State) (x : Sends) (w p : ℕ) where
+  -- the settings of the round, and the round of what p reads
+  abbrev c : Settings
+  c = withWindow (st .settings) w
 
-  fits-here : (e : ℕ) → e < entryCount (at st now x w) → SFits w32 (ticks (entryOf st now x p e))
-  fits-here e l = fits e (rw same-entries at l)
+  abbrev pub found : Round
+  found = roundOf c (seen st now x w p)
 
-  -- the bytes of p's sheet
+  -- p's entries, and the marks, the readings and the bytes of its sheet
+  abbrev entries : Readings
+  entries = entryOf st now x p
+
+  abbrev marks : List ℕ
+  marks = marksFrom c entries
+
+  abbrev readings : List ℤ
+  readings = ticksFrom c entries
+
   bytes : List ℕ
-  bytes = sheetBytes (at st now x w) (marksFrom (at st now x w) (entryOf st now x p)) (ticksFrom (at st now x w) (entryOf st now x p))
+  bytes = sheetBytes c marks readings
 
-  sheet-is : sheetOf st now x p ≡ bytes
-  unfolding sheetOf bytes entryCount
-  sheet-is =
-      ap (λ (d : Settings). write d (marksFrom (st .settings) (entryOf st now x p)) (ticksFrom (st .settings) (entryOf st now x p)) (replicate (sheetLength (st .settings)) 0) .buffer) plan
-      ∙ ap (λ (z : Outcome). z .buffer)
-      (filled-write (at st now x w) (entryOf st now x p) pass fits-here (replicate (sheetLength (st .settings)) 0) (length-replicate (sheetLength (st .settings)) 0))
+  module _ (plan : now .plan .settings ≡ withWindow (st .settings) w)
+      (pass : firstOf (settingsChecks (withWindow (st .settings) w)) ≡ none)
+      (allowed : Allowed st x)
+      (fits : (e : ℕ) → e < entryCount (st .settings) → SFits w32 (ticks (entryOf st now x p e))) where
+    same-entries : entryCount c ≡ entryCount (st .settings)
+    unfolding entryCount
+    same-entries = refl
 
-  -- the round that settling finds is the round of what p reads
-  round-is : EqualRounds (st .settings .n) (roundAt bytes) (roundOf (at st now x w) (seen st now x w p))
-  unfolding roundAt bytes seen
-  round-is =
-      let formed = filled-well-formed (at st now x w) (entryOf st now x p) pass fits-here in
-      let settings = settings-back (at st now x w) (marksFrom (at st now x w) (entryOf st now x p)) (ticksFrom (at st now x w) (entryOf st now x p)) formed in
-      rw settings
-      (round-local (at st now x w)
-      (readingsOf (at st now x w) (entryAt bytes (entryCount (at st now x w))))
-      (readingsOf (at st now x w) (entryOf st now x p))
-      (readings-local (at st now x w) (entryAt bytes (entryCount (at st now x w))) (entryOf st now x p)
-      (λ e l. filled-entry (at st now x w) (entryOf st now x p) pass fits-here e l)))
+    fits-here : (e : ℕ) → e < entryCount c → SFits w32 (ticks (entries e))
+    fits-here e l = fits e (rw same-entries at l)
 
-  -- of the rows only 10 can refuse
-  rows : firstOf (settleChecks bytes (x .buffer p)) ≡ tooManyFaults (roundOf (at st now x w) (seen st now x w p) .count)
-  unfolding bytes
-  rows =
-      let formed = filled-well-formed (at st now x w) (entryOf st now x p) pass fits-here in
-      let marks = marksFrom (at st now x w) (entryOf st now x p) in
-      let readings = ticksFrom (at st now x w) (entryOf st now x p) in
-      let settings = settings-back (at st now x w) marks readings formed in
-      settle-rows (sheetBytes (at st now x w) marks readings) (x .buffer p)
-      ∙ ap (λ (r : Row). orNext r (orNext (noRoom (length (x .buffer p)) (answerLength (settingsAt (sheetBytes (at st now x w) marks readings) .n))) (orNext (firstOf (entryChecks (sheetBytes (at st now x w) marks readings))) (tooManyFaults (roundAt (sheetBytes (at st now x w) marks readings) .count))))) (sheet-passes (at st now x w) marks readings formed)
-      ∙ ap (λ (d : Settings). orNext (noRoom (length (x .buffer p)) (answerLength (d .n))) (orNext (firstOf (entryChecks (sheetBytes (at st now x w) marks readings))) (tooManyFaults (roundAt (sheetBytes (at st now x w) marks readings) .count)))) settings
-      ∙ ap (λ (r : Row). orNext r (orNext (firstOf (entryChecks (sheetBytes (at st now x w) marks readings))) (tooManyFaults (roundAt (sheetBytes (at st now x w) marks readings) .count)))) (room-pass (length (x .buffer p)) (answerLength (st .settings .n)) (allowed .room p))
-      ∙ ap (λ (r : Row). orNext r (tooManyFaults (roundAt (sheetBytes (at st now x w) marks readings) .count))) (entries-pass (at st now x w) marks readings formed)
-      ∙ ap tooManyFaults (round-is .count)
+    formed : WellFormed c marks readings
+    formed = filled-well-formed c entries pass fits-here
 
-  -- what settling gives: the round of what p reads, or refusal 10
-  pub settled-is : settled st now x p ≡ writtenAfter (tooManyFaults (roundOf (at st now x w) (seen st now x w p) .count)) (answerLength (st .settings .n)) (answerBytes (st .settings .n) (roundOf (at st now x w) (seen st now x w p))) (x .buffer p)
-  unfolding settled settle
-  settled-is =
-      let formed = filled-well-formed (at st now x w) (entryOf st now x p) pass fits-here in
-      let settings : settingsAt bytes ≡ at st now x w = unfold bytes in settings-back (at st now x w) (marksFrom (at st now x w) (entryOf st now x p)) (ticksFrom (at st now x w) (entryOf st now x p)) formed in
-      ap (λ (s : List ℕ). settle s (x .buffer p)) sheet-is
-      ∙ ap (λ (r : Row). writtenAfter r (answerLength (settingsAt bytes .n)) (answerBytes (settingsAt bytes .n) (roundAt bytes)) (x .buffer p)) rows
-      ∙ ap (λ (d : Settings). writtenAfter (tooManyFaults (roundOf (at st now x w) (seen st now x w p) .count)) (answerLength (d .n)) (answerBytes (d .n) (roundAt bytes)) (x .buffer p)) settings
-      ∙ ap (λ (a : List ℕ). writtenAfter (tooManyFaults (roundOf (at st now x w) (seen st now x w p) .count)) (answerLength (st .settings .n)) a (x .buffer p)) (answer-local (st .settings .n) (roundAt bytes) (roundOf (at st now x w) (seen st now x w p)) round-is)
+    settings-is : settingsAt bytes ≡ c
+    unfolding bytes
+    settings-is = settings-back c marks readings formed
 
-  none-row : (count : ℕ) → 0 < count → tooManyFaults count ≡ none
-  unfolding tooManyFaults
-  none-row count h = rw (ne-eqb count 0 (λ e. omega arith))
+    size-is : settingsAt bytes .n ≡ N st
+    size-is = ap (λ (d : Settings). d .n) settings-is
 
-  some-row : (count : ℕ) → count ≡ 0 → tooManyFaults count ≡ some (refusal 10 0)
-  unfolding tooManyFaults
-  some-row count h = rw (eq-eqb count 0 h)
+    sheet-is : sheetOf st now x p ≡ bytes
+    unfolding sheetOf bytes entryCount
+    sheet-is =
+        ap (λ (d : Settings). write d marks readings blank .buffer) plan
+        ∙ ap (λ (z : Outcome). z .buffer)
+        (filled-write c entries pass fits-here blank (length-replicate (sheetLength (st .settings)) 0))
+      where
+        blank : List ℕ
+        blank = replicate (sheetLength (st .settings)) 0
 
-  -- no reading accepted: p holds nothing
-  pub settled-refused : roundOf (at st now x w) (seen st now x w p) .count ≡ 0 → holds (settled st now x p .verdict) (settled st now x p .buffer) ≡ missing
-  settled-refused h =
-      let s = settled-is in
-      rw s (rw (some-row (roundOf (at st now x w) (seen st now x w p) .count) h))
+    -- the round that settling finds is the round of what p reads
+    round-is : EqualRounds (N st) (roundAt bytes) found
+    unfolding roundAt bytes seen
+    round-is =
+        rw settings-is
+        (round-local c
+        (readingsOf c (entryAt bytes (entryCount c)))
+        (readingsOf c entries)
+        (readings-local c (entryAt bytes (entryCount c)) entries (filled-entry c entries pass fits-here)))
 
-  module _ (some-acc : 0 < roundOf (at st now x w) (seen st now x w p) .count) where
-    pub settled-granted : settled st now x p .verdict ≡ granted (answerLength (st .settings .n))
-    settled-granted =
+    -- of the rows only 10 can refuse
+    rows : firstOf (settleChecks bytes (x .buffer p)) ≡ tooManyFaults (found .count)
+    unfolding bytes
+    rows =
+        settle-rows bytes (x .buffer p)
+        ∙ rw (
+          sheet-passes c marks readings formed,
+          size-is,
+          room-pass (length (x .buffer p)) (answerLength (N st)) (allowed .room p),
+          entries-pass c marks readings formed,
+          round-is .count,
+        )
+
+    -- what settling gives: the round of what p reads, or refusal 10
+    pub settled-is :
+        settled st now x p
+        ≡ writtenAfter (tooManyFaults (found .count)) (answerLength (N st)) (answerBytes (N st) found) (x .buffer p)
+    unfolding settled settle
+    settled-is =
+        ap (λ (s : List ℕ). settle s (x .buffer p)) sheet-is
+        ∙ rw (rows, size-is, answer-local (N st) (roundAt bytes) found round-is)
+
+    none-row : (count : ℕ) → 0 < count → tooManyFaults count ≡ none
+    unfolding tooManyFaults
+    none-row count h = rw (ne-eqb count 0 (λ e. omega arith))
+
+    some-row : (count : ℕ) → count ≡ 0 → tooManyFaults count ≡ some (refusal 10 0)
+    unfolding tooManyFaults
+    some-row count h = rw (eq-eqb count 0 h)
+
+    -- no reading accepted: refusal 10 at place 0
+    pub settled-refused : found .count ≡ 0 → settled st now x p .verdict ≡ refused (refusal 10 0)
+    settled-refused h =
         let s = settled-is in
-        rw s (rw (none-row (roundOf (at st now x w) (seen st now x w p) .count) some-acc))
+        rw s (rw (some-row (found .count) h))
 
-    -- p holds the round's new value
-    pub settled-value : SFits w32 (roundOf (at st now x w) (seen st now x w p) .value) → holds (settled st now x p .verdict) (settled st now x p .buffer) ≡ present (roundOf (at st now x w) (seen st now x w p) .value)
-    settled-value h =
-        let s = settled-is in
-        rw s
-        (rw (none-row (roundOf (at st now x w) (seen st now x w p) .count) some-acc)
-        (ap present (answer-value (st .settings .n) (roundOf (at st now x w) (seen st now x w p)) (x .buffer p) h)))
+    module _ (some-acc : 0 < found .count) where
+      pub settled-granted : settled st now x p .verdict ≡ granted (answerLength (N st))
+      settled-granted =
+          let s = settled-is in
+          rw s (rw (none-row (found .count) some-acc))
+
+      -- p holds the round's new value
+      pub settled-value :
+          SFits w32 (found .value)
+          → holds (settled st now x p .verdict) (settled st now x p .buffer) ≡ present (found .value)
+      settled-value h =
+          let s = settled-is in
+          rw s
+          (rw (none-row (found .count) some-acc)
+          (ap present (answer-value (N st) found (x .buffer p) h)))

@@ -19,7 +19,7 @@ use Rattle.rounds.proofs.Local.{EqualBelow}
 use Rattle.rounds.proofs.Natural.{round-count, round-value}
 use Rattle.rounds.proofs.Represent.{shift-raise}
 use Rattle.rounds.specs.Naturals.{shifted}
-use Rattle.limits.proofs.Settled.{Received, accepts, valueOf}
+use Rattle.limits.proofs.Settled.{Receiver, accepts, valueBy}
 use Rattle.demands.proofs.Values as values
 use Rattle.guarantee.specs.Guarantee.{IsReading}
 use Rattle.guarantee.proofs.Distances.{fits-mag}
@@ -33,7 +33,7 @@ reading-mag y i = fits-mag (ticks y) (reading-fits y i)
 
 module _ (c : Settings) (v : Readings) (reads : (r : ℕ) → r < c .n → IsReading (v r)) where
   -- the readings v moved up by k
-  abbrev pub received : ℕ → Received
+  abbrev pub received : ℕ → Receiver
   received k = record { pres = λ r. isPresent (v r); x = λ r. up k (ticks (v r)); k = k; kind = c .estimator }
 
   represented : (k : ℕ) → bias ≤ k → EqualBelow (c .n) v (shifted k (λ r. isPresent (v r)) (λ r. up k (ticks (v r))))
@@ -42,10 +42,10 @@ module _ (c : Settings) (v : Readings) (reads : (r : ℕ) → r < c .n → IsRea
   pub received-count : (k : ℕ) → bias ≤ k → roundOf c v .count ≡ count (accepts (c .n) (c .m) (c .window) (received k)) (c .n)
   received-count k h = round-count c (λ r. isPresent (v r)) (λ r. up k (ticks (v r))) v k (represented k h)
 
-  pub received-value : (k : ℕ) → bias ≤ k → 0 < c .n → 0 < roundOf c v .count → roundOf c v .value ≡ down k (valueOf (c .n) (c .m) (c .window) (received k))
+  pub received-value : (k : ℕ) → bias ≤ k → 0 < c .n → 0 < roundOf c v .count → roundOf c v .value ≡ down k (valueBy (c .n) (c .m) (c .window) (received k))
   received-value k h some-n some-acc =
       round-value c (λ r. isPresent (v r)) (λ r. up k (ticks (v r))) v k (represented k h) some-n
       (subst (λ (a : ℕ). 0 < a) (received-count k h) some-acc)
 
-  pub value-fits : 0 < c .n → 0 < roundOf c v .count → SFits w32 (roundOf c v .value)
-  value-fits some-n some-acc = values.value-fits c v (λ r l. reading-fits (v r) (reads r l)) some-acc some-n
+  pub new-value-fits : 0 < c .n → 0 < roundOf c v .count → SFits w32 (roundOf c v .value)
+  new-value-fits some-n some-acc = values.value-fits c v (λ r l. reading-fits (v r) (reads r l)) some-acc some-n

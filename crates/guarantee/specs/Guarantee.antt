@@ -20,11 +20,13 @@
 --   newValue, Unrefused, Sound, apart                words for the limits
 --   Good, bad                        the good cabinets, and t, the number of the others
 --   Every, First                     a claim about every round, and about the first
+--   Orderly                          what holds whatever t is
 --   closeGap, closeError, Close      the limits for t ≤ m
 --   wideGap, wideError, Wide         the limits for m < t < N-m
---   Guarantee, Demand3               both, of one run; of every run
+--   Guarantee, Demand3               all three, of one run; of every run
 use mathlib.Core.Bool.{Bool, true, not, cond}
 use mathlib.Core.List.{List, [], _∷_}
+use mathlib.Core.Logic.{_⊎_}
 use mathlib.Core.Option.{none}
 use mathlib.Core.Path.{_≡_}
 use Prim.Native.Nat.{ℕ, _+_, _*_, _-_, _/_, _%_, _≤_, _<_}
@@ -40,7 +42,7 @@ use Rattle.model.specs.Ensemble.{Reading, missing, present, Readings, isPresent
 use Rattle.model.specs.RoundSheet.{cca, entryCount, sheetLength, word}
 use Rattle.model.specs.AnswerSheet.{answerLength}
 use Rattle.model.specs.Planner.{Plan, planFrom, ceilDiv}
-use Rattle.model.specs.Refusals.{firstOf, planChecks}
+use Rattle.model.specs.Refusals.{refusal, firstOf, planChecks}
 use Rattle.model.specs.Calls.{Verdict, granted, refused, Outcome, write, settle, step}
 
 -- ---- Start
@@ -196,6 +198,15 @@ abbrev pub First : (State → Sends → Type 0) → State → List Sends → Typ
 First Claim now [] = Unit {0}
 First Claim now (x ∷ xs) = Claim now x
 
+-- whatever t is: "sheet and tray pass checks 1 to 9". So a sound cabinet's sheet is settled, or refused under 10, "too
+-- many faults", at place 0, and for no other reason; and the plan goes forward
+pub record Orderly (st : Station) (now : State) (x : Sends) : Type 0 where
+  pub passes :
+      (p : ℕ) → Sound st p
+      → (settled st now x p .verdict ≡ granted (answerLength (N st)))
+      ⊎ (settled st now x p .verdict ≡ refused (refusal 10 0))
+  pub steps : step (now .plan) ≡ granted (next st now x .plan)
+
 -- "the next window", and "the planned accuracy", of the plan that goes one round forward
 abbrev pub closeGap : Station → State → Sends → ℕ
 closeGap st now x = next st now x .plan .settings .window
@@ -237,6 +248,7 @@ Each Claim [] = Unit {0}
 Each Claim (x ∷ xs) = Claim x × Each Claim xs
 
 pub record Guarantee (st : Station) (rounds : List Sends) (good : ℕ → Bool) (true-value : ℤ) : Type 0 where
+  pub every-round : Every st (Orderly st) (start st) rounds
   pub few : bad st good ≤ m st → Every st (Close st true-value) (start st) rounds
   pub many :
       m st < bad st good → bad st good < N st - m st

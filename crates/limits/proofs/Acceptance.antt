@@ -1,7 +1,7 @@
 -- Which readings are accepted: those of any span as wide as the window that holds enough readings. Every reading of such a span is
 -- accepted, so an accepted reading stands in a span of enough accepted ones.
---   inside w a y               y lies in the span of width w from a
---   Span w p x need n r        a span that holds r's number and need numbers of indices that pass p
+--   insideSpan w a y           y lies in the span of width w from a
+--   NatSpan w p x need n r     a span that holds r's number and need numbers of indices that pass p
 -- Assumes nothing.
 use mathlib.Core.Bool.{Bool, true, _&&_}
 use mathlib.Core.Logic.{_↔_}
@@ -18,27 +18,27 @@ use Rattle.rounds.specs.Naturals.{spans, accepted-nat}
 use Rattle.rounds.proofs.Natural.{accepted-present}
 use Rattle.limits.proofs.Extremes.{Least, Greatest, least}
 
-abbrev pub inside : ℕ → ℕ → ℕ → Bool
-inside w a y = leb a y && leb y (a + w)
+abbrev pub insideSpan : ℕ → ℕ → ℕ → Bool
+insideSpan w a y = leb a y && leb y (a + w)
 
-pub inside-intro : (w a y : ℕ) → a ≤ y → y ≤ a + w → inside w a y ≡ true
+pub inside-intro : (w a y : ℕ) → a ≤ y → y ≤ a + w → insideSpan w a y ≡ true
 inside-intro w a y l h = and-intro (le-leb a y l) (le-leb y (a + w) h)
 
-pub inside-low : (w a y : ℕ) → inside w a y ≡ true → a ≤ y
+pub inside-low : (w a y : ℕ) → insideSpan w a y ≡ true → a ≤ y
 inside-low w a y e = leb-true a y (and-left (leb a y) (leb y (a + w)) e)
 
-pub inside-high : (w a y : ℕ) → inside w a y ≡ true → y ≤ a + w
+pub inside-high : (w a y : ℕ) → insideSpan w a y ≡ true → y ≤ a + w
 inside-high w a y e = leb-true y (a + w) (and-right (leb a y) (leb y (a + w)) e)
 
-pub record Span (w : ℕ) (p : ℕ → Bool) (x : ℕ → ℕ) (need n r : ℕ) : Type 0 where
+pub record NatSpan (w : ℕ) (p : ℕ → Bool) (x : ℕ → ℕ) (need n r : ℕ) : Type 0 where
   pub start : ℕ
   pub low : start ≤ x r
   pub high : x r ≤ start + w
-  pub holds : need ≤ count (λ t. p t && inside w start (x t)) n
+  pub holds : need ≤ count (λ t. p t && insideSpan w start (x t)) n
 
 module _ (w : ℕ) (pres : ℕ → Bool) (x : ℕ → ℕ) (need n : ℕ) where
   -- the present reading at which the span that holds an accepted one starts
-  pub record Start (r : ℕ) : Type 0 where
+  pub record SpanStart (r : ℕ) : Type 0 where
     pub index : ℕ
     pub inRange : index < n
     pub here : pres index ≡ true
@@ -48,13 +48,13 @@ module _ (w : ℕ) (pres : ℕ → Bool) (x : ℕ → ℕ) (need n : ℕ) where
 
   -- s's span, taken apart
   spans-from : (s r : ℕ) → spans w pres x s r ≡ true → pres s ≡ true
-  spans-from s r e = and-left (pres s) (pres r && inside w (x s) (x r)) e
+  spans-from s r e = and-left (pres s) (pres r && insideSpan w (x s) (x r)) e
 
-  spans-rest : (s r : ℕ) → spans w pres x s r ≡ true → (pres r && inside w (x s) (x r)) ≡ true
-  spans-rest s r e = and-right (pres s) (pres r && inside w (x s) (x r)) e
+  spans-rest : (s r : ℕ) → spans w pres x s r ≡ true → (pres r && insideSpan w (x s) (x r)) ≡ true
+  spans-rest s r e = and-right (pres s) (pres r && insideSpan w (x s) (x r)) e
 
-  spans-inside : (s r : ℕ) → spans w pres x s r ≡ true → inside w (x s) (x r) ≡ true
-  spans-inside s r e = and-right (pres r) (inside w (x s) (x r)) (spans-rest s r e)
+  spans-inside : (s r : ℕ) → spans w pres x s r ≡ true → insideSpan w (x s) (x r) ≡ true
+  spans-inside s r e = and-right (pres r) (insideSpan w (x s) (x r)) (spans-rest s r e)
 
   module _ (r : ℕ) (ok : accepted-nat w pres x need n r ≡ true) where
     from : (s : ℕ) × (s < n) × ((spans w pres x s r && leb need (count (spans w pres x s) n)) ≡ true)
@@ -64,7 +64,7 @@ module _ (w : ℕ) (pres : ℕ → Bool) (x : ℕ → ℕ) (need n : ℕ) where
     from-spans : spans w pres x (from .0) r ≡ true
     from-spans = and-left (spans w pres x (from .0) r) (leb need (count (spans w pres x (from .0)) n)) (from .2)
 
-    pub accepted-start : Start r
+    pub accepted-start : SpanStart r
     accepted-start =
         record {
           index = from .0;
@@ -75,7 +75,7 @@ module _ (w : ℕ) (pres : ℕ → Bool) (x : ℕ → ℕ) (need n : ℕ) where
           holds = leb-true need _ (and-right (spans w pres x (from .0) r) (leb need (count (spans w pres x (from .0)) n)) (from .2));
         }
 
-    pub accepted-in-span : Span w pres x need n r
+    pub accepted-in-span : NatSpan w pres x need n r
     accepted-in-span =
         record {
           start = x (accepted-start .index);
@@ -86,13 +86,13 @@ module _ (w : ℕ) (pres : ℕ → Bool) (x : ℕ → ℕ) (need n : ℕ) where
               (accepted-start .holds)
               (count-mono
               (spans w pres x (accepted-start .index))
-              (λ t. pres t && inside w (x (accepted-start .index)) (x t))
+              (λ t. pres t && insideSpan w (x (accepted-start .index)) (x t))
               n
               (λ t _ e. spans-rest (accepted-start .index) t e));
         }
 
   -- a present reading of a span that holds enough is accepted: the span from its lowest present reading holds as many
-  pub span-accepted : (r : ℕ) → r < n → pres r ≡ true → Span w pres x need n r → accepted-nat w pres x need n r ≡ true
+  pub span-accepted : (r : ℕ) → r < n → pres r ≡ true → NatSpan w pres x need n r → accepted-nat w pres x need n r ≡ true
   unfolding accepted-nat
   span-accepted r l here h =
       any-true
@@ -106,7 +106,7 @@ module _ (w : ℕ) (pres : ℕ → Bool) (x : ℕ → ℕ) (need n : ℕ) where
       a = h .start
 
       held : ℕ → Bool
-      held t = pres t && inside w a (x t)
+      held t = pres t && insideSpan w a (x t)
 
       low : Least held x n
       low = least held x n (count-pos held n r l (and-intro here (inside-intro w a (x r) (h .low) (h .high))))
@@ -117,23 +117,23 @@ module _ (w : ℕ) (pres : ℕ → Bool) (x : ℕ → ℕ) (need n : ℕ) where
       reaches : (t : ℕ) → t < n → held t ≡ true → spans w pres x s t ≡ true
       reaches t lt e =
           let f = low .first t lt e in
-          let i = and-right (pres t) (inside w a (x t)) e in
+          let i = and-right (pres t) (insideSpan w a (x t)) e in
           let u = inside-high w a (x t) i in
-          let v = inside-low w a (x s) (and-right (pres s) (inside w a (x s)) (low .passes)) in
+          let v = inside-low w a (x s) (and-right (pres s) (insideSpan w a (x s)) (low .passes)) in
           and-intro
-          (and-left (pres s) (inside w a (x s)) (low .passes))
-          (and-intro (and-left (pres t) (inside w a (x t)) e) (inside-intro w (x s) (x t) f (omega arith)))
+          (and-left (pres s) (insideSpan w a (x s)) (low .passes))
+          (and-intro (and-left (pres t) (insideSpan w a (x t)) e) (inside-intro w (x s) (x t) f (omega arith)))
 
       enough : need ≤ count (spans w pres x s) n
       enough = le-trans (h .holds) (count-mono held (spans w pres x s) n reaches)
 
   -- L0, L1: spans may start anywhere
-  pub accepted-iff-span : (r : ℕ) → r < n → (accepted-nat w pres x need n r ≡ true) ↔ ((pres r ≡ true) × Span w pres x need n r)
+  pub accepted-iff-span : (r : ℕ) → r < n → (accepted-nat w pres x need n r ≡ true) ↔ ((pres r ≡ true) × NatSpan w pres x need n r)
   accepted-iff-span r l = (λ e. (accepted-present w pres x need n r e, accepted-in-span r e), λ h. span-accepted r l (h .0) (h .1))
 
   -- an accepted reading lies in a span that holds enough accepted ones
-  pub accepted-span : (r : ℕ) → accepted-nat w pres x need n r ≡ true → Span w (accepted-nat w pres x need n) x need n r
-  accepted-span r e =
+  pub accepted-nat-span : (r : ℕ) → accepted-nat w pres x need n r ≡ true → NatSpan w (accepted-nat w pres x need n) x need n r
+  accepted-nat-span r e =
       record {
         start = h .start;
         low = h .low;
@@ -142,20 +142,20 @@ module _ (w : ℕ) (pres : ℕ → Bool) (x : ℕ → ℕ) (need n : ℕ) where
             le-trans
             (h .holds)
             (count-mono
-            (λ t. pres t && inside w (h .start) (x t))
-            (λ t. accepted-nat w pres x need n t && inside w (h .start) (x t))
+            (λ t. pres t && insideSpan w (h .start) (x t))
+            (λ t. accepted-nat w pres x need n t && insideSpan w (h .start) (x t))
             n
-            (λ t l i. and-intro (also t l i) (and-right (pres t) (inside w (h .start) (x t)) i)));
+            (λ t l i. and-intro (also t l i) (and-right (pres t) (insideSpan w (h .start) (x t)) i)));
       }
     where
-      h : Span w pres x need n r
+      h : NatSpan w pres x need n r
       h = accepted-in-span r e
 
-      also : (t : ℕ) → t < n → (pres t && inside w (h .start) (x t)) ≡ true → accepted-nat w pres x need n t ≡ true
+      also : (t : ℕ) → t < n → (pres t && insideSpan w (h .start) (x t)) ≡ true → accepted-nat w pres x need n t ≡ true
       also t l i =
-          let j = and-right (pres t) (inside w (h .start) (x t)) i in
+          let j = and-right (pres t) (insideSpan w (h .start) (x t)) i in
           span-accepted t l
-          (and-left (pres t) (inside w (h .start) (x t)) i)
+          (and-left (pres t) (insideSpan w (h .start) (x t)) i)
           (record {
             start = h .start;
             low = inside-low w (h .start) (x t) j;
@@ -164,36 +164,36 @@ module _ (w : ℕ) (pres : ℕ → Bool) (x : ℕ → ℕ) (need n : ℕ) where
           })
 
   -- L2: the span from the lowest accepted reading holds enough accepted ones, and so does the span up to the highest
-  pub lowest-span : (lo : Least (accepted-nat w pres x need n) x n) → need ≤ count (λ t. accepted-nat w pres x need n t && inside w (x (lo .index)) (x t)) n
+  pub lowest-span : (lo : Least (accepted-nat w pres x need n) x n) → need ≤ count (λ t. accepted-nat w pres x need n t && insideSpan w (x (lo .index)) (x t)) n
   lowest-span lo =
       le-trans
       (h .holds)
       (count-mono
-      (λ t. accepted-nat w pres x need n t && inside w (h .start) (x t))
-      (λ t. accepted-nat w pres x need n t && inside w (x (lo .index)) (x t))
+      (λ t. accepted-nat w pres x need n t && insideSpan w (h .start) (x t))
+      (λ t. accepted-nat w pres x need n t && insideSpan w (x (lo .index)) (x t))
       n
       (λ t l e.
-      let a = and-left (accepted-nat w pres x need n t) (inside w (h .start) (x t)) e in
-      let i = inside-high w (h .start) (x t) (and-right (accepted-nat w pres x need n t) (inside w (h .start) (x t)) e) in
+      let a = and-left (accepted-nat w pres x need n t) (insideSpan w (h .start) (x t)) e in
+      let i = inside-high w (h .start) (x t) (and-right (accepted-nat w pres x need n t) (insideSpan w (h .start) (x t)) e) in
       let o = h .low in
       and-intro a (inside-intro w (x (lo .index)) (x t) (lo .first t l a) (omega arith))))
     where
-      h : Span w (accepted-nat w pres x need n) x need n (lo .index)
-      h = accepted-span (lo .index) (lo .passes)
+      h : NatSpan w (accepted-nat w pres x need n) x need n (lo .index)
+      h = accepted-nat-span (lo .index) (lo .passes)
 
   pub highest-span : (hi : Greatest (accepted-nat w pres x need n) x n) → need ≤ count (λ t. accepted-nat w pres x need n t && (leb (x (hi .index)) (x t + w) && leb (x t) (x (hi .index)))) n
   highest-span hi =
       le-trans
       (h .holds)
       (count-mono
-      (λ t. accepted-nat w pres x need n t && inside w (h .start) (x t))
+      (λ t. accepted-nat w pres x need n t && insideSpan w (h .start) (x t))
       (λ t. accepted-nat w pres x need n t && (leb (x (hi .index)) (x t + w) && leb (x t) (x (hi .index))))
       n
       (λ t l e.
-      let a = and-left (accepted-nat w pres x need n t) (inside w (h .start) (x t)) e in
-      let i = inside-low w (h .start) (x t) (and-right (accepted-nat w pres x need n t) (inside w (h .start) (x t)) e) in
+      let a = and-left (accepted-nat w pres x need n t) (insideSpan w (h .start) (x t)) e in
+      let i = inside-low w (h .start) (x t) (and-right (accepted-nat w pres x need n t) (insideSpan w (h .start) (x t)) e) in
       let o = h .high in
       and-intro a (and-intro (le-leb (x (hi .index)) (x t + w) (omega arith)) (le-leb (x t) (x (hi .index)) (hi .first t l a)))))
     where
-      h : Span w (accepted-nat w pres x need n) x need n (hi .index)
-      h = accepted-span (hi .index) (hi .passes)
+      h : NatSpan w (accepted-nat w pres x need n) x need n (hi .index)
+      h = accepted-nat-span (hi .index) (hi .passes)

@@ -16,40 +16,40 @@ use Rattle.arithmetic.proofs.Counting.{count-mono, count-not, count-some}
 use Rattle.arithmetic.specs.Naturals.{total}
 use Rattle.arithmetic.proofs.Sums.{count-total}
 use Rattle.rounds.proofs.Natural.{accepted-present}
-use Rattle.limits.proofs.Acceptance.{inside, inside-low, inside-high, Span, accepted-span}
+use Rattle.limits.proofs.Acceptance.{insideSpan, inside-low, inside-high, NatSpan, accepted-nat-span}
 use Rattle.limits.proofs.Counts.{count-overlap}
 use Rattle.limits.proofs.Estimates.{Between, used-within}
-use Rattle.limits.proofs.Settled.{Received, accepts, usedOf, used-accepted, bad, Alike, Spread, Settles}
+use Rattle.limits.proofs.Settled.{Receiver, accepts, usedBy, used-accepted, badCount, GoodAlike, Spread, ReadsSome}
 
-module _ (n m w : ℕ) (v : Received) where
+module _ (n m w : ℕ) (v : Receiver) where
   -- a span that holds r's reading and n - m accepted ones
   abbrev pub SpanOf : ℕ → Type 0
-  SpanOf r = Span w (accepts n m w v) (v .x) (n - m) n r
+  SpanOf r = NatSpan w (accepts n m w v) (v .x) (n - m) n r
 
   pub span-of : (r : ℕ) → accepts n m w v r ≡ true → SpanOf r
-  span-of = accepted-span w (v .pres) (v .x) (n - m) n
+  span-of = accepted-nat-span w (v .pres) (v .x) (n - m) n
 
   pub accepts-present : (r : ℕ) → accepts n m w v r ≡ true → v .pres r ≡ true
   accepts-present = accepted-present w (v .pres) (v .x) (n - m) n
 
-module _ (n m w : ℕ) (good : ℕ → Bool) (v : Received) where
+module _ (n m w : ℕ) (good : ℕ → Bool) (v : Receiver) where
   abbrev pub good-in : ℕ → ℕ → Bool
-  good-in a t = (accepts n m w v t && inside w a (v .x t)) && good t
+  good-in a t = (accepts n m w v t && insideSpan w a (v .x t)) && good t
 
   good-in-accepted : (a t : ℕ) → good-in a t ≡ true → accepts n m w v t ≡ true
   good-in-accepted a t e =
-      and-left (accepts n m w v t) (inside w a (v .x t)) (and-left (accepts n m w v t && inside w a (v .x t)) (good t) e)
+      and-left (accepts n m w v t) (insideSpan w a (v .x t)) (and-left (accepts n m w v t && insideSpan w a (v .x t)) (good t) e)
 
-  good-in-inside : (a t : ℕ) → good-in a t ≡ true → inside w a (v .x t) ≡ true
+  good-in-inside : (a t : ℕ) → good-in a t ≡ true → insideSpan w a (v .x t) ≡ true
   good-in-inside a t e =
-      and-right (accepts n m w v t) (inside w a (v .x t)) (and-left (accepts n m w v t && inside w a (v .x t)) (good t) e)
+      and-right (accepts n m w v t) (insideSpan w a (v .x t)) (and-left (accepts n m w v t && insideSpan w a (v .x t)) (good t) e)
 
   pub good-in-good : (a t : ℕ) → good-in a t ≡ true → good t ≡ true
-  good-in-good a t e = and-right (accepts n m w v t && inside w a (v .x t)) (good t) e
+  good-in-good a t e = and-right (accepts n m w v t && insideSpan w a (v .x t)) (good t) e
 
-  pub good-in-many : (r : ℕ) (h : SpanOf n m w v r) → n - m ≤ count (good-in (h .start)) n + bad n good
+  pub good-in-many : (r : ℕ) (h : SpanOf n m w v r) → n - m ≤ count (good-in (h .start)) n + badCount n good
   good-in-many r h =
-      omega (arith, h .holds, count-overlap (λ t. accepts n m w v t && inside w (h .start) (v .x t)) good n)
+      omega (arith, h .holds, count-overlap (λ t. accepts n m w v t && insideSpan w (h .start) (v .x t)) good n)
 
   abbrev pub astray : ℕ → ℕ
   astray r = bit (not (accepts n m w v r && good r))
@@ -59,7 +59,7 @@ module _ (n m w : ℕ) (good : ℕ → Bool) (v : Received) where
       omega (arith, count-total (λ r. not (accepts n m w v r && good r)) n, count-not (λ r. accepts n m w v r && good r) n)
 
   -- K: where something is accepted, n - m are, and at most the bad ones of those are not good
-  pub astray-few : 0 < count (accepts n m w v) n → m ≤ n → total astray n ≤ m + bad n good
+  pub astray-few : 0 < count (accepts n m w v) n → m ≤ n → total astray n ≤ m + badCount n good
   astray-few ok fits = omega (arith, astray-count, good-in-many first span, held)
     where
       some-accepted : (r : ℕ) × (r < n) × (accepts n m w v r ≡ true)
@@ -76,17 +76,17 @@ module _ (n m w : ℕ) (good : ℕ → Bool) (v : Received) where
           count-mono (good-in (span .start)) (λ r. accepts n m w v r && good r) n
           (λ t _ e. and-intro (good-in-accepted (span .start) t e) (good-in-good (span .start) t e))
 
-pub record Near (w : ℕ) (g : ℕ → ℕ) (v : Received) (r s : ℕ) : Type 0 where
+pub record Near (w : ℕ) (g : ℕ → ℕ) (v : Receiver) (r s : ℕ) : Type 0 where
   pub above : v .x r ≤ g s + w
   pub below : g s ≤ v .x r + w
 
-pub record Strays (n m w : ℕ) (good : ℕ → Bool) (v : Received) (a b r : ℕ) : Type 0 where
-  pub above : usedOf n m w v r ≤ b + astray n m w good v r * w
-  pub below : a ≤ usedOf n m w v r + astray n m w good v r * w
+pub record Strays (n m w : ℕ) (good : ℕ → Bool) (v : Receiver) (a b r : ℕ) : Type 0 where
+  pub above : usedBy n m w v r ≤ b + astray n m w good v r * w
+  pub below : a ≤ usedBy n m w v r + astray n m w good v r * w
 
-module _ (n m w : ℕ) (good : ℕ → Bool) (g : ℕ → ℕ) (v : Received) where
+module _ (n m w : ℕ) (good : ℕ → Bool) (g : ℕ → ℕ) (v : Receiver) where
   -- the good ones in a span lie within w of each reading in it
-  pub good-near : Alike n good g v → (r s : ℕ) (h : SpanOf n m w v r) → s < n → good-in n m w good v (h .start) s ≡ true → Near w g v r s
+  pub good-near : GoodAlike n good g v → (r s : ℕ) (h : SpanOf n m w v r) → s < n → good-in n m w good v (h .start) s ≡ true → Near w g v r s
   good-near alike r s h l e =
       let i = good-in-inside n m w good v (h .start) s e in
       let a = inside-low w (h .start) (v .x s) i in
@@ -95,7 +95,7 @@ module _ (n m w : ℕ) (good : ℕ → Bool) (g : ℕ → ℕ) (v : Received) wh
       let q = alike s l (good-in-good n m w good v (h .start) s e) p in
       record { above = omega (arith, h .low, h .high); below = omega (arith, h .low, h .high) }
 
-  module _ (h : Spread n m w good g) (s : Settles n m w good g v) where
+  module _ (h : Spread n m w good g) (s : ReadsSome n m w good g v) where
     -- C
     near-good : (r : ℕ) → accepts n m w v r ≡ true → (i : ℕ) × (i < n) × (good i ≡ true) × Near w g v r i
     near-good r e =
@@ -105,7 +105,7 @@ module _ (n m w : ℕ) (good : ℕ → Bool) (g : ℕ → ℕ) (v : Received) wh
 
     -- bounds a and b of the good values
     module _ (a b : ℕ) (low : (i : ℕ) → i < n → good i ≡ true → a ≤ g i) (high : (i : ℕ) → i < n → good i ≡ true → g i ≤ b) where
-      used-near : (r : ℕ) → r < n → Between (a - w) (b + w) (usedOf n m w v r)
+      used-near : (r : ℕ) → r < n → Between (a - w) (b + w) (usedBy n m w v r)
       used-near r l =
           used-within
           (accepts n m w v)

@@ -20,11 +20,11 @@ use Rattle.arithmetic.proofs.Sums.{total-add, total-const, total-scale, count-t
 use Rattle.model.specs.Planner.{ceilDiv}
 use Rattle.model.specs.RoundSheet.{median}
 use Rattle.limits.proofs.Extremes.{Least, Greatest, least, greatest}
-use Rattle.limits.proofs.Means.{mean-stray, mean-stray-above, mean-stray-below}
-use Rattle.limits.proofs.Acceptance.{inside, inside-intro, Span, span-accepted}
+use Rattle.limits.proofs.Means.{rise, fall, mean-rise, mean-fall, fall-rise, rise-ceil, total-close, mean-stray}
+use Rattle.limits.proofs.Acceptance.{insideSpan, inside-intro, NatSpan, span-accepted}
 use Rattle.limits.proofs.Ranks.{Numbered}
 use Rattle.limits.proofs.Estimates.{Between, used-within, median-numbered}
-use Rattle.limits.proofs.Settled.{Received, accepts, estimateOf, usedOf, valueOf, used-accepted, used-replaced, bad, Agree, Spread, Settles, Few, Reads, Truth}
+use Rattle.limits.proofs.Settled.{Receiver, accepts, estimateBy, usedBy, valueBy, used-accepted, used-replaced, badCount, BothAlike, Spread, ReadsSome, Few, Reads, Truth}
 use Rattle.limits.proofs.Hull.{SpanOf, span-of, accepts-present, good-in, good-in-good, good-in-many, astray, astray-count, astray-few, Near, Strays, good-near, used-strays}
 use Rattle.limits.proofs.Medians.{alone, median-above, median-below}
 
@@ -40,78 +40,77 @@ module _ (n m w : ℕ) (good : ℕ → Bool) (g : ℕ → ℕ) where
     some-n : 0 < n
     some-n = omega (arith, h .many)
 
-    module _ (v : Received) (s : Settles n m w good g v) (T κ : ℕ) (truth : Truth n good g T κ) where
-      row : (r : ℕ) → r < n → Strays n m w good v (T - κ) (T + κ) r
-      row = used-strays n m w good g v h s (T - κ) (T + κ) (λ r l e. omega (arith, truth .below r l e)) (truth .above)
+    module _ (v : Receiver) (s : ReadsSome n m w good g v) (most : ℕ) (sums : total (astray n m w good v) n ≤ most) where
+      -- bounds a and b of the good values: the used values add up to at most n times b and the window once for each row
+      -- that is not both good and accepted, and to at least n times a less as much
+      module _ (a b : ℕ)
+          (low : (i : ℕ) → i < n → good i ≡ true → a ≤ g i)
+          (high : (i : ℕ) → i < n → good i ≡ true → g i ≤ b) where
+        row : (r : ℕ) → r < n → Strays n m w good v a b r
+        row = used-strays n m w good g v h s a b low high
 
-      -- a new value is within κ of the true one, and the window for each of those that are not both good and accepted
-      accurate : (most : ℕ) → total (astray n m w good v) n ≤ most → Accurate T (κ + ceilDiv (most * w) n) (valueOf n m w v)
-      accurate most sums = record { above = omega (arith, above); below = omega (arith, below) }
+        value-above : valueBy n m w v ≤ b + rise n (most * w)
+        value-above =
+            let c = total-close n some-n w (astray n m w good v) most sums (usedBy n m w v) (λ _. b) (λ r l. row r l .above) in
+            mean-rise n some-n (total (usedBy n m w v) n) b (most * w) (omega (arith, total-const b n))
+
+        value-below : a ≤ valueBy n m w v + fall n (most * w)
+        value-below =
+            let c = total-close n some-n w (astray n m w good v) most sums (λ _. a) (usedBy n m w v) (λ r l. row r l .below) in
+            mean-fall n some-n (total (usedBy n m w v) n) a (most * w) (omega (arith, total-const a n))
+
+      -- a new value is within κ, and what the mean makes of those rows, of the true one
+      accurate : (T κ : ℕ) → Truth n good g T κ → Accurate T (κ + rise n (most * w)) (valueBy n m w v)
+      accurate T κ truth =
+          let a = value-above (T - κ) (T + κ) low (truth .above) in
+          let b = value-below (T - κ) (T + κ) low (truth .above) in
+          record { above = omega arith; below = omega (arith, fall-rise n some-n (most * w)) }
         where
-          above : valueOf n m w v ≤ T + κ + ceilDiv (most * w) n
-          above =
-              mean-stray-above n some-n w (astray n m w good v) most sums (usedOf n m w v) (T + κ) (λ r l. row r l .above)
+          low : (r : ℕ) → r < n → good r ≡ true → T - κ ≤ g r
+          low r l e = omega (arith, truth .below r l e)
 
-          below : T ≤ valueOf n m w v + κ + ceilDiv (most * w) n
-          below =
-              mean-stray-below n some-n w (astray n m w good v) most sums (usedOf n m w v) T κ
-              (λ r l. omega (arith, row r l .below))
+    astray-most : (v : Receiver) → ReadsSome n m w good g v → total (astray n m w good v) n ≤ m + badCount n good
+    astray-most v s = astray-few n m w good v (s .unrefused) (omega (arith, h .many))
 
-      pub accuracy-many : Accurate T (κ + ceilDiv ((m + bad n good) * w) n) (valueOf n m w v)
-      accuracy-many =
-          accurate (m + bad n good) (astray-few n m w good v (s .unrefused) (omega (arith, h .many)))
+    pub accuracy-many :
+        (v : Receiver) → ReadsSome n m w good g v → (T κ : ℕ) → Truth n good g T κ
+        → Accurate T (κ + rise n ((m + badCount n good) * w)) (valueBy n m w v)
+    accuracy-many v s = accurate v s (m + badCount n good) (astray-most v s)
 
-    module _ (p q : Received) (sp : Settles n m w good g p) (sq : Settles n m w good g q) where
-      -- row by row the used values differ by the window, and once more for each of the two at which the row is astray
-      pub precision-many : valueOf n m w p ≤ valueOf n m w q + ceilDiv ((n + 2 * bad n good + 2 * m) * w) n
-      precision-many =
-          mean-stray n some-n w apart (n + 2 * bad n good + 2 * m) sums (usedOf n m w p) (usedOf n m w q) far
-        where
-          apart : ℕ → ℕ
-          apart r = 1 + astray n m w good p r + astray n m w good q r
+    pub precision-many :
+        (p q : Receiver) → ReadsSome n m w good g p → ReadsSome n m w good g q
+        → valueBy n m w p
+        ≤ valueBy n m w q + (w + (rise n ((m + badCount n good) * w) + fall n ((m + badCount n good) * w)))
+    precision-many p q sp sq =
+        let a = value-above p sp (m + badCount n good) (astray-most p sp) (g (lo .index)) (g (hi .index)) (lo .first) (hi .first) in
+        let b = value-below q sq (m + badCount n good) (astray-most q sq) (g (lo .index)) (g (hi .index)) (lo .first) (hi .first) in
+        omega (arith, h .close (hi .index) (lo .index) (hi .inRange) (lo .inRange) (hi .passes) (lo .passes))
+      where
+        some-good : 0 < count good n
+        some-good = omega (arith, h .many, count-not good n)
 
-          sums : total apart n ≤ n + 2 * bad n good + 2 * m
-          sums =
-              let a = astray-few n m w good p (sp .unrefused) (omega (arith, h .many)) in
-              let b = astray-few n m w good q (sq .unrefused) (omega (arith, h .many)) in
-              let c = total-add (λ r. 1 + astray n m w good p r) (astray n m w good q) n in
-              let d = total-add (λ _. 1) (astray n m w good p) n in
-              omega (arith, total-const 1 n)
+        lo : Least good g n
+        lo = least good g n some-good
 
-          some-good : 0 < count good n
-          some-good = omega (arith, h .many, count-not good n)
-
-          lo : Least good g n
-          lo = least good g n some-good
-
-          hi : Greatest good g n
-          hi = greatest good g n some-good
-
-          far : (r : ℕ) → r < n → usedOf n m w p r ≤ usedOf n m w q r + apart r * w
-          far r l =
-              let a = used-strays n m w good g p h sp (g (lo .index)) (g (hi .index)) (lo .first) (hi .first) r l .above in
-              let b = used-strays n m w good g q h sq (g (lo .index)) (g (hi .index)) (lo .first) (hi .first) r l .below in
-              let c = h .close (hi .index) (lo .index) (hi .inRange) (lo .inRange) (hi .passes) (lo .passes) in
-              let d = add-mul (1 + astray n m w good p r) (astray n m w good q r) w in
-              let e = add-mul 1 (astray n m w good p r) w in
-              omega arith
+        hi : Greatest good g n
+        hi = greatest good g n some-good
 
   -- ---- at most m bad
 
   module _ (h : Few n m w good g) where
     few-spread : Spread n m w good g
-    few-spread = record { many = omega (arith, h .fits, h .few); close = h .close }
+    few-spread = record { many = omega (arith, h .planned, h .few); close = h .close }
 
     many-good : n - m ≤ count good n
     many-good = omega (arith, h .few, count-not good n)
 
-    module _ (v : Received) (s : Reads n good g v) where
+    module _ (v : Receiver) (s : Reads n good g v) where
       -- the span from the lowest good reading holds all good ones
       pub good-accepted : (r : ℕ) → r < n → good r ≡ true → accepts n m w v r ≡ true
       good-accepted r l e = span-accepted w (v .pres) (v .x) (n - m) n r l (s .here r l e) span
         where
           lo : Least good g n
-          lo = least good g n (omega (arith, h .fits, many-good))
+          lo = least good g n (omega (arith, h .planned, many-good))
 
           reads : (t : ℕ) → t < n → good t ≡ true → v .x t ≡ g t
           reads t k q = s .alike t k q (s .here t k q)
@@ -122,7 +121,7 @@ module _ (n m w : ℕ) (good : ℕ → Bool) (g : ℕ → ℕ) where
           high : (t : ℕ) → t < n → good t ≡ true → v .x t ≤ g (lo .index) + w
           high t k q = omega (arith, h .close t (lo .index) k (lo .inRange) q (lo .passes), reads t k q)
 
-          span : Span w (v .pres) (v .x) (n - m) n r
+          span : NatSpan w (v .pres) (v .x) (n - m) n r
           span =
               record {
                 start = g (lo .index);
@@ -131,7 +130,7 @@ module _ (n m w : ℕ) (good : ℕ → Bool) (g : ℕ → ℕ) where
                 holds =
                     le-trans many-good
                     (count-mono good
-                    (λ t. v .pres t && inside w (g (lo .index)) (v .x t))
+                    (λ t. v .pres t && insideSpan w (g (lo .index)) (v .x t))
                     n
                     (λ t k q. and-intro (s .here t k q) (inside-intro w (g (lo .index)) (v .x t) (low t k q) (high t k q))));
               }
@@ -140,13 +139,13 @@ module _ (n m w : ℕ) (good : ℕ → Bool) (g : ℕ → ℕ) where
       enough-accepted = le-trans many-good (count-mono good (accepts n m w v) n good-accepted)
 
       pub unrefused : 0 < count (accepts n m w v) n
-      unrefused = omega (arith, h .fits, enough-accepted)
+      unrefused = omega (arith, h .planned, enough-accepted)
 
-      few-settles : Settles n m w good g v
-      few-settles = record { alike = s .alike; unrefused = unrefused }
+      few-reads : ReadsSome n m w good g v
+      few-reads = record { alike = s .alike; unrefused = unrefused }
 
       -- what is used for a good one is its value
-      used-good : (r : ℕ) → r < n → good r ≡ true → usedOf n m w v r ≡ g r
+      used-good : (r : ℕ) → r < n → good r ≡ true → usedBy n m w v r ≡ g r
       used-good r l e = used-accepted n m w v r (good-accepted r l e) ∙ s .alike r l e (s .here r l e)
 
       lowest : Least (accepts n m w v) (v .x) n
@@ -155,7 +154,7 @@ module _ (n m w : ℕ) (good : ℕ → Bool) (g : ℕ → ℕ) where
       highest : Greatest (accepts n m w v) (v .x) n
       highest = greatest (accepts n m w v) (v .x) n unrefused
 
-      used-between : (r : ℕ) → r < n → Between (v .x (lowest .index)) (v .x (highest .index)) (usedOf n m w v r)
+      used-between : (r : ℕ) → r < n → Between (v .x (lowest .index)) (v .x (highest .index)) (usedBy n m w v r)
       used-between =
           used-within (accepts n m w v) n (v .x) unrefused _ _ (lowest .first) (highest .first) (v .k) (v .kind)
 
@@ -164,14 +163,17 @@ module _ (n m w : ℕ) (good : ℕ → Bool) (g : ℕ → ℕ) where
           let c = count-mono good (λ r. accepts n m w v r && good r) n (λ r l e. and-intro (good-accepted r l e) e) in
           omega (arith, h .few, astray-count n m w good v, count-not good n)
 
-      pub accuracy-few : (T κ : ℕ) → Truth n good g T κ → Accurate T (κ + ceilDiv (m * w) n) (valueOf n m w v)
-      accuracy-few T κ truth = accurate few-spread v few-settles T κ truth m few-astray
+      pub accuracy-few : (T κ : ℕ) → Truth n good g T κ → Accurate T (κ + ceilDiv (m * w) n) (valueBy n m w v)
+      accuracy-few T κ truth =
+          let a = accurate few-spread v few-reads m few-astray T κ truth in
+          let c = rise-ceil n (some-n few-spread) (m * w) in
+          record { above = omega (arith, a .above); below = omega (arith, a .below) }
 
-    module _ (p q : Received) (sp : Reads n good g p) (sq : Reads n good g q) where
+    module _ (p q : Receiver) (sp : Reads n good g p) (sq : Reads n good g q) where
       -- used values that differ by at most j windows, and at the bad ones only
-      apart-few : (j : ℕ) → ((r : ℕ) → r < n → usedOf n m w p r ≤ usedOf n m w q r + j * w) → valueOf n m w p ≤ valueOf n m w q + ceilDiv (j * (m * w)) n
+      apart-few : (j : ℕ) → ((r : ℕ) → r < n → usedBy n m w p r ≤ usedBy n m w q r + j * w) → valueBy n m w p ≤ valueBy n m w q + ceilDiv (j * (m * w)) n
       apart-few j far =
-          rw (← mul-assoc j m w) (mean-stray n (some-n few-spread) w apart (j * m) sums (usedOf n m w p) (usedOf n m w q) row)
+          rw (← mul-assoc j m w) (mean-stray n (some-n few-spread) w apart (j * m) sums (usedBy n m w p) (usedBy n m w q) row)
         where
           apart : ℕ → ℕ
           apart r = bit (not (good r)) * j
@@ -184,7 +186,7 @@ module _ (n m w : ℕ) (good : ℕ → Bool) (g : ℕ → ℕ) where
               let d = mul-comm j m in
               omega arith
 
-          row : (r : ℕ) → r < n → usedOf n m w p r ≤ usedOf n m w q r + apart r * w
+          row : (r : ℕ) → r < n → usedBy n m w p r ≤ usedBy n m w q r + apart r * w
           row r l =
               ⊎-elim
               (λ e. omega (arith, used-good p sp r l e, used-good q sq r l e))
@@ -206,7 +208,7 @@ module _ (n m w : ℕ) (good : ℕ → Bool) (g : ℕ → ℕ) where
               share (good-in n m w good p (span .start)) (good-in n m w good q (span′ .start)) good n
               (λ t _ e. good-in-good n m w good p (span .start) t e)
               (λ t _ e. good-in-good n m w good q (span′ .start) t e)
-              (omega (arith, h .fits, h .few, count-not good n, good-in-many n m w good p r span, good-in-many n m w good q s span′))
+              (omega (arith, h .planned, h .few, count-not good n, good-in-many n m w good p r span, good-in-many n m w good q s span′))
 
           near : Near w g p r (shared .0)
           near = good-near n m w good g p (sp .alike) r (shared .0) span (shared .1) (shared .2)
@@ -214,10 +216,10 @@ module _ (n m w : ℕ) (good : ℕ → Bool) (g : ℕ → ℕ) where
           near′ : Near w g q s (shared .0)
           near′ = good-near n m w good g q (sq .alike) s (shared .0) span′ (shared .1) (shared .3)
 
-      pub precision-few : valueOf n m w p ≤ valueOf n m w q + ceilDiv (2 * (m * w)) n
+      pub precision-few : valueBy n m w p ≤ valueBy n m w q + ceilDiv (2 * (m * w)) n
       precision-few = apart-few 2 far
         where
-          far : (r : ℕ) → r < n → usedOf n m w p r ≤ usedOf n m w q r + 2 * w
+          far : (r : ℕ) → r < n → usedBy n m w p r ≤ usedBy n m w q r + 2 * w
           far r l =
               let hi = highest p sp in
               let lo = lowest q sq in
@@ -225,7 +227,7 @@ module _ (n m w : ℕ) (good : ℕ → Bool) (g : ℕ → ℕ) where
               omega (arith, used-between p sp r l .high, used-between q sq r l .low)
 
     -- where q settles by the median: an accepted reading at p lies within w of it
-    module _ (p q : Received) (sp : Reads n good g p) (sq : Reads n good g q) (agree : Agree n p q) (kind : q .kind ≡ median) where
+    module _ (p q : Receiver) (sp : Reads n good g p) (sq : Reads n good g q) (agree : BothAlike n p q) (kind : q .kind ≡ median) where
       -- p alone accepts bad ones only
       few-alone : count (alone (accepts n m w p) (accepts n m w q)) n ≤ m
       few-alone =
@@ -244,28 +246,28 @@ module _ (n m w : ℕ) (good : ℕ → Bool) (g : ℕ → ℕ) where
       same : (t : ℕ) → t < n → accepts n m w p t ≡ true → accepts n m w q t ≡ true → p .x t ≡ q .x t
       same t l a b = agree t l (accepts-present n m w p t a) (accepts-present n m w q t b)
 
-      the-median : Numbered (accepts n m w q) n (q .x) ((count (accepts n m w q) n + 1) / 2) (estimateOf n m w q)
+      the-median : Numbered (accepts n m w q) n (q .x) ((count (accepts n m w q) n + 1) / 2) (estimateBy n m w q)
       the-median = rw kind (median-numbered (accepts n m w q) n (q .x) (unrefused q sq) (q .k))
 
-      median-high : (r : ℕ) → accepts n m w p r ≡ true → p .x r ≤ estimateOf n m w q + w
+      median-high : (r : ℕ) → accepts n m w p r ≡ true → p .x r ≤ estimateBy n m w q + w
       median-high r e =
-          median-above n m w (accepts n m w p) (accepts n m w q) (p .x) (q .x) same r (span-of n m w p r e) (h .fits) few-alone _ the-median
+          median-above n m w (accepts n m w p) (accepts n m w q) (p .x) (q .x) same r (span-of n m w p r e) (h .planned) few-alone _ the-median
 
-      median-low : (r : ℕ) → accepts n m w p r ≡ true → estimateOf n m w q ≤ p .x r + w
+      median-low : (r : ℕ) → accepts n m w p r ≡ true → estimateBy n m w q ≤ p .x r + w
       median-low r e =
-          median-below n m w (accepts n m w p) (accepts n m w q) (p .x) (q .x) same r (span-of n m w p r e) (h .fits) few-alone _ the-median
+          median-below n m w (accepts n m w p) (accepts n m w q) (p .x) (q .x) same r (span-of n m w p r e) (h .planned) few-alone _ the-median
 
     -- rows that neither accepts count too: the median at p is itself an accepted reading there
-    pub precision-median : (p q : Received) → Reads n good g p → Reads n good g q → Agree n p q → p .kind ≡ median → q .kind ≡ median → valueOf n m w p ≤ valueOf n m w q + ceilDiv (m * w) n
+    pub precision-median : (p q : Receiver) → Reads n good g p → Reads n good g q → BothAlike n p q → p .kind ≡ median → q .kind ≡ median → valueBy n m w p ≤ valueBy n m w q + ceilDiv (m * w) n
     precision-median p q sp sq agree kp kq = rw one-mul at (apart-few p q sp sq 1 far)
       where
-        agree′ : Agree n q p
+        agree′ : BothAlike n q p
         agree′ r l a b = sym (agree r l b a)
 
-        own : Numbered (accepts n m w p) n (p .x) ((count (accepts n m w p) n + 1) / 2) (estimateOf n m w p)
+        own : Numbered (accepts n m w p) n (p .x) ((count (accepts n m w p) n + 1) / 2) (estimateBy n m w p)
         own = the-median q p sq sp agree′ kp
 
-        row : (r : ℕ) → r < n → (a b : Bool) → accepts n m w p r ≡ a → accepts n m w q r ≡ b → usedOf n m w p r ≤ usedOf n m w q r + w
+        row : (r : ℕ) → r < n → (a b : Bool) → accepts n m w p r ≡ a → accepts n m w q r ≡ b → usedBy n m w p r ≤ usedBy n m w q r + w
         row r l true true a b =
             omega (arith, used-accepted n m w p r a, used-accepted n m w q r b, same p q sp sq agree kq r l a b)
         row r l true false a b =
@@ -275,5 +277,5 @@ module _ (n m w : ℕ) (good : ℕ → Bool) (g : ℕ → ℕ) where
         row r l false false a b =
             omega (arith, used-replaced n m w p r a, used-replaced n m w q r b, own .number, median-high p q sp sq agree kq (own .index) (own .admitted))
 
-        far : (r : ℕ) → r < n → usedOf n m w p r ≤ usedOf n m w q r + 1 * w
+        far : (r : ℕ) → r < n → usedBy n m w p r ≤ usedBy n m w q r + 1 * w
         far r l = omega (arith, row r l (accepts n m w p r) (accepts n m w q r) refl refl)

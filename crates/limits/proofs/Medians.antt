@@ -11,7 +11,7 @@ use borrow.Author.Tests.{leb-true, leb-false, lt-leb, lt-ltb}
 use Rattle.arithmetic.specs.Counting.{count}
 use Rattle.arithmetic.proofs.Bools.{both-ways, and-left, and-right, and-intro}
 use Rattle.arithmetic.proofs.Counting.{count-mono, count-not}
-use Rattle.limits.proofs.Acceptance.{inside, inside-low, inside-high, Span}
+use Rattle.limits.proofs.Acceptance.{insideSpan, inside-low, inside-high, NatSpan}
 use Rattle.limits.proofs.Counts.{count-split}
 use Rattle.limits.proofs.Ranks.{Numbered}
 
@@ -28,9 +28,9 @@ module _ (n m w : ℕ) (acc acc′ : ℕ → Bool) (x y : ℕ → ℕ) where
       omega (arith, count-not acc′ n)
 
   -- the span of r's reading at the one: of its accepted readings all but those of the one alone are the other's too
-  module _ (agree : (t : ℕ) → t < n → acc t ≡ true → acc′ t ≡ true → x t ≡ y t) (r : ℕ) (h : Span w acc x (n - m) n r) where
+  module _ (agree : (t : ℕ) → t < n → acc t ≡ true → acc′ t ≡ true → x t ≡ y t) (r : ℕ) (h : NatSpan w acc x (n - m) n r) where
     held : ℕ → Bool
-    held t = acc t && inside w (h .start) (x t)
+    held t = acc t && insideSpan w (h .start) (x t)
 
     module _ (p : ℕ → Bool) (passes : (t : ℕ) → t < n → h .start ≤ y t → y t ≤ h .start + w → p t ≡ true) where
       of-both : (t : ℕ) → t < n → (held t && acc′ t) ≡ true → (acc′ t && p t) ≡ true
@@ -38,8 +38,8 @@ module _ (n m w : ℕ) (acc acc′ : ℕ → Bool) (x y : ℕ → ℕ) where
       of-both t l q =
           let c = and-left (held t) (acc′ t) q in
           let d = and-right (held t) (acc′ t) q in
-          let i = and-right (acc t) (inside w (h .start) (x t)) c in
-          let z = agree t l (and-left (acc t) (inside w (h .start) (x t)) c) d in
+          let i = and-right (acc t) (insideSpan w (h .start) (x t)) c in
+          let z = agree t l (and-left (acc t) (insideSpan w (h .start) (x t)) c) d in
           let u = inside-low w (h .start) (x t) i in
           let v = inside-high w (h .start) (x t) i in
           and-intro d (passes t l (omega arith) (omega arith))
@@ -48,7 +48,7 @@ module _ (n m w : ℕ) (acc acc′ : ℕ → Bool) (x y : ℕ → ℕ) where
       unfolding held
       of-one t l q =
           and-intro
-          (and-left (acc t) (inside w (h .start) (x t)) (and-left (held t) (not (acc′ t)) q))
+          (and-left (acc t) (insideSpan w (h .start) (x t)) (and-left (held t) (not (acc′ t)) q))
           (and-right (held t) (not (acc′ t)) q)
 
       shared : n - m ≤ count (λ t. acc′ t && p t) n + count (alone acc acc′) n
@@ -60,7 +60,7 @@ module _ (n m w : ℕ) (acc acc′ : ℕ → Bool) (x y : ℕ → ℕ) where
           omega (arith, h .holds)
 
     -- if r's reading lay further off, the span would be on one side of the median, with more than half of the other's
-    module _ (fits : 3 * m < n) (few : count (alone acc acc′) n ≤ m) (e : ℕ) (med : Numbered acc′ n y ((count acc′ n + 1) / 2) e) where
+    module _ (planned : 3 * m < n) (few : count (alone acc acc′) n ≤ m) (e : ℕ) (med : Numbered acc′ n y ((count acc′ n + 1) / 2) e) where
       pub median-above : x r ≤ e + w
       median-above =
           ⊎-elim (leb-true (x r) (e + w)) (λ f. absurd (too-many (leb-false (x r) (e + w) f))) (both-ways (leb (x r) (e + w)))

@@ -59,10 +59,10 @@ module _ (n : ℕ) (some : 0 < n) (x : ℕ) where
 
 module _ (st : Station) (some : 0 < N st) (t : ℕ) where
   -- the two limits as naturals
-  error-is : exactError st t ≡ κ st + rise (N st) (excess st t)
+  pub error-is : exactError st t ≡ κ st + rise (N st) (excess st t)
   error-is = ap (λ (d : ℕ). κ st + d) (far-more (N st) some (excess st t))
 
-  gap-is : exactGap st t ≡ δ st + (rise (N st) (excess st t) + fall (N st) (excess st t))
+  pub gap-is : exactGap st t ≡ δ st + (rise (N st) (excess st t) + fall (N st) (excess st t))
   gap-is = ap (λ (d : ℕ). δ st + d) (far-both (N st) some (excess st t))
 
   wide-is : wideGap st t ≡ ceilDiv (2 * excess st t) (N st) + δ st

@@ -1,13 +1,13 @@
--- The regulator's case follows from `guarantee`: its limits at N 7, m 2 and t 3, and the plans that its steps hand on,
--- in numbers.
+-- The regulator's case follows from `exact-limits` and `guarantee`: their limits at N 7, m 2 and t 3 or 4, and the plans
+-- that the steps hand on, in numbers.
 -- Assumes nothing.
 use mathlib.Core.Bool.{Bool, true, false, cond, _&&_}
 use mathlib.Core.List.{List, [], _∷_}
-use mathlib.Core.Path.{_≡_, refl, sym, ap, ap₂, _∙_}
-use Prim.Native.Nat.{ℕ, zero, suc, _+_, _*_}
-use native.Mathlib.Nat.{mul-assoc}
+use mathlib.Core.Path.{_≡_, refl, sym, ap, ap₂, _∙_, subst}
+use Prim.Native.Nat.{ℕ, zero, suc, _+_, _*_, _/_, _≤_, _<_}
+use native.Mathlib.Nat.{le-trans, mul-assoc}
 use native.Mathlib.Omega.{arith}
-use lib.Dec.{eqb}
+use lib.Dec.{eqb, lit<}
 use lib.IntN.{ℤ}
 use Rattle.model.specs.RoundSheet.{cca, median}
 use Rattle.model.specs.AnswerSheet.{answerLength}
@@ -16,10 +16,14 @@ use Rattle.model.specs.Refusals.{firstOf, stepChecks}
 use Rattle.model.specs.Calls.{granted, step}
 use Rattle.planning.proofs.Rounds.{settings-after}
 use Rattle.planning.proofs.Verdicts.{granted-row}
-use Rattle.guarantee.specs.Guarantee.{Station, δ, κ, Sends, State, start, next, Every, First, Close}
+use Rattle.rounds.specs.Naturals.{mean-nat}
+use Rattle.limits.proofs.Means.{rise, fall-rise}
+use Rattle.guarantee.specs.Guarantee.{Station, N, δ, κ, Sends, State, start, next, bad, Every, First, Close}
 use Rattle.guarantee.specs.Guarantee.{Wide, wideGap, wideError, Guarantee}
-use Rattle.guarantee.specs.Regulator.{SevenPlannedForTwo, ThreeBad, sevenths, windowOf, accuracyOf, AtMostTwoBad}
-use Rattle.guarantee.specs.Regulator.{EveryNumbered, RegulatorsCase}
+use Rattle.guarantee.specs.Exact.{excess, exactGap, exactError, ExactFirst}
+use Rattle.guarantee.specs.Regulator.{SevenPlannedForTwo, nearestSeventh, ManyBad, sevenths, windowOf, accuracyOf}
+use Rattle.guarantee.specs.Regulator.{AtMostTwoBad, EveryNumbered, RegulatorsCase}
+use Rattle.guarantee.proofs.Exact.{error-is, gap-is, exact-limits, exact-wide}
 use Rattle.guarantee.proofs.Guarantee.{guarantee}
 
 -- a step that is granted hands on the plan one round on
@@ -95,35 +99,59 @@ module _ (st : Station) (seven : SevenPlannedForTwo st) where
           numbered xs (suc k) (next st now x) later rest,
         )
 
-    -- ---- the first round, where three are bad
+    -- ---- the first round, where t are bad, more than two
 
-    wide-gap : wideGap st 3 ≡ ceilDiv (17 * δ st) 7
-    wide-gap = rw (seven .seven, seven .two)
+    module _ (t : ℕ) where
+      -- the mean's rounding, up and down
+      share-up : rise (N st) (excess st t) ≡ nearestSeventh ((2 + t) * δ st)
+      unfolding rise mean-nat nearestSeventh
+      share-up = rw (seven .seven, seven .two) (halves ((2 + t) * δ st))
+        where
+          halves : (a : ℕ) → (a + a + 7) / 14 ≡ (2 * a + 7) / 14
+          halves a = ap (λ (b : ℕ). (b + 7) / 14) {x = a + a} {y = 2 * a} (omega arith)
 
-    wide-error : wideError st 3 ≡ κ st + ceilDiv (5 * δ st) 7
-    wide-error = rw (seven .seven, seven .two)
+      some : 0 < N st
+      some = rw (seven .seven) (omega arith)
 
-    first :
-        (rounds : List Sends)
-        → First (Wide st 3 truth) (start st) rounds → First (ThreeBad st truth) (start st) rounds
-    first [] w = tt
-    first (x ∷ xs) w =
-        record {
-          precise = λ p q sp sq up uq. rw wide-gap at (w .precise p q sp sq up uq);
-          accurate = λ p s u. rw wide-error at (w .accurate p s u);
-        }
+      error-in : exactError st t ≤ κ st + nearestSeventh ((2 + t) * δ st)
+      error-in = omega (arith, error-is st some t, share-up)
+
+      gap-in : exactGap st t ≤ δ st + 2 * nearestSeventh ((2 + t) * δ st)
+      gap-in = omega (arith, gap-is st some t, share-up, fall-rise (N st) some (excess st t))
+
+      wide-error : wideError st t ≡ κ st + ceilDiv ((2 + t) * δ st) 7
+      wide-error = rw (seven .seven, seven .two)
+
+      wide-gap : wideGap st t ≡ ceilDiv ((11 + 2 * t) * δ st) 7
+      wide-gap = rw (seven .seven, seven .two) (ap (λ (a : ℕ). ceilDiv (a * δ st) 7) (omega arith))
+
+      first :
+          (rounds : List Sends) → ExactFirst st rounds t truth
+          → First (ManyBad st (2 + t) (11 + 2 * t) truth) (start st) rounds
+      first [] e = tt
+      first (x ∷ xs) e =
+          let w : Wide st t truth (start st) x = exact-wide st t truth (x ∷ xs) e in
+          record {
+            precise = λ p q sp sq up uq. le-trans (e .exact .precise p q sp sq up uq) gap-in;
+            accurate = λ p s u. le-trans (e .exact .accurate p s u) error-in;
+            widely-precise = λ p q sp sq up uq. rw wide-gap at (w .precise p q sp sq up uq);
+            widely-accurate = λ p s u. rw wide-error at (w .accurate p s u);
+          }
 
 pub regulators-case : RegulatorsCase
 unfolding after
 regulators-case st seven begins rounds l each good truth g =
     record {
-      three =
-          λ t.
-          first st seven truth rounds
-          (rw t at
-          (promise .many (rw (t, seven .two) (omega arith)) (rw (t, seven .seven, seven .two) (omega arith))));
+      three = λ t. first st seven truth 3 rounds (more 3 (lit< tt) (lit< tt) t);
+      four = λ t. first st seven truth 4 rounds (more 4 (lit< tt) (lit< tt) t);
       fewer = λ few. numbered st seven truth rounds 0 (start st) refl (promise .few (rw (seven .two) few));
     }
   where
     promise : Guarantee st rounds good truth
     promise = guarantee st begins rounds l each good truth g
+
+    more : (t : ℕ) → 2 < t → t < 5 → bad st good ≡ t → ExactFirst st rounds t truth
+    more t above many e =
+        subst (λ (u : ℕ). ExactFirst st rounds u truth) e
+        (exact-limits st begins rounds l each good truth g
+        (rw (e, seven .two) above) (rw (e, seven .seven, seven .two) many))

@@ -1,5 +1,5 @@
--- The theorems are not empty: `guarantee` and `regulators-case` apply to runs of specs/Witnesses.antt, of which all
--- their hypotheses hold.
+-- The theorems are not empty: `guarantee`, `exact-limits` and `regulators-case` apply to runs of specs/Witnesses.antt, of
+-- which all their hypotheses hold.
 -- Assumes nothing.
 use mathlib.Core.Bool.{Bool}
 use mathlib.Core.List.{List, [], _∷_}
@@ -8,13 +8,15 @@ use Prim.Native.Nat.{ℕ}
 use lib.Dec.{lit<, lit≤}
 use lib.IntN.{ℤ, pos}
 use Rattle.guarantee.specs.Guarantee.{Station, Sends, start, Every, First, Close, Wide, Guarantee}
+use Rattle.guarantee.specs.Exact.{ExactFirst}
 use Rattle.guarantee.specs.Regulator.{SevenPlannedForTwo, ThreeBad}
-use Rattle.guarantee.specs.Witnesses.{Meets, below, wideStation, wideSends}
+use Rattle.guarantee.specs.Witnesses.{Meets, below, wideStation, wideSends, exactStation, exactSends}
 use Rattle.guarantee.specs.Witnesses.{directStation, directFirst, directSecond}
 use Rattle.guarantee.specs.Witnesses.{crusadersStation, crusadersFirst, crusadersSecond}
+use Rattle.guarantee.proofs.Exact.{exact-limits}
 use Rattle.guarantee.proofs.Guarantee.{guarantee}
 use Rattle.guarantee.proofs.Regulator.{regulators-case}
-use Rattle.guarantee.proofs.Computed.Witnesses.{wide-reached, direct-rounds, crusaders-rounds}
+use Rattle.guarantee.proofs.Computed.Witnesses.{wide-reached, exact-reached, direct-rounds, crusaders-rounds}
 
 promised :
     (st : Station) (rounds : List Sends) (good : ℕ → Bool) (truth : ℤ)
@@ -45,6 +47,15 @@ wide-promised =
     (promised wideStation (wideSends ∷ []) (below 4) (pos 0) (wide-reached .meets) .many
     (rw (wide-reached .counts) (unfold wideStation in lit< tt))
     (rw (wide-reached .counts) (unfold wideStation in lit< tt)))
+
+pub exact-promised : ExactFirst exactStation (exactSends ∷ []) 3 (pos 0)
+exact-promised =
+    let m : Meets exactStation (exactSends ∷ []) (below 4) (pos 0) = exact-reached .meets in
+    rw (exact-reached .counts) at
+    (exact-limits
+    exactStation (m .starts) (exactSends ∷ []) (m .most) (m .allowed) (below 4) (pos 0) (m .goodness)
+    (rw (exact-reached .counts) (unfold exactStation in lit< tt))
+    (rw (exact-reached .counts) (unfold exactStation in lit< tt)))
 
 pub wide-answered : First (ThreeBad wideStation (pos 0)) (start wideStation) (wideSends ∷ [])
 wide-answered =

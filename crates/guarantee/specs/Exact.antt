@@ -1,14 +1,17 @@
--- The exact limits where more than m are bad: what document 01 states for m < t < N-m, to the tick. They are at most document 01's own
--- (`Sharper`). The theorem is `exact-limits` of proofs/Exact.antt.
+-- The exact limits where more than m are bad: what document 01 states for m < t < N-m, to the tick. They are at most
+-- document 01's own (`Sharper`), which so follow from them. The theorem is `exact-limits` of proofs/Exact.antt.
 --
--- The used values of one cabinet add up to at most N times the highest good reading plus (m+t)δ, and to at least N times the lowest good one
--- less (m+t)δ. The mean's rounding never falls, and moves by k where the sum moves by kN.
+-- The used values of one cabinet add up to at most N times the highest good reading plus (m+t)δ, and to at least N times
+-- the lowest good one less (m+t)δ. The mean's rounding never falls, and moves by k where the sum moves by kN. So new
+-- values lie between the lowest good reading with near(-(m+t)δ) and the highest with near((m+t)δ), where near(s) is the
+-- nearest whole number to s/N, a half going up; and good readings are at most δ apart.
 --
---   near                    what the mean makes of a sum of N values
---   excess                  (m+t)δ
---   exactGap, exactError    how far two new values can be apart, and one from true time
---   Exact, ExactLimits      the limits, of a round; of the first round of every run
---   Sharper                 they are at most document 01's limits
+--   near                        what the mean makes of a sum of N values
+--   excess                      (m+t)δ
+--   exactGap, exactError        how far two new values can be apart, and one from true time
+--   Exact                       the limits, of a round
+--   Sharper                     they are at most document 01's limits
+--   ExactFirst, ExactLimits     both, of the first round of one run; of every run
 use mathlib.Core.Bool.{Bool}
 use mathlib.Core.List.{List}
 use Prim.Native.Nat.{ℕ, _+_, _*_, _-_, _≤_, _<_}
@@ -34,6 +37,7 @@ exactError st t = κ st + apart (near st (pos (excess st t))) (pos 0)
 abbrev pub exactGap : Station → ℕ → ℕ
 exactGap st t = δ st + apart (near st (pos (excess st t))) (near st (pos 0 -ℤ pos (excess st t)))
 
+-- m < t < N-m, first round
 pub record Exact (st : Station) (t : ℕ) (true-value : ℤ) (now : State) (x : Sends) : Type 0 where
   pub accurate :
       (p : ℕ) → Sound st p → Unrefused st now x p

@@ -4,13 +4,17 @@
 --
 --   below, listed, station, twoFaced    runs written out as lists
 --   heldAfter, gap, error     what cabinets hold after a round, how far two are apart, how far one is from true time
+--   faultyCount               how many cabinets are faulty
 --   Meets                     what demand 3 asks of a run before it promises anything
---   WideReached               three of seven are bad: both limits for m < t < N-m
+--   WideReached               three of seven are bad: both limits for m < t < N-m, document 01's and the exact ones
+--   ExactReached              the same at a window of 2: the exact limits, which are below document 01's there
+--   HalfReached               two of four are bad: the exact limits, where the mean is a half
 --   CloseReached              FCA: both limits for t ≤ m
 --   MedianReached             CCA with median: the next window ⌈mδ/N⌉
 --   AverageReached            CCA with average: the next window ⌈2mδ/N⌉, where ⌈mδ/N⌉ would be too small
---   MixedRefused              t counts sound cabinets with a bad first reading: at most m are faulty, yet a sound
---                             cabinet refuses
+--   BothKindsCounted          t counts sound cabinets with a bad first reading: cases 7 and 8 as one round, which passes
+--                             the limit of the paper's Theorem 2
+--   MixedRefused              the same: at most m are faulty, yet a sound cabinet refuses
 --   DirectRounds, CrusadersRounds       FCA and CCA: two rounds, the second settled at the second window
 use mathlib.Core.Bool.{Bool, not}
 use mathlib.Core.List.{List, [], _∷_}
@@ -31,6 +35,7 @@ use Rattle.model.specs.Calls.{refused}
 use Rattle.model.specs.Cases.{settings, at, minus}
 use Rattle.guarantee.specs.Guarantee.{Station, N, m, δ, Start, Sends, Allowed, Each, State, start, next, settled}
 use Rattle.guarantee.specs.Guarantee.{newValue, apart, Good, bad, closeGap, closeError, wideGap, wideError}
+use Rattle.guarantee.specs.Exact.{exactGap, exactError}
 
 -- ---- Runs written out
 
@@ -67,6 +72,10 @@ gap st now x p q = apart (newValue st now x p) (newValue st now x q)
 abbrev pub error : Station → State → Sends → ℕ → ℤ → ℕ
 error st now x p true-value = apart (newValue st now x p) true-value
 
+-- how many of the N are faulty
+abbrev pub faultyCount : Station → ℕ
+faultyCount st = count (λ p. not (st .sound p)) (N st)
+
 pub record Meets (st : Station) (rounds : List Sends) (good : ℕ → Bool) (true-value : ℤ) : Type 0 where
   pub starts : Start st
   pub most : length rounds ≤ 32
@@ -92,6 +101,48 @@ pub record WideReached : Type 0 where
   pub widest : gap wideStation (start wideStation) wideSends 0 1 ≡ wideGap wideStation 3
   -- 12
   pub farthest : error wideStation (start wideStation) wideSends 1 (pos 0) ≡ wideError wideStation 3
+  -- where the window is a multiple of 7 the exact limits are the same
+  pub same-gap : exactGap wideStation 3 ≡ wideGap wideStation 3
+  pub same-error : exactError wideStation 3 ≡ wideError wideStation 3
+
+-- N 7, m 2, δ 2, κ 2; cabinets 0 to 3 are good and read 0, 0, 2, 2 where true time is 0; 4, 5 and 6 are faulty
+unfoldable pub exactStation : Station
+exactStation = station (settings 7 2 fca median 2) 2 4 (at 0 ∷ at 0 ∷ at 2 ∷ at 2 ∷ [])
+
+-- the three send -2 to cabinet 0 and 4 to cabinet 1
+unfoldable pub exactSends : Sends
+exactSends = twoFaced 7 (minus 2 ∷ at 4 ∷ []) []
+
+pub record ExactReached : Type 0 where
+  pub meets : Meets exactStation (exactSends ∷ []) (below 4) (pos 0)
+  pub counts : bad exactStation (below 4) ≡ 3
+  pub values : heldAfter exactStation (start exactStation) exactSends 4 ≡ minus 1 ∷ at 3 ∷ missing ∷ missing ∷ []
+  -- 4, where document 01's limit is ⌈34/7⌉ = 5
+  pub widest : gap exactStation (start exactStation) exactSends 0 1 ≡ exactGap exactStation 3
+  pub narrower : wideGap exactStation 3 ≡ 5
+  -- 3, where document 01's limit is 2 + ⌈10/7⌉ = 4
+  pub farthest : error exactStation (start exactStation) exactSends 1 (pos 0) ≡ exactError exactStation 3
+  pub nearer : wideError exactStation 3 ≡ 4
+
+-- ---- Two of four
+
+-- N 4, m 1, δ 2, κ 1; cabinets 0 and 1 are good and read 0 and 2 where true time is 1; 2 and 3 are faulty
+unfoldable pub halfStation : Station
+halfStation = station (settings 4 1 fca median 2) 1 2 (at 0 ∷ at 2 ∷ [])
+
+-- the two send -2 to cabinet 0 and 4 to cabinet 1
+unfoldable pub halfSends : Sends
+halfSends = twoFaced 4 (minus 2 ∷ at 4 ∷ []) []
+
+pub record HalfReached : Type 0 where
+  pub meets : Meets halfStation (halfSends ∷ []) (below 2) (pos 1)
+  pub counts : bad halfStation (below 2) ≡ 2
+  -- the used values add up to -6 and to 14: the means are -1 1/2 and 3 1/2
+  pub values : heldAfter halfStation (start halfStation) halfSends 2 ≡ minus 1 ∷ at 4 ∷ []
+  -- 5
+  pub widest : gap halfStation (start halfStation) halfSends 0 1 ≡ exactGap halfStation 2
+  -- 3
+  pub farthest : error halfStation (start halfStation) halfSends 1 (pos 1) ≡ exactError halfStation 2
 
 -- ---- At most m bad, FCA
 
@@ -159,6 +210,28 @@ pub record AverageReached : Type 0 where
 
 -- ---- What t counts
 
+-- N 7, m 2, δ 10, κ 10; cabinets 0 to 4 are good and read 0, 0, 10, 10, 10 where true time is 0; 5 is sound and holds
+-- 20; 6 is faulty
+unfoldable pub bothStation : Station
+bothStation = station (settings 7 2 fca median 10) 10 6 (at 0 ∷ at 0 ∷ at 10 ∷ at 10 ∷ at 10 ∷ at 20 ∷ [])
+
+-- it sends 20 to cabinet 0, which is case 7, and 0 to the others, which is case 8
+unfoldable pub bothSends : Sends
+bothSends = twoFaced 7 (at 20 ∷ at 0 ∷ at 0 ∷ at 0 ∷ at 0 ∷ at 0 ∷ []) []
+
+pub record BothKindsCounted : Type 0 where
+  pub meets : Meets bothStation (bothSends ∷ []) (below 5) (pos 0)
+  pub counts : bad bothStation (below 5) ≡ 2
+  pub faulty : faultyCount bothStation ≡ 1
+  pub values :
+      heldAfter bothStation (start bothStation) bothSends 6 ≡ at 10 ∷ at 4 ∷ at 4 ∷ at 4 ∷ at 4 ∷ at 4 ∷ []
+  -- "The gap from 7 is 6 = ⌈40/7⌉"
+  pub widest : gap bothStation (start bothStation) bothSends 0 1 ≡ closeGap bothStation (start bothStation) bothSends
+  -- with the faulty ones alone the limit of the paper's Theorem 2 is ⌈20/7⌉ = 3
+  pub above :
+      ceilDiv (2 * (faultyCount bothStation * δ bothStation)) (N bothStation)
+      < gap bothStation (start bothStation) bothSends 0 1
+
 -- N 4, m 1, δ 10, κ 0; cabinets 0 and 1 are good and read 0, which is true time; 2 is sound and holds 100; 3 is faulty
 unfoldable pub mixedStation : Station
 mixedStation = station (settings 4 1 fca median 10) 0 3 (at 0 ∷ at 0 ∷ at 100 ∷ [])
@@ -171,7 +244,7 @@ pub record MixedRefused : Type 0 where
   pub meets : Meets mixedStation (mixedSends ∷ []) (below 2) (pos 0)
   pub counts : bad mixedStation (below 2) ≡ 2
   -- no more than m are faulty
-  pub faulty : count (λ p. not (mixedStation .sound p)) (N mixedStation) ≡ m mixedStation
+  pub faulty : faultyCount mixedStation ≡ m mixedStation
   -- "too many faults"
   pub refuses : settled mixedStation (start mixedStation) mixedSends 0 .verdict ≡ refused (refusal 10 0)
 

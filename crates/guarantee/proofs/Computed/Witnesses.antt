@@ -17,6 +17,8 @@ use Rattle.model.specs.Refusals.{writeChecks, settleChecks, planChecks, stepChe
 use Rattle.model.specs.Calls.{write, settle, step}
 use Rattle.guarantee.specs.Guarantee.{Station, State, Sends, heard, entryOf, sheetOf, settled, next}
 use Rattle.guarantee.specs.Witnesses.{below, listed, Meets, wideStation, wideSends, WideReached}
+use Rattle.guarantee.specs.Witnesses.{exactStation, exactSends, ExactReached, halfStation, halfSends, HalfReached}
+use Rattle.guarantee.specs.Witnesses.{bothStation, bothSends, BothKindsCounted}
 use Rattle.guarantee.specs.Witnesses.{closeStation, closeSends, CloseReached}
 use Rattle.guarantee.specs.Witnesses.{medianStation, medianSends, MedianReached}
 use Rattle.guarantee.specs.Witnesses.{averageStation, averageSends, AverageReached}
@@ -47,7 +49,45 @@ wide-meets =
 
 pub wide-reached : WideReached
 unfolding computed wideStation wideSends
-wide-reached = record { meets = wide-meets; counts = refl; values = refl; widest = refl; farthest = refl }
+wide-reached =
+    record {
+      meets = wide-meets;
+      counts = refl;
+      values = refl;
+      widest = refl;
+      farthest = refl;
+      same-gap = refl;
+      same-error = refl;
+    }
+
+exact-meets : Meets exactStation (exactSends ∷ []) (below 4) (pos 0)
+unfolding exactStation exactSends
+exact-meets =
+    meets-tested _ _ _ _ _ _ _ (unfold computed in (refl, refl, refl, refl))
+    (sends-tested exactStation _ _ refl, tt)
+
+pub exact-reached : ExactReached
+unfolding computed exactStation exactSends
+exact-reached =
+    record {
+      meets = exact-meets;
+      counts = refl;
+      values = refl;
+      widest = refl;
+      narrower = refl;
+      farthest = refl;
+      nearer = refl;
+    }
+
+half-meets : Meets halfStation (halfSends ∷ []) (below 2) (pos 1)
+unfolding halfStation halfSends
+half-meets =
+    meets-tested _ _ _ _ _ _ _ (unfold computed in (refl, refl, refl, refl))
+    (sends-tested halfStation _ _ refl, tt)
+
+pub half-reached : HalfReached
+unfolding computed halfStation halfSends
+half-reached = record { meets = half-meets; counts = refl; values = refl; widest = refl; farthest = refl }
 
 -- ---- t ≤ m
 
@@ -82,6 +122,17 @@ unfolding computed averageStation averageSends
 average-reached = record { meets = average-meets; counts = refl; values = refl; widest = refl; above = lit< tt }
 
 -- ---- what t counts
+
+both-meets : Meets bothStation (bothSends ∷ []) (below 5) (pos 0)
+unfolding bothStation bothSends
+both-meets =
+    meets-tested _ _ _ _ _ _ _ (unfold computed in (refl, refl, refl, refl))
+    (sends-tested bothStation _ _ refl, tt)
+
+pub both-kinds-counted : BothKindsCounted
+unfolding computed bothStation bothSends
+both-kinds-counted =
+    record { meets = both-meets; counts = refl; faulty = refl; values = refl; widest = refl; above = lit< tt }
 
 mixed-meets : Meets mixedStation (mixedSends ∷ []) (below 2) (pos 0)
 unfolding mixedStation mixedSends

@@ -1,12 +1,14 @@
 -- Differences of naturals as whole numbers moved down, and the mean of a sum at or below 0, or at or above it, as a mean of naturals.
 -- Assumes nothing.
 use mathlib.Core.Path.{_≡_, ap, ap₂, _∙_}
-use Prim.Native.Nat.{ℕ, suc, _+_, _*_, _-_, _≤_, _<_}
+use Prim.Native.Nat.{ℕ, _+_, _*_, _-_, _≤_, _<_}
 use native.Mathlib.Omega.{arith}
 use lib.IntN.{ℤ, pos, negℤ, _+ℤ_, _-ℤ_}
-use Rattle.arithmetic.proofs.Shift.{down, up, down-ind, down-cong, pos-down, neg-down, add-down}
+use Rattle.arithmetic.specs.Naturals.{down}
+use Rattle.arithmetic.proofs.Shift.{up, down-ind, down-cong, pos-down, neg-down, add-down}
 use Rattle.model.specs.Steps.{mean}
-use Rattle.rounds.proofs.Shifted.{mean-nat, mean-down}
+use Rattle.rounds.specs.Naturals.{mean-nat}
+use Rattle.rounds.proofs.Shifted.{mean-down}
 
 pub difference-down : (a b : ℕ) → pos a -ℤ pos b ≡ down b a
 difference-down a b =

@@ -6,7 +6,7 @@ use mathlib.Core.Path.{_≡_, ap, _∙_}
 use Prim.Native.Nat.{ℕ, _+_, _*_, _-_, _/_, _≤_, _<_}
 use native.Mathlib.Nat.{add-mul, mul-add, mul-comm, add-mul-div-right, div-eq-of-lt}
 use native.Mathlib.Omega.{arith}
-use Rattle.rounds.proofs.Shifted.{mean-nat}
+use Rattle.rounds.specs.Naturals.{mean-nat}
 use Rattle.limits.proofs.Means.{mean-shift}
 
 -- a sum of at least half of n, and less than n and a half, has the mean 1

@@ -1,16 +1,16 @@
 -- Counting the indices of an interval, and the sum of a function with two values.
 --   between a b i        a ≤ i < b
 -- Assumes nothing.
-use mathlib.Core.Bool.{Bool, true, false, cond, not, _&&_}
-use mathlib.Core.Path.{_≡_, refl, sym}
+use mathlib.Core.Bool.{Bool, true, false, cond, _&&_}
+use mathlib.Core.Path.{_≡_, refl}
 use Prim.Native.Nat.{ℕ, zero, suc, _+_, _*_, _-_, _≤_, _<_}
 use native.Mathlib.Nat.{add-mul, suc-mul, zero-mul}
 use native.Mathlib.Omega.{arith}
-use borrow.Author.Tests.{ltb-true, ltb-false, leb-true, leb-false, lt-ltb, le-ltb, le-leb, lt-leb}
+use borrow.Author.Tests.{ltb-true, ltb-false, leb-true, leb-false}
 use lib.Dec.{leb, ltb}
 use Rattle.arithmetic.specs.Counting.{bit, count}
-use Rattle.arithmetic.proofs.Bools.{and-intro, and-left, and-right}
-use Rattle.arithmetic.proofs.Sums.{total}
+use Rattle.arithmetic.proofs.Bools.{and-left, and-right}
+use Rattle.arithmetic.specs.Naturals.{total}
 
 abbrev pub between : ℕ → ℕ → ℕ → Bool
 between a b i = leb a i && ltb i b

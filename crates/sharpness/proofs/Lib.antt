@@ -3,4 +3,7 @@ pub mod Swayed
 pub mod Gains
 pub mod Differences
 pub mod Run
+pub mod Computed
+pub mod Told
 pub mod Sharpness
+pub mod Seven

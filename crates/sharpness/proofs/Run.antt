@@ -1,33 +1,42 @@
 -- The run of specs/Sharpness.antt: demand 3's hypotheses hold of it, t are bad, and what cabinets 0 and 1 read of each cabinet.
 -- Assumes nothing.
-use mathlib.Core.Bool.{Bool, true, false, not, cond}
-use mathlib.Core.List.{List, [], _∷_}
-use mathlib.Core.Path.{_≡_, refl, ap, _∙_, subst⁻¹}
+use mathlib.Core.Bool.{Bool, true, false, cond}
+use mathlib.Core.List.{[], _∷_}
+use mathlib.Core.Path.{_≡_, refl, _∙_, subst⁻¹}
 use Prim.Native.Nat.{ℕ, zero, suc, _+_, _*_, _-_, _/_, _≤_, _<_}
 use native.Mathlib.Nat.{le-refl}
 use native.Mathlib.Omega.{arith}
-use borrow.Author.Tests.{lt-ltb, le-ltb, ltb-true}
+use borrow.Author.Tests.{lt-ltb, le-ltb}
 use lib.Dec.{ltb}
 use lib.IntN.{ℤ, pos, natAbs, _-ℤ_}
-use lib.ListN.{length, length-replicate}
+use lib.ListN.{length-replicate}
 use lib.Signed.{mag}
 use mir.Syntax.{w32}
 use mir.Val.{SFits}
-use Rattle.arithmetic.specs.Counting.{count}
 use Rattle.arithmetic.proofs.Counting.{count-not}
-use Rattle.arithmetic.proofs.Shift.{down, down-ind, down-cong, pos-down, dist-down}
-use Rattle.model.specs.Ensemble.{Reading, missing, present, isPresent, ticks}
+use Rattle.arithmetic.specs.Naturals.{down}
+use Rattle.arithmetic.proofs.Shift.{down-ind, down-cong, pos-down, dist-down}
+use Rattle.model.specs.Ensemble.{Readings, present}
 use Rattle.model.specs.RoundSheet.{fca, median}
 use Rattle.model.specs.AnswerSheet.{answerLength}
 use Rattle.model.specs.Planner.{ceilDiv}
 use Rattle.model.specs.Cases.{settings, at}
 use Rattle.planning.proofs.Checks.{MayStart, none-may-start}
-use Rattle.guarantee.specs.Guarantee.{IsReading, Station, Start, Sends, Allowed, start, heard, Good, bad}
+use Rattle.guarantee.specs.Guarantee.{IsReading, Start, Allowed, start, heard, Good, bad}
 use Rattle.guarantee.specs.Witnesses.{below, listed, Meets}
 use Rattle.guarantee.proofs.Entries.{heard-sound, seen, seen-direct}
-use Rattle.sharpness.specs.Sharpness.{Covered, needed, firstReading, sharpStation, sharpSends, trueValue}
+use Rattle.sharpness.specs.Sharpness.{Covered, firstReading, worstStation, worstSends, trueValue}
 use Rattle.sharpness.proofs.Intervals.{count-below}
 use Rattle.sharpness.proofs.Differences.{difference-down}
+
+module _ (n m t δ κ : ℕ) where
+  -- what cabinet p reads of each
+  abbrev pub sees : ℕ → Readings
+  sees p = seen (worstStation n m t δ κ) (start (worstStation n m t δ κ)) (worstSends n m t δ κ) δ p
+
+  -- what the faulty ones tell cabinets 0, 1, ..
+  abbrev pub told : Readings
+  told = listed (present (pos 0 -ℤ pos δ) ∷ at (2 * δ) ∷ [])
 
 module _ (n m t δ κ : ℕ) (h : Covered n m t δ κ) where
   pub may-start : MayStart (settings n m fca median δ) κ 0
@@ -83,21 +92,18 @@ module _ (n m t δ κ : ℕ) (h : Covered n m t δ κ) where
       let l = reads-most p in
       near-zero (pos (firstReading n m t δ κ p)) (omega (arith, may-start .passes .window))
 
-  told : List Reading
-  told = present (pos 0 -ℤ pos δ) ∷ at (2 * δ) ∷ []
-
-  told-fits : (p : ℕ) → IsReading (listed (present (pos 0 -ℤ pos δ) ∷ at (2 * δ) ∷ []) p)
+  told-fits : (p : ℕ) → IsReading (told n m t δ κ p)
   unfolding listed
   told-fits zero = near-zero (pos 0 -ℤ pos δ) (subst⁻¹ (λ (z : ℤ). mag z ≤ 2_000_000) (difference-down 0 δ) (down-ind δ 0 (λ z. mag z ≤ 2_000_000) (λ l. omega (arith, may-start .passes .window)) (λ l. omega (arith, may-start .passes .window))))
   told-fits (suc zero) = near-zero (pos (2 * δ)) (omega (arith, may-start .passes .window))
   told-fits (suc (suc p)) = tt
 
-  pub starts : Start (sharpStation n m t δ κ)
-  unfolding sharpStation
+  pub starts : Start (worstStation n m t δ κ)
+  unfolding worstStation
   starts = record { grants = h .grants; readings = first-fits }
 
-  pub allowed : Allowed (sharpStation n m t δ κ) (sharpSends n m t δ κ)
-  unfolding sharpStation sharpSends
+  pub allowed : Allowed (worstStation n m t δ κ) (worstSends n m t δ κ)
+  unfolding worstStation worstSends
   allowed =
       record {
         sent = λ r. told-fits;
@@ -109,13 +115,13 @@ module _ (n m t δ κ : ℕ) (h : Covered n m t δ κ) where
   accurate : (y : ℕ) → y ≤ δ → natAbs (pos y -ℤ (pos δ -ℤ pos κ)) ≤ κ
   accurate y l =
       subst⁻¹ (λ (z : ℤ). natAbs (pos y -ℤ z) ≤ κ) (difference-down δ κ)
-      (subst⁻¹ (λ (z : ℤ). natAbs (z -ℤ down κ δ) ≤ κ) (pos-down y ∙ down-cong 0 y κ (y + κ) (omega arith)) (rw (dist-down κ (y + κ) δ) (omega (arith, h .wide))))
+      (subst⁻¹ (λ (z : ℤ). natAbs (z -ℤ down κ δ) ≤ κ) (pos-down y ∙ down-cong 0 y κ (y + κ) (omega arith)) (rw (dist-down κ (y + κ) δ) (omega (arith, h .accurate))))
 
   precise : (y z : ℕ) → y ≤ δ → z ≤ δ → natAbs (pos y -ℤ pos z) ≤ δ
   precise y z k l = rw (difference-down y z) (down-ind z y (λ a. natAbs a ≤ δ) (λ i. omega arith) (λ i. omega arith))
 
-  pub good : Good (sharpStation n m t δ κ) (below (n - t)) (trueValue n m t δ κ)
-  unfolding sharpStation
+  pub good : Good (worstStation n m t δ κ) (below (n - t)) (trueValue n m t δ κ)
+  unfolding worstStation
   good =
       record {
         sound = λ p l g. g;
@@ -124,24 +130,24 @@ module _ (n m t δ κ : ℕ) (h : Covered n m t δ κ) where
         precise = λ p q lp lq gp gq. precise (firstReading n m t δ κ p) (firstReading n m t δ κ q) (reads-most p) (reads-most q);
       }
 
-  pub meets : Meets (sharpStation n m t δ κ) (sharpSends n m t δ κ ∷ []) (below (n - t)) (trueValue n m t δ κ)
+  pub meets : Meets (worstStation n m t δ κ) (worstSends n m t δ κ ∷ []) (below (n - t)) (trueValue n m t δ κ)
   meets = record { starts = starts; most = omega arith; allowed = (allowed, tt); goodness = good }
 
-  pub t-bad : bad (sharpStation n m t δ κ) (below (n - t)) ≡ t
-  unfolding sharpStation
+  pub t-bad : bad (worstStation n m t δ κ) (below (n - t)) ≡ t
+  unfolding worstStation
   t-bad = omega (arith, count-not (λ p. ltb p (n - t)) n, count-below (n - t) n, h .fewer)
 
   -- ---- what is read
 
   module _ (p r : ℕ) where
-    pub sees-sound : r < n - t → seen (sharpStation n m t δ κ) (start (sharpStation n m t δ κ)) (sharpSends n m t δ κ) δ p r ≡ at (firstReading n m t δ κ r)
-    unfolding sharpStation
+    pub sees-sound : r < n - t → sees n m t δ κ p r ≡ at (firstReading n m t δ κ r)
+    unfolding worstStation
     sees-sound l =
-        seen-direct (sharpStation n m t δ κ) (start (sharpStation n m t δ κ)) (sharpSends n m t δ κ) δ p r refl
-        ∙ heard-sound (sharpStation n m t δ κ) (start (sharpStation n m t δ κ)) (sharpSends n m t δ κ) r p (lt-ltb r (n - t) l)
+        seen-direct (worstStation n m t δ κ) (start (worstStation n m t δ κ)) (worstSends n m t δ κ) δ p r refl
+        ∙ heard-sound (worstStation n m t δ κ) (start (worstStation n m t δ κ)) (worstSends n m t δ κ) r p (lt-ltb r (n - t) l)
 
-    pub sees-liar : n - t ≤ r → seen (sharpStation n m t δ κ) (start (sharpStation n m t δ κ)) (sharpSends n m t δ κ) δ p r ≡ listed (present (pos 0 -ℤ pos δ) ∷ at (2 * δ) ∷ []) p
-    unfolding sharpStation sharpSends heard
+    pub sees-liar : n - t ≤ r → sees n m t δ κ p r ≡ told n m t δ κ p
+    unfolding worstStation worstSends heard
     sees-liar l =
-        seen-direct (sharpStation n m t δ κ) (start (sharpStation n m t δ κ)) (sharpSends n m t δ κ) δ p r refl
+        seen-direct (worstStation n m t δ κ) (start (worstStation n m t δ κ)) (worstSends n m t δ κ) δ p r refl
         ∙ rw (le-ltb r (n - t) l)

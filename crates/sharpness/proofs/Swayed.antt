@@ -8,19 +8,20 @@ use mathlib.Core.Path.{_≡_, refl, sym, ap, _∙_}
 use Prim.Native.Nat.{ℕ, _+_, _*_, _-_, _/_, _≤_, _<_}
 use native.Mathlib.Nat.{le-refl}
 use native.Mathlib.Omega.{arith}
-use borrow.Author.Tests.{ltb-true, ltb-false, leb-true, leb-false, lt-ltb, le-leb, not-true}
+use borrow.Author.Tests.{ltb-true, ltb-false, leb-true, leb-false, lt-ltb, not-true}
 use lib.Dec.{leb, ltb}
 use Rattle.arithmetic.specs.Counting.{count}
 use Rattle.arithmetic.proofs.Bools.{both-ways, clash, and-left, and-right, and-intro, not-true-false}
 use Rattle.arithmetic.proofs.Counting.{count-mono, count-not}
-use Rattle.arithmetic.proofs.Sums.{total, total-ext}
+use Rattle.arithmetic.specs.Naturals.{total}
+use Rattle.arithmetic.proofs.Sums.{total-ext}
 use Rattle.model.specs.RoundSheet.{median}
-use Rattle.rounds.proofs.Shifted.{estimate-nat}
-use Rattle.limits.proofs.Acceptance.{inside, inside-intro, inside-low, inside-high, Span, accepted-in-span, span-accepted}
+use Rattle.rounds.specs.Naturals.{estimate-nat}
+use Rattle.limits.proofs.Acceptance.{insideSpan, inside-intro, inside-low, inside-high, NatSpan, accepted-in-span, span-accepted}
 use Rattle.limits.proofs.Counts.{count-split}
 use Rattle.limits.proofs.Estimates.{median-numbered}
 use Rattle.limits.proofs.Ranks.{Numbered}
-use Rattle.limits.proofs.Settled.{Received, accepts, estimateOf, usedOf, used-accepted, used-replaced}
+use Rattle.limits.proofs.Settled.{Receiver, accepts, estimateBy, usedBy, used-accepted, used-replaced}
 use Rattle.sharpness.proofs.Intervals.{between, between-low, between-high, count-below, count-between, total-two}
 
 -- y is further than w from L
@@ -28,7 +29,7 @@ abbrev pub Far : ℕ → ℕ → ℕ → Type 0
 Far w L y = (y + w < L) ⊎ (L + w < y)
 
 -- cabinets a to b-1 read A, and those from s on are the liars
-pub record Swayed (n m w : ℕ) (v : Received) (a b s A L : ℕ) : Type 0 where
+pub record Swayed (n m w : ℕ) (v : Receiver) (a b s A L : ℕ) : Type 0 where
   pub kind : v .kind ≡ median
   pub here : (i : ℕ) → i < n → v .pres i ≡ true
   pub liars : (i : ℕ) → i < n → s ≤ i → v .x i ≡ L
@@ -44,16 +45,7 @@ pub record Swayed (n m w : ℕ) (v : Received) (a b s A L : ℕ) : Type 0 where
   pub enough : n - m ≤ b - a + (n - s)
   pub most : b - a < n - s
 
-module _ (n m w : ℕ) (v : Received) (a b s A L : ℕ) (h : Swayed n m w v a b s A L) where
-  near : ℕ → Bool
-  near = between a b
-
-  liar : ℕ → Bool
-  liar i = not (ltb i s)
-
-  acc : ℕ → Bool
-  acc = accepts n m w v
-
+module _ (n m w : ℕ) (v : Receiver) (a b s A L : ℕ) (h : Swayed n m w v a b s A L) where
   near-count : count (between a b) n ≡ b - a
   near-count =
       let i = h .first in
@@ -70,9 +62,6 @@ module _ (n m w : ℕ) (v : Received) (a b s A L : ℕ) (h : Swayed n m w v a b 
   -- ---- who is accepted
 
   -- those who are neither liars nor join them
-  rest : ℕ → Bool
-  rest i = ltb i s && not (near i)
-
   rest-count : count (λ i. ltb i s && not (between a b i)) n + (b - a) ≤ s
   rest-count =
       let k = count-split (λ i. ltb i s) (between a b) n in
@@ -88,17 +77,17 @@ module _ (n m w : ℕ) (v : Received) (a b s A L : ℕ) (h : Swayed n m w v a b 
   module _ (z : ℕ) (zA : z ≤ A) (zL : z ≤ L) (Az : A ≤ z + w) (Lz : L ≤ z + w) where
     -- a span from z with A and L in it
     held : ℕ → Bool
-    held i = v .pres i && inside w z (v .x i)
+    held i = v .pres i && insideSpan w z (v .x i)
 
-    -- whoever it does not hold is one of the rest
+    -- whoever it does not hold is neither
     missed : (i : ℕ) → i < n → not (held i) ≡ true → (ltb i s && not (between a b i)) ≡ true
     unfolding held
     missed i l e = go (ltb i s) refl (between a b i) refl
       where
-        in-span : (y : ℕ) → v .x i ≡ y → z ≤ y → y ≤ z + w → (v .pres i && inside w z (v .x i)) ≡ true
+        in-span : (y : ℕ) → v .x i ≡ y → z ≤ y → y ≤ z + w → (v .pres i && insideSpan w z (v .x i)) ≡ true
         in-span y q lo hi = and-intro (h .here i l) (inside-intro w z (v .x i) (omega arith) (omega arith))
 
-        not-held : (v .pres i && inside w z (v .x i)) ≡ true → (c : Bool) → c ≡ true
+        not-held : (v .pres i && insideSpan w z (v .x i)) ≡ true → (c : Bool) → c ≡ true
         not-held k c = clash e (ap not k)
 
         go : (c : Bool) → ltb i s ≡ c → (d : Bool) → between a b i ≡ d → (c && not d) ≡ true
@@ -106,7 +95,7 @@ module _ (n m w : ℕ) (v : Received) (a b s A L : ℕ) (h : Swayed n m w v a b 
         go true f false g = refl
         go false f d g = not-held (in-span L (h .liars i l (ltb-false i s f)) zL Lz) _
 
-    holds : n - m ≤ count (λ i. v .pres i && inside w z (v .x i)) n
+    holds : n - m ≤ count (λ i. v .pres i && insideSpan w z (v .x i)) n
     unfolding held
     holds =
         let k = count-not held n in
@@ -140,21 +129,21 @@ module _ (n m w : ℕ) (v : Received) (a b s A L : ℕ) (h : Swayed n m w v a b 
     where
       impossible : accepts n m w v i ≡ true → ⊥
       impossible e =
-          let k = count-mono (λ j. v .pres j && inside w (span .start) (v .x j)) (λ j. ltb j s) n sound in
+          let k = count-mono (λ j. v .pres j && insideSpan w (span .start) (v .x j)) (λ j. ltb j s) n sound in
           omega (arith, span .holds, sound-count, h .needed)
         where
-          span : Span w (v .pres) (v .x) (n - m) n i
+          span : NatSpan w (v .pres) (v .x) (n - m) n i
           span = accepted-in-span w (v .pres) (v .x) (n - m) n i e
 
-          outside : (j : ℕ) → v .x j ≡ L → inside w (span .start) (v .x j) ≡ true → ⊥
+          outside : (j : ℕ) → v .x j ≡ L → insideSpan w (span .start) (v .x j) ≡ true → ⊥
           outside j q k =
               let lo = inside-low w (span .start) (v .x j) k in
               let hi = inside-high w (span .start) (v .x j) k in
               ⊎-elim (λ f. omega (arith, span .low)) (λ f. omega (arith, span .high)) far
 
-          sound : (j : ℕ) → j < n → (v .pres j && inside w (span .start) (v .x j)) ≡ true → ltb j s ≡ true
+          sound : (j : ℕ) → j < n → (v .pres j && insideSpan w (span .start) (v .x j)) ≡ true → ltb j s ≡ true
           sound j l k =
-              ⊎-elim (λ t. t) (λ f. absurd (outside j (h .liars j l (ltb-false j s f)) (and-right (v .pres j) (inside w (span .start) (v .x j)) k)))
+              ⊎-elim (λ t. t) (λ f. absurd (outside j (h .liars j l (ltb-false j s f)) (and-right (v .pres j) (insideSpan w (span .start) (v .x j)) k)))
               (both-ways (ltb j s))
 
   near-accepted : (i : ℕ) → i < n → between a b i ≡ true → accepts n m w v i ≡ true
@@ -207,7 +196,7 @@ module _ (n m w : ℕ) (v : Received) (a b s A L : ℕ) (h : Swayed n m w v a b 
   pub swayed-some : 0 < count (accepts n m w v) n
   swayed-some = omega (arith, all-count, apart-count, h .most)
 
-  swayed-median : estimateOf n m w v ≡ L
+  swayed-median : estimateBy n m w v ≡ L
   swayed-median = rw (h .kind) (omega (arith, not-below, not-above))
     where
       e : ℕ
@@ -258,16 +247,16 @@ module _ (n m w : ℕ) (v : Received) (a b s A L : ℕ) (h : Swayed n m w v a b 
 
   -- ---- the sum
 
-  used : (i : ℕ) → i < n → usedOf n m w v i ≡ cond (between a b i) A L
+  used : (i : ℕ) → i < n → usedBy n m w v i ≡ cond (between a b i) A L
   used i l =
       ⊎-elim
       (λ t. rw t (used-accepted n m w v i (near-accepted i l t) ∙ h .joined i (between-low a b i t) (between-high a b i t)))
       (λ f. rw f (⊎-elim (λ e. used-accepted n m w v i e ∙ accepted-rest i l f e) (λ e. used-replaced n m w v i e ∙ swayed-median) (both-ways (accepts n m w v i))))
       (both-ways (between a b i))
 
-  pub swayed-total : total (usedOf n m w v) n + (b - a) * L ≡ n * L + (b - a) * A
+  pub swayed-total : total (usedBy n m w v) n + (b - a) * L ≡ n * L + (b - a) * A
   swayed-total =
-      let k = total-ext (usedOf n m w v) (λ i. cond (between a b i) A L) n used in
+      let k = total-ext (usedBy n m w v) (λ i. cond (between a b i) A L) n used in
       let j = total-two (between a b) A L n in
       let c = near-count in
       omega (arith, rw c at j)

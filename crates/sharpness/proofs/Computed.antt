@@ -1,0 +1,65 @@
+-- The round of specs/Sharpness.antt for two stations of seven with a window of 7, computed from the first readings to the last byte. A
+-- check comes to them before it comes to the theorem, so that a false statement is refused by its numbers.
+-- Assumes nothing.
+use mathlib.Core.Path.{refl}
+use lib.Dec.{lit<, lit≤}
+use Rattle.arithmetic.specs.Counting.{count, anyBelow, lowest, sum}
+use Rattle.arithmetic.specs.Writing.{table, overwrite}
+use Rattle.model.specs.RoundSheet.{word, entryCount, entryAt, bytes4, readingBytes, sizeBytes, sheetBytes}
+use Rattle.model.specs.AnswerSheet.{answerHeader, answerBytes}
+use Rattle.model.specs.Steps.{decideRow, readingsOf, accepted, acceptedAt, numbered, averageOf, medianOf, midpointOf}
+use Rattle.model.specs.Steps.{estimate, mean, roundOf, roundAt}
+use Rattle.model.specs.Planner.{ceilDiv, windowFactor, nextWindow, growth, advance}
+use Rattle.model.specs.Refusals.{firstOf, tooShort, badCabinets, badFaults, badMethod, badWindow, badLength, noRoom}
+use Rattle.model.specs.Refusals.{badMark, badMissing, tooManyFaults, badPlan, settingsChecks, sheetChecks, entryChecks}
+use Rattle.model.specs.Refusals.{writeChecks, settleChecks, planChecks, stepChecks}
+use Rattle.model.specs.Calls.{write, settle, step}
+use Rattle.guarantee.specs.Guarantee.{Station, State, Sends, heard, entryOf, sheetOf, settled, next}
+use Rattle.guarantee.specs.Witnesses.{listed}
+use Rattle.sharpness.specs.Sharpness.{Covered, firstReading, worstStation, worstSends, Reached}
+use Rattle.sharpness.proofs.Run.{meets}
+
+-- a round, with all that it computes by: whoever unfolds it unfolds its line
+computed : Station → State → Sends → State
+unfolding count anyBelow lowest sum table overwrite
+    word entryCount entryAt bytes4 readingBytes sizeBytes sheetBytes answerHeader answerBytes
+    decideRow readingsOf accepted acceptedAt numbered averageOf medianOf midpointOf estimate mean roundOf roundAt
+    ceilDiv windowFactor nextWindow growth advance
+    firstOf tooShort badCabinets badFaults badMethod badWindow badLength noRoom badMark badMissing tooManyFaults badPlan
+    settingsChecks sheetChecks entryChecks writeChecks settleChecks planChecks stepChecks
+    write settle step heard entryOf sheetOf settled next listed firstReading worstStation worstSends
+computed = next
+
+-- three of seven bad: two good ones at 0 and two at 7
+three-covered : Covered 7 2 3 7 4
+unfolding computed
+three-covered = record { grants = refl; more = lit< tt; fewer = lit< tt; crowded = lit≤ tt; accurate = lit≤ tt }
+
+pub three-reached : Reached 7 2 3 7 4
+unfolding computed
+three-reached =
+    record {
+      meets = meets 7 2 3 7 4 three-covered;
+      counts = refl;
+      sound = ((lit< tt, refl), (lit< tt, refl));
+      unrefused = (refl, refl);
+      widest = refl;
+      farthest = refl;
+    }
+
+-- four of seven bad: good ones at 0, 7 and 4
+four-covered : Covered 7 2 4 7 4
+unfolding computed
+four-covered = record { grants = refl; more = lit< tt; fewer = lit< tt; crowded = lit≤ tt; accurate = lit≤ tt }
+
+pub four-reached : Reached 7 2 4 7 4
+unfolding computed
+four-reached =
+    record {
+      meets = meets 7 2 4 7 4 four-covered;
+      counts = refl;
+      sound = ((lit< tt, refl), (lit< tt, refl));
+      unrefused = (refl, refl);
+      widest = refl;
+      farthest = refl;
+    }

@@ -1,4 +1,9 @@
 pub mod Represented
 pub mod Spans
+pub mod Orders
+pub mod Demand1
 pub mod Refused
+pub mod Roundings
+pub mod Estimated
+pub mod Demand2
 pub mod Values

@@ -3,13 +3,13 @@
 use mathlib.Core.Bool.{Bool}
 use mathlib.Core.Path.{_≡_, sym, ap, _∙_}
 use Prim.Native.Nat.{ℕ, _≤_, _<_}
-use lib.Dec.{leb}
+use lib.Dec.{leb, ltb}
 use lib.IntN.{ℤ}
-use lib.Signed.{leZ, mag, _≤ℤ_}
+use lib.Signed.{leZ, ltZ, mag, _≤ℤ_}
 use borrow.Author.Tests.{le-leb}
 use Rattle.arithmetic.proofs.Bools.{to-T}
 use Rattle.arithmetic.specs.Naturals.{down}
-use Rattle.arithmetic.proofs.Shift.{up, down-up, le-down}
+use Rattle.arithmetic.proofs.Shift.{up, down-up, le-down, lt-down}
 use Rattle.model.specs.Ensemble.{Readings, isPresent}
 use Rattle.model.specs.Steps.{accepted}
 use Rattle.rounds.proofs.Local.{accepted-local}
@@ -21,6 +21,10 @@ use Rattle.rounds.proofs.Shifted.{accepted-shifted}
 pub le-up : (k : ℕ) (a b : ℤ) → mag a < k → mag b < k → leZ a b ≡ leb (up k a) (up k b)
 le-up k a b ha hb =
     ap (λ z. leZ z b) (sym (down-up k a ha)) ∙ ap (leZ (down k (up k a))) (sym (down-up k b hb)) ∙ le-down k (up k a) (up k b)
+
+pub lt-up : (k : ℕ) (a b : ℤ) → mag a < k → mag b < k → ltZ a b ≡ ltb (up k a) (up k b)
+lt-up k a b ha hb =
+    ap (λ z. ltZ z b) (sym (down-up k a ha)) ∙ ap (ltZ (down k (up k a))) (sym (down-up k b hb)) ∙ lt-down k (up k a) (up k b)
 
 pub le-of-down : (k a b : ℕ) → a ≤ b → down k a ≤ℤ down k b
 le-of-down k a b h = record { le = to-T (le-down k a b ∙ le-leb a b h) }

@@ -22,42 +22,33 @@ use Rattle.model.specs.Steps.{inside, held, within, accepted, acceptedAt, round
 use Rattle.rounds.proofs.Represent.{reach, reach-above, raise}
 use Rattle.limits.proofs.Acceptance as A
 use Rattle.limits.proofs.Acceptance.{span-accepted}
+use Rattle.demands.specs.Demand2.{FullSpan, SpanWith}
 use Rattle.demands.proofs.Represented.{le-up, pres, accepted-up}
 
--- a span that holds need readings
-pub record Span (w need n : ℕ) (v : Readings) : Type 0 where
-  pub start : ℤ
-  pub end : ℤ
-  -- f - s ≤ δ
-  pub narrow : end ≤ℤ (start +ℤ pos w)
-  pub enough : need ≤ held start end v n
+module _ (c : Settings) (v : Readings) where
+  abbrev w : ℕ
+  w = c .window
 
--- a span that holds a given reading too
-pub record Holds (w need n : ℕ) (v : Readings) (r : ℕ) : Type 0 where
-  pub span : Span w need n v
-  pub inside : inside (span .start) (span .end) (v r) ≡ true
+  -- ---- from the definition to a span
 
--- ---- from the definition to a span
-
-module _ (w need n : ℕ) (v : Readings) where
-  span-at : (s r : ℕ) (y : Reading) → v s ≡ y → (within w y (v r) && leb need (count (λ t. within w y (v t)) n)) ≡ true → Holds w need n v r
+  span-at : (s r : ℕ) (y : Reading) → v s ≡ y → (within w y (v r) && leb (quorum c) (count (λ t. within w y (v t)) (c .n))) ≡ true → SpanWith c v r
   span-at s r missing e h = clash h refl
   span-at s r (present a) e h =
       record {
-        span = record { start = a; end = a +ℤ pos w; narrow = ≤ℤ-refl (a +ℤ pos w); enough = leb-true need _ (and-right (within w (present a) (v r)) _ h) };
-        inside = and-left (within w (present a) (v r)) _ h;
+        span = record { start = a; end = a +ℤ pos w; narrow = ≤ℤ-refl (a +ℤ pos w); enough = leb-true (quorum c) _ (and-right (within w (present a) (v r)) _ h) };
+        within = and-left (within w (present a) (v r)) _ h;
       }
 
-  pub accepted-holds : (r : ℕ) → accepted w need n v r ≡ true → Holds w need n v r
-  unfolding accepted
+  pub accepted-holds : (r : ℕ) → acceptedAt c v r ≡ true → SpanWith c v r
+  unfolding accepted acceptedAt
   accepted-holds r e =
-      let s = any-some (λ s. within w (v s) (v r) && leb need (count (λ t. within w (v s) (v t)) n)) n e in
+      let s = any-some (λ s. within w (v s) (v r) && leb (quorum c) (count (λ t. within w (v s) (v t)) (c .n))) (c .n) e in
       span-at (s .0) r (v (s .0)) refl (s .2)
 
   -- ---- from any span to the definition
 
   -- far enough for every reading and for the ends of the span
-  module _ (r : ℕ) (l : r < n) (h : Holds w need n v r) where
+  module _ (r : ℕ) (l : r < c .n) (h : SpanWith c v r) where
     abbrev s : ℤ
     s = h .span .start
 
@@ -65,19 +56,19 @@ module _ (w need n : ℕ) (v : Readings) where
     f = h .span .end
 
     abbrev k : ℕ
-    k = reach v n + suc (mag s) + suc (mag f)
+    k = reach v (c .n) + suc (mag s) + suc (mag f)
 
-    far : reach v n ≤ reach v n + suc (mag (h .span .start)) + suc (mag (h .span .end))
+    far : reach v (c .n) ≤ reach v (c .n) + suc (mag (h .span .start)) + suc (mag (h .span .end))
     far = omega arith
 
-    start-near : mag (h .span .start) < reach v n + suc (mag (h .span .start)) + suc (mag (h .span .end))
+    start-near : mag (h .span .start) < reach v (c .n) + suc (mag (h .span .start)) + suc (mag (h .span .end))
     start-near = omega arith
 
-    end-near : mag (h .span .end) < reach v n + suc (mag (h .span .start)) + suc (mag (h .span .end))
+    end-near : mag (h .span .end) < reach v (c .n) + suc (mag (h .span .start)) + suc (mag (h .span .end))
     end-near = omega arith
 
-    reading-near : (t : ℕ) → t < n → mag (ticks (v t)) < k
-    reading-near t i = lt-of-lt-of-le (reach-above v n t i) far
+    reading-near : (t : ℕ) → t < c .n → mag (ticks (v t)) < k
+    reading-near t i = lt-of-lt-of-le (reach-above v (c .n) t i) far
 
     end-le : up k f ≤ up k s + w
     end-le =
@@ -87,7 +78,7 @@ module _ (w need n : ℕ) (v : Readings) where
         ∙ of-T (leZ f (s +ℤ pos w)) (h .span .narrow .le))
 
     -- a reading inside the span is inside it as a natural
-    inside-up : (t : ℕ) (y : Reading) → v t ≡ y → t < n → inside s f y ≡ true → (isPresent y && A.insideSpan w (up k s) (up k (ticks y))) ≡ true
+    inside-up : (t : ℕ) (y : Reading) → v t ≡ y → t < c .n → inside s f y ≡ true → (isPresent y && A.insideSpan w (up k s) (up k (ticks y))) ≡ true
     inside-up t missing e i z = z
     inside-up t (present y) e i z =
         let near : mag y < k = subst (λ (x : Reading). mag (ticks x) < k) e (reading-near t i) in
@@ -95,49 +86,51 @@ module _ (w need n : ℕ) (v : Readings) where
         let high : up k y ≤ up k f = leb-true (up k y) (up k f) (sym (le-up k y f near end-near) ∙ and-right (leZ s y) (leZ y f) z) in
         A.inside-intro w (up k s) (up k y) low (le-trans high end-le)
 
-    pub holds-accepted : accepted w need n v r ≡ true
+    pub holds-accepted : acceptedAt c v r ≡ true
+    unfolding acceptedAt
     holds-accepted =
-        let here = inside-up r (v r) refl l (h .inside) in
-        accepted-up v n k far w need r l
-        ∙ span-accepted w (pres v n k far) (raise k v) need n r l (and-left (isPresent (v r)) _ here)
+        let here = inside-up r (v r) refl l (h .within) in
+        accepted-up v (c .n) k far w (quorum c) r l
+        ∙ span-accepted w (pres v (c .n) k far) (raise k v) (quorum c) (c .n) r l (and-left (isPresent (v r)) _ here)
         (record {
           start = up k s;
           low = A.inside-low w (up k s) (up k (ticks (v r))) (and-right (isPresent (v r)) _ here);
           high = A.inside-high w (up k s) (up k (ticks (v r))) (and-right (isPresent (v r)) _ here);
-          holds = le-trans (h .span .enough) (count-mono (λ t. inside s f (v t)) (λ t. isPresent (v t) && A.insideSpan w (up k s) (up k (ticks (v t)))) n (λ t i z. inside-up t (v t) refl i z));
+          holds = le-trans (h .span .enough) (count-mono (λ t. inside s f (v t)) (λ t. isPresent (v t) && A.insideSpan w (up k s) (up k (ticks (v t)))) (c .n) (λ t i z. inside-up t (v t) refl i z));
         })
 
--- document 01's words: a reading is accepted exactly where some span as wide as the window holds it and N-m readings
-pub accepted-span : (w need n : ℕ) (v : Readings) (r : ℕ) → r < n → (accepted w need n v r ≡ true) ↔ Holds w need n v r
-accepted-span w need n v r l = (accepted-holds w need n v r, holds-accepted w need n v r l)
+  -- document 01's words: a reading is accepted exactly where some span as wide as the window holds it and N-m readings
+  pub accepted-span : (r : ℕ) → r < c .n → (acceptedAt c v r ≡ true) ↔ SpanWith c v r
+  accepted-span r l = (accepted-holds r, holds-accepted r l)
 
--- demand 2's words: no reading is accepted exactly where no span as wide as the window holds N-m readings
-pub too-many-faults : (c : Settings) (v : Readings) → 0 < quorum c → (roundOf c v .count ≡ 0) ↔ ((s f : ℤ) → f ≤ℤ (s +ℤ pos (c .window)) → held s f v (c .n) < quorum c)
-unfolding roundOf acceptedAt
-too-many-faults c v some-need = (none, nothing)
-  where
-    acc : ℕ → Bool
-    acc r = accepted (c .window) (quorum c) (c .n) v r
+  -- an accepted cabinet's reading is present
+  inside-present : (s f : ℤ) (y : Reading) → inside s f y ≡ true → y ≡ present (ticks y)
+  inside-present s f missing h = clash h refl
+  inside-present s f (present z) h = refl
 
-    impossible : (k : ℕ) → 0 < k → k ≡ 0 → ⊥
-    impossible k h e = omega arith
+  pub accepted-present : (r : ℕ) → acceptedAt c v r ≡ true → v r ≡ present (ticks (v r))
+  accepted-present r e = let h = accepted-holds r e in inside-present (h .span .start) (h .span .end) (v r) (h .within)
 
-    none : count acc (c .n) ≡ 0 → (s f : ℤ) → f ≤ℤ (s +ℤ pos (c .window)) → held s f v (c .n) < quorum c
-    none z s f narrow =
-        lt-of-not-le
-        (λ enough.
-        let r = count-some (λ t. inside s f (v t)) (c .n) (lt-of-lt-of-le some-need enough) in
-        impossible (count acc (c .n))
-        (count-pos acc (c .n) (r .0) (r .1)
-        (holds-accepted (c .window) (quorum c) (c .n) v (r .0) (r .1) (record { span = record { start = s; end = f; narrow = narrow; enough = enough }; inside = r .2 })))
-        z)
+  -- demand 2's words: no reading is accepted exactly where no span as wide as the window holds N-m readings
+  pub too-many-faults : 0 < quorum c → (roundOf c v .count ≡ 0) ↔ (FullSpan c v → ⊥)
+  unfolding roundOf
+  too-many-faults some-need = (none, nothing)
+    where
+      impossible : (k : ℕ) → 0 < k → k ≡ 0 → ⊥
+      impossible k h e = omega arith
 
-    nothing : ((s f : ℤ) → f ≤ℤ (s +ℤ pos (c .window)) → held s f v (c .n) < quorum c) → count acc (c .n) ≡ 0
-    nothing none-holds = go (count acc (c .n)) refl
-      where
-        go : (k : ℕ) → count acc (c .n) ≡ k → k ≡ 0
-        go zero e = refl
-        go (suc k) e =
-            let r = count-some acc (c .n) (subst (λ (j : ℕ). 0 < j) (sym e) (omega arith)) in
-            let h = accepted-holds (c .window) (quorum c) (c .n) v (r .0) (r .2) in
-            absurd (not-le-of-lt (none-holds (h .span .start) (h .span .end) (h .span .narrow)) (h .span .enough))
+      none : count (acceptedAt c v) (c .n) ≡ 0 → FullSpan c v → ⊥
+      none z span =
+          let r = count-some (λ t. inside (span .start) (span .end) (v t)) (c .n) (lt-of-lt-of-le some-need (span .enough)) in
+          impossible (count (acceptedAt c v) (c .n))
+          (count-pos (acceptedAt c v) (c .n) (r .0) (r .1) (holds-accepted (r .0) (r .1) (record { span = span; within = r .2 })))
+          z
+
+      nothing : (FullSpan c v → ⊥) → count (acceptedAt c v) (c .n) ≡ 0
+      nothing none-holds = go (count (acceptedAt c v) (c .n)) refl
+        where
+          go : (k : ℕ) → count (acceptedAt c v) (c .n) ≡ k → k ≡ 0
+          go zero e = refl
+          go (suc k) e =
+              let r = count-some (acceptedAt c v) (c .n) (subst (λ (j : ℕ). 0 < j) (sym e) (omega arith)) in
+              absurd (none-holds (accepted-holds (r .0) (r .2) .span))

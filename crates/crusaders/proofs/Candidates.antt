@@ -19,7 +19,7 @@ use Rattle.arithmetic.proofs.Counting.{count-ext, count-mono}
 use Rattle.model.specs.Ensemble.{missing, present, Readings}
 use Rattle.model.specs.Steps.{same, decided, knownFaulty, decideRow}
 use Rattle.crusaders.proofs.Equality.{same-true, eq-same, present-inj, missing-present}
-use Rattle.crusaders.proofs.Decision.{copiesOf, copies-some, decide-value, decide-none}
+use Rattle.crusaders.proofs.Decision.{copiesOf, copies-some, decide-value, decide-none, decide-spent}
 use Rattle.crusaders.specs.Majority.{Candidate, holds-bits}
 use Rattle.crusaders.proofs.Majority.{vote-begin, vote-raise, vote-replace, vote-keep, majority}
 
@@ -110,6 +110,18 @@ module _ (value : ℕ → ℤ) (lim : ℕ) (one : (a b : ℕ) → a < lim → b 
     copies-encoded v h =
         count-ext (λ t. same (present (value v)) (encoded value pres bits t)) (holds-bits pres bits v) n
         (λ t l. same-encoded v t h (low t l))
+
+    -- one count of any number below lim: it is decided, or no number can be
+    module _ (c need : ℕ) (below : c < lim) where
+      pub bits-enough : n < need + need → need ≤ count (holds-bits pres bits c) n → decideRow need n (encoded value pres bits) ≡ decided (value c)
+      bits-enough most h =
+          decide-value need n (encoded value pres bits) (value c) most (omega (arith, copies-encoded c below))
+
+      pub bits-spent : count (holds-bits pres bits c) n < need → n < need + count (holds-bits pres bits c) n → decideRow need n (encoded value pres bits) ≡ knownFaulty
+      bits-spent short spent =
+          decide-spent need n (encoded value pres bits) (value c)
+          (omega (arith, copies-encoded c below))
+          (omega (arith, copies-encoded c below))
 
     -- the candidate's count decides
     module _ (c k : ℕ) (w : Candidate (holds-bits pres bits) c k n) (need : ℕ) (most : n < need + need) where

@@ -107,6 +107,17 @@ module _ (need n : ℕ) (copy : Readings) where
   pub decide-none : 0 < need → ((z : ℤ) → copiesOf copy z n < need) → decideRow need n copy ≡ knownFaulty
   decide-none some-need f = ⊎-elim (λ w. absurd (omega (arith, f (w .0), w .2))) (λ w. w .0) (decide-cases some-need)
 
+  -- a value that is short of need, and leaves fewer than need copies for all others: no value has that many
+  pub decide-spent : (z : ℤ) → copiesOf copy z n < need → n < need + copiesOf copy z n → decideRow need n copy ≡ knownFaulty
+  decide-spent z short spent = decide-none (omega arith) (λ y. go y (leb need (copiesOf copy y n)) refl)
+    where
+      go : (y : ℤ) (b : Bool) → leb need (copiesOf copy y n) ≡ b → copiesOf copy y n < need
+      go y false e = leb-false need (copiesOf copy y n) e
+      go y true e =
+          let least = leb-true need (copiesOf copy y n) e in
+          let one : y ≡ z = copies-unique copy n y z (omega arith) in
+          absurd (omega (arith, ap (λ (x : ℤ). copiesOf copy x n) one))
+
   -- a row's decision is unique: two values that have need copies each are one
   pub need-unique : (a b : ℤ) → n < need + need → need ≤ copiesOf copy a n → need ≤ copiesOf copy b n → a ≡ b
   need-unique a b most p q = copies-unique copy n a b (omega arith)

@@ -13,12 +13,12 @@ use mir.Val.{toZ}
 use Rattle.arithmetic.specs.Counting.{count}
 use Rattle.arithmetic.proofs.Bools.{and-left, and-right}
 use Rattle.model.specs.RoundSheet.{word}
-use Rattle.model.specs.Steps.{decided, knownFaulty}
+use Rattle.model.specs.Steps.{decided, knownFaulty, decideRow}
 use Rattle.crusaders.specs.Majority.{Candidate, holds-bits}
 use Rattle.crusaders.proofs.Majority.{vote-lower}
-use Rattle.crusaders.proofs.Candidates.{bits-begin, bits-agree, bits-replace, bits-missing, bits-decide, toZ-one}
+use Rattle.crusaders.proofs.Candidates.{bits-begin, bits-agree, bits-replace, bits-missing, bits-enough, bits-spent, bits-decide, toZ-one}
 use Rattle.arithmetic.proofs.Bools.{or-left, or-right}
-use Rattle.decisions.specs.Rows.{presentAt, bitsAt, Elected, rowDecision}
+use Rattle.decisions.specs.Rows.{presentAt, bitsAt, copyAt, Elected, Fitting, rowDecision}
 
 module _ (marks row : List ℕ) where
   -- the copy t is present and holds v
@@ -86,29 +86,54 @@ module _ (marks row : List ℕ) where
     unfolding rowDecision
     decision-unfit e = rw (le-ltb 64 (length marks) few, sym test ∙ e)
 
-    module _ (f : b ≡ false) where
-      rest : (not (eqb (length row) (4 * length marks)) || leb need (length marks / 2)) ≡ false
-      rest = sym test ∙ f
+    pub fitting : b ≡ false → Fitting need marks row
+    fitting f =
+        let rest : (not (eqb (length row) (4 * length marks)) || leb need (length marks / 2)) ≡ false = sym test ∙ f in
+        let sizes = or-left (not (eqb (length row) (4 * length marks))) (leb need (length marks / 2)) rest in
+        let half = or-right (not (eqb (length row) (4 * length marks))) (leb need (length marks / 2)) rest in
+        record {
+          few = few;
+          sized = eqb-true (length row) (4 * length marks) (not-false (eqb (length row) (4 * length marks)) sizes);
+          most = omega (arith, leb-false need (length marks / 2) half);
+        }
 
-      pub fit-row : length row ≡ 4 * length marks
-      fit-row = eqb-true (length row) (4 * length marks) (not-false (eqb (length row) (4 * length marks)) (or-left (not (eqb (length row) (4 * length marks))) (leb need (length marks / 2)) rest))
+  module _ (need : ℕ) (fit : Fitting need marks row) (low : (t : ℕ) → bitsAt row t < 4294967296) where
+    row-decided : decideRow need (length marks) (copyAt marks row) ≡ rowDecision need marks row
+    unfolding rowDecision
+    row-decided =
+        rw (le-ltb 64 (length marks) (fit .few), eq-eqb (length row) (4 * length marks) (fit .sized), lt-leb need (length marks / 2) (omega (arith, fit .most)))
 
-      fit-most : length marks < need + need
-      fit-most = omega (arith, leb-false need (length marks / 2) (or-right (not (eqb (length row) (4 * length marks))) (leb need (length marks / 2)) rest))
+    -- one count of a value
+    module _ (c : ℕ) (below : c < 4294967296) (n : ℕ) (counted : n ≡ count (holds c) (length marks)) where
+      pub decision-enough : need ≤ n → decided (toZ w32 c) ≡ rowDecision need marks row
+      decision-enough l =
+          sym
+          (bits-enough (toZ w32) 4294967296 toZ-one (presentAt marks) (bitsAt row) (length marks) (λ t _. low t) c need below (fit .most)
+          (omega arith))
+          ∙ row-decided
 
-      module _ (c : ℕ) (elected : Elected marks row c) (low : (t : ℕ) → bitsAt row t < 4294967296) (n : ℕ) (counted : n ≡ count (holds c) (length marks)) where
-        candidate-decides : cond (leb need n) (decided (toZ w32 c)) knownFaulty ≡ rowDecision need marks row
-        unfolding rowDecision
-        candidate-decides =
-            rw (le-ltb 64 (length marks) few, rest, counted)
-            (sym
-            (bits-decide (toZ w32) 4294967296 toZ-one (presentAt marks) (bitsAt row) (length marks) (λ t _. low t) c (elected .lead) (elected .vote) need fit-most))
+      pub decision-spent : n < need → length marks - need < n → knownFaulty ≡ rowDecision need marks row
+      decision-spent l h =
+          sym
+          (bits-spent (toZ w32) 4294967296 toZ-one (presentAt marks) (bitsAt row) (length marks) (λ t _. low t) c need below
+          (omega arith)
+          (omega arith))
+          ∙ row-decided
 
-        pub decision-short : n < need → knownFaulty ≡ rowDecision need marks row
-        decision-short l = rw (lt-leb need n l) at candidate-decides
+    -- the count of the vote's candidate
+    module _ (c : ℕ) (elected : Elected marks row c) (n : ℕ) (counted : n ≡ count (holds c) (length marks)) where
+      candidate-decides : cond (leb need n) (decided (toZ w32 c)) knownFaulty ≡ rowDecision need marks row
+      candidate-decides =
+          rw counted
+          (sym
+          (bits-decide (toZ w32) 4294967296 toZ-one (presentAt marks) (bitsAt row) (length marks) (λ t _. low t) c (elected .lead) (elected .vote) need (fit .most)))
+          ∙ row-decided
 
-        pub decision-bits : need ≤ n → decided (toZ w32 c) ≡ rowDecision need marks row
-        decision-bits l = rw (le-leb need n l) at candidate-decides
+      pub decision-short : n < need → knownFaulty ≡ rowDecision need marks row
+      decision-short l = rw (lt-leb need n l) at candidate-decides
+
+      pub decision-bits : need ≤ n → decided (toZ w32 c) ≡ rowDecision need marks row
+      decision-bits l = rw (le-leb need n l) at candidate-decides
 
 -- four bytes make a number of 32 bits
 pub bits-low : (row : List ℕ) → ((i : ℕ) → getD row i 0 < 256) → (t : ℕ) → bitsAt row t < 4294967296

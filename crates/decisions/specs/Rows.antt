@@ -2,11 +2,13 @@
 --   presentAt, bitsAt   a copy's mark is 1; its number
 --   copyAt              the copy
 --   Elected             the candidate of the majority vote
+--   Fitting             a row that the definition decides
+--   Tells               what the count of one value's copies tells of the decision
 --   decisionOf          what this crate's enum says in document 01's terms
 --   rowDecision         document 01's decision of a row of at most 64 copies, of which need are more than half
 use mathlib.Core.Bool.{Bool, cond, not, _||_}
 use mathlib.Core.List.{List}
-use Prim.Native.Nat.{ℕ, _*_, _/_}
+use Prim.Native.Nat.{ℕ, _+_, _*_, _/_, _≤_, _<_}
 use lib.Dec.{leb, ltb, eqb}
 use lib.ListN.{length, getD}
 use mir.Syntax.{w32}
@@ -17,6 +19,8 @@ use Rattle.model.specs.Steps.{Decision, decided, knownFaulty, decideRow}
 use Rattle.crusaders.specs.Majority.{Candidate, holds-bits}
 use Rattle.decisions.specs.declared.Decided.{Decided}
 use Rattle.decisions.specs.declared.Decided.the-variants.{Bits, KnownFaulty}
+use Rattle.decisions.specs.declared.Tried.{Tried}
+use mathlib.Core.Path.{_≡_}
 
 abbrev pub presentAt : List ℕ → ℕ → Bool
 presentAt marks t = eqb (getD marks t 0) 1
@@ -41,3 +45,14 @@ unfit need marks row = ltb 64 (length marks) || (not (eqb (length row) (4 * leng
 
 unfoldable pub rowDecision : ℕ → List ℕ → List ℕ → Decision
 rowDecision need marks row = cond (unfit need marks row) knownFaulty (decideRow need (length marks) (copyAt marks row))
+
+-- at most 64 copies, four bytes for each, of which need are more than half
+pub record Fitting (need : ℕ) (marks row : List ℕ) : Type 0 where
+  pub few : length marks ≤ 64
+  pub sized : length row ≡ 4 * length marks
+  pub most : length marks < need + need
+
+abbrev pub Tells : Tried → ℕ → List ℕ → List ℕ → Type 0
+Tells (Tried.Bits b) need marks row = decided (toZ w32 b) ≡ rowDecision need marks row
+Tells Tried.KnownFaulty need marks row = knownFaulty ≡ rowDecision need marks row
+Tells Tried.Open need marks row = Unit {0}

@@ -1,12 +1,13 @@
-// The crusaders decision of a row: a majority vote finds the one value that can have enough copies, and one count decides.
+// The crusaders decision of a row. The copies of its first values are counted without a branch, which decides most rows; where that leaves it
+// open, a majority vote finds the one value that can have enough copies, and one count decides.
 ghost use mathlib.Core.Path.{_≡_};
 ghost use mathlib.Core.Bool.{not, _&&_, _||_};
-ghost use Prim.Native.Nat.{_+_, _*_, _/_, _≤_, _<_};
+ghost use Prim.Native.Nat.{_+_, _*_, _-_, _/_, _≤_, _<_};
 ghost use lib.Dec.{leb, eqb};
 ghost use lib.ListN.{length};
 ghost use Rattle.arithmetic.specs.Counting.{count};
 ghost use Rattle.crusaders.specs.Majority.{holds-bits};
-ghost use Rattle.decisions.specs.Rows.{presentAt, bitsAt, Elected, decisionOf, rowDecision};
+ghost use Rattle.decisions.specs.Rows.{presentAt, bitsAt, Elected, Fitting, Tells, decisionOf, rowDecision};
 
 // The bits of the decided value, or "known faulty".
 pub enum Decided {
@@ -68,6 +69,80 @@ fn count_copies(marks: &[u8], row: &[u8], value: u32) -> u32
     copies
 }
 
+// The copies whose values are counted before a vote.
+const TRIES: usize = 2;
+
+// What a count of one value's copies tells of a row: that the value is decided, that no value is, or neither.
+enum Tried {
+    Bits(u32),
+    KnownFaulty,
+    Open,
+}
+
+// How many copies may differ from the decided value.
+fn spare(n: usize, need: u32) -> u32
+    requires { ⌜ n ≤ 64 ⌝ }
+    ensures { λ r. ⌜ r ≡ n - need ⌝ }
+{
+    if (n as u32) < need {
+        0
+    } else {
+        (n as u32) - need
+    }
+}
+
+// Counts the copies of the value of copy t.
+fn try_copy(marks: &[u8], row: &[u8], need: u32, t: usize) -> Tried
+    requires { ⌜ Fitting need (now marks) (now row) × (t < length (now marks)) ⌝ }
+    ensures { λ r. ⌜ Tells r need (now (marks .entry)) (now (row .entry)) ⌝ }
+{
+    let value = copy_bits(row, t);
+    let copies = count_copies(marks, row, value);
+    if need <= copies {
+        return Tried::Bits(value);
+    }
+    if spare(marks.len(), need) < copies {
+        return Tried::KnownFaulty;
+    }
+    Tried::Open
+}
+
+// Tries the first copies until one tells.
+fn try_copies(marks: &[u8], row: &[u8], need: u32) -> Tried
+    requires { ⌜ Fitting need (now marks) (now row) ⌝ }
+    ensures { λ r. ⌜ Tells r need (now (marks .entry)) (now (row .entry)) ⌝ }
+{
+    let mut t: usize = 0;
+    'copies: while t < marks.len() {
+        if TRIES <= t {
+            return Tried::Open;
+        }
+        match try_copy(marks, row, need, t) {
+            Tried::Bits(value) => {
+                return Tried::Bits(value);
+            }
+            Tried::KnownFaulty => {
+                return Tried::KnownFaulty;
+            }
+            Tried::Open => {}
+        }
+        t += 1;
+    }
+    Tried::Open
+}
+
+// The decision by a vote.
+fn elect(marks: &[u8], row: &[u8], need: u32) -> Decided
+    requires { ⌜ Fitting need (now marks) (now row) ⌝ }
+    ensures { λ r. ⌜ decisionOf r ≡ rowDecision need (now (marks .entry)) (now (row .entry)) ⌝ }
+{
+    let candidate = vote(marks, row);
+    if count_copies(marks, row, candidate) < need {
+        return Decided::KnownFaulty;
+    }
+    Decided::Bits(candidate)
+}
+
 fn misfit(need: u32, marks: usize, row: usize) -> bool
     requires { ⌜ marks ≤ 64 ⌝ }
     ensures { λ r. ⌜ r ≡ (not (eqb row (4 * marks)) || leb need (marks / 2)) ⌝ }
@@ -85,9 +160,9 @@ pub fn decide(marks: &[u8], row: &[u8], need: u32) -> Decided
     if misfit(need, marks.len(), row.len()) {
         return Decided::KnownFaulty;
     }
-    let candidate = vote(marks, row);
-    if count_copies(marks, row, candidate) < need {
-        return Decided::KnownFaulty;
+    match try_copies(marks, row, need) {
+        Tried::Bits(value) => Decided::Bits(value),
+        Tried::KnownFaulty => Decided::KnownFaulty,
+        Tried::Open => elect(marks, row, need),
     }
-    Decided::Bits(candidate)
 }

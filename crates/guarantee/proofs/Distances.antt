@@ -13,7 +13,8 @@ use Rattle.arithmetic.proofs.Shift.{up, down-up, dist-down}
 
 -- the distance of two numbers that reach no further than k
 pub dist-up : (k : ℕ) (a b : ℤ) → mag a < k → mag b < k → natAbs (a -ℤ b) ≡ up k a - up k b + (up k b - up k a)
-dist-up k a b ha hb = ap₂ (λ (y z : ℤ). natAbs (y -ℤ z)) (sym (down-up k a ha)) (sym (down-up k b hb)) ∙ dist-down k (up k a) (up k b)
+dist-up k a b ha hb =
+    ap₂ (λ (y z : ℤ). natAbs (y -ℤ z)) (sym (down-up k a ha)) (sym (down-up k b hb)) ∙ dist-down k (up k a) (up k b)
 
 -- a distance as two bounds
 pub dist-above : (k d : ℕ) (a b : ℤ) → mag a < k → mag b < k → natAbs (a -ℤ b) ≤ d → up k a ≤ up k b + d

@@ -1,6 +1,6 @@
--- What a sound cabinet reads in a round: the readings that its sheet's entries make. A sound sender that holds z is read as z, by FCA
--- always, by CCA where at most m are faulty; where fewer than N-m are, it is read as z or not at all. Two sound cabinets that both
--- decide a row decide it alike. All readings are of 32 bits.
+-- What a sound cabinet reads in a round: the readings that its sheet's entries make. A sound sender that holds z is
+-- read as z, by FCA always, by CCA where at most m are faulty; where fewer than N-m are, it is read as z or not at
+-- all. Two sound cabinets that both decide a row decide it alike. All readings are of 32 bits.
 -- Assumes nothing.
 use mathlib.Core.Bool.{Bool, true, false, cond}
 use mathlib.Core.Logic.{_⊎_, inl, inr, ⊎-elim}
@@ -37,7 +37,9 @@ module _ (st : Station) (now : State) (x : Sends) where
   unfolding entryOf
   direct-entry p e b = rw b
 
-  relayed-entry : (p r s : ℕ) → s < N st → eqb (st .settings .rule) cca ≡ true → entryOf st now x p (r * N st + s) ≡ copiesTo p r s
+  relayed-entry :
+      (p r s : ℕ) → s < N st → eqb (st .settings .rule) cca ≡ true
+      → entryOf st now x p (r * N st + s) ≡ copiesTo p r s
   unfolding entryOf
   relayed-entry p r s l b = rw (b, digits-div r l, digits-mod r l)
 
@@ -62,36 +64,49 @@ module _ (st : Station) (now : State) (x : Sends) where
     unfolding seen
     seen-direct p r b = read-direct c (entryOf st now x p) r b ∙ direct-entry p r b
 
-    pub seen-decided : (p r : ℕ) → eqb (st .settings .rule) cca ≡ true → seen p r ≡ decidedReading (decideRow (N st - m st) (N st) (copiesTo p r))
+    pub seen-decided :
+        (p r : ℕ) → eqb (st .settings .rule) cca ≡ true
+        → seen p r ≡ decidedReading (decideRow (N st - m st) (N st) (copiesTo p r))
     unfolding seen
     seen-decided p r b =
         read-decided c (entryOf st now x p) r b
         ∙ ap decidedReading
-        (decide-ext (N st - m st) (N st) (λ s. entryOf st now x p (r * N st + s)) (copiesTo p r) (λ s l. relayed-entry p r s l b))
+        (decide-ext (N st - m st) (N st) (λ s. entryOf st now x p (r * N st + s)) (copiesTo p r)
+        (λ s l. relayed-entry p r s l b))
 
     module _ (planned : 3 * m st < N st) where
       -- a sound sender that holds z is read as z
-      pub seen-held : (p r : ℕ) (z : ℤ) → st .sound r ≡ true → now .held r ≡ present z → faults (st .sound) (N st) ≤ m st → seen p r ≡ present z
+      pub seen-held :
+          (p r : ℕ) (z : ℤ) → st .sound r ≡ true → now .held r ≡ present z → faults (st .sound) (N st) ≤ m st
+          → seen p r ≡ present z
       seen-held p r z sr h few =
           ⊎-elim
-          (λ b. seen-decided p r b ∙ held-read (st .sound) (N st) (m st) planned (copiesTo p r) z (λ s l ss. copies-held p r s sr ss ∙ h) few)
+          (λ b. seen-decided p r b ∙ held-read (st .sound) (N st) (m st) planned (copiesTo p r) z
+          (λ s l ss. copies-held p r s sr ss ∙ h) few)
           (λ b. seen-direct p r b ∙ heard-sound r p sr ∙ h)
           (both-ways (eqb (st .settings .rule) cca))
 
       -- or, where more are faulty, not at all
-      pub seen-held-or-not : (p r : ℕ) (z : ℤ) → st .sound r ≡ true → now .held r ≡ present z → faults (st .sound) (N st) < N st - m st → (seen p r ≡ present z) ⊎ (seen p r ≡ missing)
+      pub seen-held-or-not :
+          (p r : ℕ) (z : ℤ) → st .sound r ≡ true → now .held r ≡ present z → faults (st .sound) (N st) < N st - m st
+          → (seen p r ≡ present z) ⊎ (seen p r ≡ missing)
       seen-held-or-not p r z sr h few =
           ⊎-elim
           (λ b.
           ⊎-elim (λ e. inl (seen-decided p r b ∙ e)) (λ e. inr (seen-decided p r b ∙ e))
-          (held-read-or-not (st .sound) (N st) (m st) planned (copiesTo p r) z (λ s l ss. copies-held p r s sr ss ∙ h) few))
+          (held-read-or-not (st .sound) (N st) (m st) planned (copiesTo p r) z
+          (λ s l ss. copies-held p r s sr ss ∙ h) few))
           (λ b. inl (seen-direct p r b ∙ heard-sound r p sr ∙ h))
           (both-ways (eqb (st .settings .rule) cca))
 
       -- CCA: a row that two cabinets decide they decide alike
-      pub seen-alike : (p q r : ℕ) (a b : ℤ) → eqb (st .settings .rule) cca ≡ true → faults (st .sound) (N st) ≤ m st → seen p r ≡ present a → seen q r ≡ present b → a ≡ b
+      pub seen-alike :
+          (p q r : ℕ) (a b : ℤ) → eqb (st .settings .rule) cca ≡ true → faults (st .sound) (N st) ≤ m st
+          → seen p r ≡ present a → seen q r ≡ present b
+          → a ≡ b
       seen-alike p q r a b e few sa sb =
-          read-alike (st .sound) (N st) (m st) planned (copiesTo p r) (copiesTo q r) a b (λ s l ss. copies-alike p q r s ss) few
+          read-alike (st .sound) (N st) (m st) planned (copiesTo p r) (copiesTo q r) a b
+          (λ s l ss. copies-alike p q r s ss) few
           (sym (seen-decided p r e) ∙ sa)
           (sym (seen-decided q r e) ∙ sb)
 
@@ -104,7 +119,9 @@ module _ (st : Station) (now : State) (x : Sends) where
   ticks-fit missing i = record { sfits = omega arith }
   ticks-fit (present z) i = i
 
-  is-reading-cond : (b : Bool) (y z : Reading) → (b ≡ true → IsReading y) → (b ≡ false → IsReading z) → IsReading (cond b y z)
+  is-reading-cond :
+      (b : Bool) (y z : Reading) → (b ≡ true → IsReading y) → (b ≡ false → IsReading z)
+      → IsReading (cond b y z)
   is-reading-cond true y z f g = f refl
   is-reading-cond false y z f g = g refl
 
@@ -114,16 +131,21 @@ module _ (st : Station) (now : State) (x : Sends) where
     heard-reading r s l = is-reading-cond (st .sound r) (now .held r) (x .sent r s) (held r l) (λ e. allowed .sent r s)
 
     copies-reading : (p r s : ℕ) → r < N st → IsReading (copiesTo p r s)
-    copies-reading p r s l = is-reading-cond (st .sound s) (heard st now x r s) (x .relayed r s p) (λ e. heard-reading r s l) (λ e. allowed .relayed r s p)
+    copies-reading p r s l =
+        is-reading-cond (st .sound s) (heard st now x r s) (x .relayed r s p) (λ e. heard-reading r s l)
+        (λ e. allowed .relayed r s p)
 
     pub seen-reading : (w p r : ℕ) → r < N st → m st < N st → IsReading (seen w p r)
     seen-reading w p r l few =
         ⊎-elim
-        (λ b. subst⁻¹ IsReading (seen-decided w p r b) (decided-reading (decidedReading (decideRow (N st - m st) (N st) (copiesTo p r))) refl))
+        (λ b. subst⁻¹ IsReading (seen-decided w p r b)
+        (decided-reading (decidedReading (decideRow (N st - m st) (N st) (copiesTo p r))) refl))
         (λ b. subst⁻¹ IsReading (seen-direct w p r b) (heard-reading r p l))
         (both-ways (eqb (st .settings .rule) cca))
       where
-        decided-reading : (y : Reading) → decidedReading (decideRow (N st - m st) (N st) (copiesTo p r)) ≡ y → IsReading y
+        decided-reading :
+            (y : Reading) → decidedReading (decideRow (N st - m st) (N st) (copiesTo p r)) ≡ y
+            → IsReading y
         decided-reading missing e = tt
         decided-reading (present z) e =
             read-all (SFits w32) (N st - m st) (N st) (copiesTo p r) z (omega arith)

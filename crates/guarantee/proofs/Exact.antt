@@ -1,10 +1,10 @@
--- The exact limits hold: `exact-limits` is the theorem that specs/Exact.antt states. What the mean makes of (m+t)δ more, and
--- of (m+t)δ less, is `rise` and `fall` of the naturals. Document 01's own limits follow (`exact-wide`).
+-- The exact limits hold: `exact-limits` is the theorem that specs/Exact.antt states. What the mean makes of (m+t)δ
+-- more, and of (m+t)δ less, is `rise` and `fall` of the naturals. Document 01's own limits follow (`exact-wide`).
 -- Assumes nothing.
 use mathlib.Core.Bool.{Bool}
 use mathlib.Core.List.{List, [], _∷_}
-use mathlib.Core.Path.{_≡_, sym, ap, ap₂, _∙_}
-use Prim.Native.Nat.{ℕ, _+_, _*_, _-_, _/_, _≤_, _<_}
+use mathlib.Core.Path.{_≡_, ap, ap₂, _∙_}
+use Prim.Native.Nat.{ℕ, _+_, _*_, _-_, _/_, _<_}
 use native.Mathlib.Nat.{le-trans, mul-assoc, mul-comm, add-mul, add-mul-div-right}
 use native.Mathlib.Omega.{arith}
 use lib.IntN.{ℤ, pos, _+ℤ_, _-ℤ_}
@@ -16,8 +16,8 @@ use Rattle.rounds.specs.Naturals.{mean-nat}
 use Rattle.rounds.proofs.Shifted.{mean-down}
 use Rattle.limits.proofs.Means.{rise, fall, mean-shift, fall-room, fall-le, fall-least, rise-ceil, rise-fall-ceil}
 use Rattle.guarantee.specs.Guarantee.{Station, N, m, δ, κ, Start, Sends, Allowed, Each, start}
-use Rattle.guarantee.specs.Guarantee.{apart, Good, bad, First, Wide, wideGap, wideError}
-use Rattle.guarantee.specs.Exact.{near, excess, exactGap, exactError, Exact, Sharper, ExactFirst, ExactLimits}
+use Rattle.guarantee.specs.Guarantee.{apart, Good, bad, First, Wide, wideGap}
+use Rattle.guarantee.specs.Exact.{excess, exactGap, exactError, Exact, Sharper, ExactFirst, ExactLimits}
 use Rattle.guarantee.proofs.Ready.{ready-start, some-n}
 use Rattle.guarantee.proofs.Round.{many-precise, many-accurate}
 

@@ -1,9 +1,9 @@
--- Demand 3 holds: `guarantee` is the theorem that specs/Guarantee.antt states. The good set of the first round is the given
--- one; after it all sound cabinets are good, for the next window and the next accuracy.
+-- Demand 3 holds: `guarantee` is the theorem that specs/Guarantee.antt states. The good set of the first round is the
+-- given one; after it all sound cabinets are good, for the next window and the next accuracy.
 -- Assumes nothing.
 use mathlib.Core.Bool.{Bool}
 use mathlib.Core.List.{List, [], _∷_}
-use mathlib.Core.Path.{_≡_, refl, sym, ap, _∙_, subst}
+use mathlib.Core.Path.{_≡_, sym, ap, _∙_}
 use Prim.Native.Nat.{ℕ, suc, _+_, _≤_, _<_}
 use native.Mathlib.Nat.{le-trans, zero-add}
 use native.Mathlib.Omega.{arith}
@@ -11,10 +11,13 @@ use lib.IntN.{ℤ}
 use lib.ListN.{length}
 use Rattle.model.specs.declared.Settings.{Settings}
 use Rattle.model.specs.Planner.{Plan, advance, nextWindow, growth, withWindow}
-use Rattle.guarantee.specs.Guarantee.{Station, m, Start, Sends, Allowed, State, start, next, newValue, apart, Good}
+use Rattle.guarantee.specs.Guarantee.{Station, m, Start, Sends, Allowed, State, start, next, newValue, apart}
+use Rattle.guarantee.specs.Guarantee.{Good}
 use Rattle.guarantee.specs.Guarantee.{bad, Every, closeGap, closeError, Close, Each, Demand3}
-use Rattle.guarantee.proofs.Ready.{Ready, plan-settings, next-plan, orderly, ready-next, ready-start, every-orderly}
-use Rattle.guarantee.proofs.Round.{stationAt, faults-bad, round-unrefused, round-precise, round-accurate, round-present}
+use Rattle.guarantee.proofs.Ready.{Ready, plan-settings, next-plan, orderly, ready-next, ready-start}
+use Rattle.guarantee.proofs.Ready.{every-orderly}
+use Rattle.guarantee.proofs.Round.{stationAt, faults-bad, round-unrefused, round-precise, round-accurate}
+use Rattle.guarantee.proofs.Round.{round-present}
 use Rattle.guarantee.proofs.Exact.{exact-limits, exact-wide}
 
 module _ (st : Station) (begins : Start st) (truth : ℤ) where

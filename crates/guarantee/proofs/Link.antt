@@ -1,5 +1,6 @@
--- From bytes to the round: the sheet that a sound cabinet fills passes checks 1 to 9, and settling it gives the round of what the cabinet
--- reads. It is refused exactly where no reading is accepted; else bytes 6 to 9 of its answer sheet are the round's new value.
+-- From bytes to the round: the sheet that a sound cabinet fills passes checks 1 to 9, and settling it gives the round
+-- of what the cabinet reads. It is refused exactly where no reading is accepted; else bytes 6 to 9 of its answer sheet
+-- are the round's new value.
 -- Assumes nothing.
 use mathlib.Core.Bool.{true, false}
 use mathlib.Core.List.{List}
@@ -19,10 +20,10 @@ use Rattle.arithmetic.proofs.Bools.{both-ways}
 use Rattle.crusaders.proofs.Decision.{decide-ext}
 use Rattle.crusaders.proofs.Rows.{read-direct, read-decided}
 use Rattle.model.specs.declared.Settings.{Settings}
-use Rattle.model.specs.Ensemble.{missing, present, Readings, ticks, quorum}
+use Rattle.model.specs.Ensemble.{present, Readings, ticks, quorum}
 use Rattle.model.specs.RoundSheet.{cca, settingsAt, entryCount, entryAt, sheetLength, sheetBytes}
 use Rattle.model.specs.AnswerSheet.{answerLength, answerBytes}
-use Rattle.model.specs.Refusals.{Row, refusal, orNext, firstOf, settingsChecks, entryChecks, settleChecks, noRoom, tooManyFaults}
+use Rattle.model.specs.Refusals.{refusal, firstOf, settingsChecks, settleChecks, tooManyFaults}
 use Rattle.model.specs.Calls.{granted, refused, Outcome, writtenAfter, write, settle}
 use Rattle.model.specs.Planner.{withWindow}
 use Rattle.model.specs.Steps.{Round, decidedReading, readingsOf, roundOf, roundAt}
@@ -36,13 +37,17 @@ use Rattle.guarantee.specs.Guarantee.{Station, N, Sends, Allowed, State,
 use Rattle.guarantee.proofs.Entries.{seen}
 
 -- readings depend on the entries below E alone
-pub readings-local : (c : Settings) (f g : Readings) → EqualBelow (entryCount c) f g → EqualBelow (c .n) (readingsOf c f) (readingsOf c g)
+pub readings-local :
+    (c : Settings) (f g : Readings) → EqualBelow (entryCount c) f g
+    → EqualBelow (c .n) (readingsOf c f) (readingsOf c g)
 unfolding entryCount
 readings-local c f g same r l =
     ⊎-elim
     (λ b.
     read-decided c f r b
-    ∙ ap decidedReading (decide-ext (quorum c) (c .n) (λ s. f (r * c .n + s)) (λ s. g (r * c .n + s)) (λ s k. same (r * c .n + s) (relayed b (digits-lt l k))))
+    ∙ ap decidedReading
+    (decide-ext (quorum c) (c .n) (λ s. f (r * c .n + s)) (λ s. g (r * c .n + s))
+    (λ s k. same (r * c .n + s) (relayed b (digits-lt l k))))
     ∙ sym (read-decided c g r b))
     (λ b. read-direct c f r b ∙ same r (direct b) ∙ sym (read-direct c g r b))
     (both-ways (eqb (c .rule) cca))

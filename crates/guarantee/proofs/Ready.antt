@@ -1,6 +1,6 @@
--- Every round of every run, however many are bad: before it the plan is the planner's, and what sound cabinets hold are
--- readings of 32 bits (`Ready`). So each sheet passes checks 1 to 9, and is granted or refused under 10; the plan's step is
--- granted; and the next state is ready.
+-- Every round of every run, however many are bad: before it the plan is the planner's, and what sound cabinets hold
+-- are readings of 32 bits (`Ready`). So each sheet passes checks 1 to 9, and is granted or refused under 10; the
+-- plan's step is granted; and the next state is ready.
 -- Assumes nothing.
 use mathlib.Core.Bool.{true}
 use mathlib.Core.List.{List, [], _∷_}
@@ -52,20 +52,21 @@ module _ (st : Station) (begins : Start st) (j : ℕ) (now : State) (ready : Rea
       subst⁻¹ (λ (p : Plan). p .settings ≡ withWindow (st .settings) (p .settings .window)) (ready .plan)
       (settings-after j (planFrom (st .settings) (κ st)))
 
-  pub within : Limits c
-  within =
+  pub limits-hold : Limits c
+  limits-hold =
       subst Limits plan-settings
       (subst⁻¹ (λ (p : Plan). Limits (p .settings)) (ready .plan)
-      (passes-after j (planFrom (st .settings) (κ st)) (none-may-start (st .settings) (κ st) 0 (begins .grants) .passes)))
+      (passes-after j (planFrom (st .settings) (κ st))
+      (none-may-start (st .settings) (κ st) 0 (begins .grants) .passes)))
 
   pub some-n : 0 < N st
-  some-n = within .someCabinet
+  some-n = limits-hold .someCabinet
 
   pub planned : 3 * m st < N st
-  planned = omega (arith, within .faults)
+  planned = omega (arith, limits-hold .faults)
 
   pass : firstOf (settingsChecks c) ≡ none
-  pass = limits-pass c within
+  pass = limits-pass c limits-hold
 
   pub step-granted : j < 32 → step (now .plan) ≡ granted (advance (now .plan))
   step-granted l =

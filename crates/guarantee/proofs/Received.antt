@@ -1,5 +1,5 @@
--- What a cabinet reads in a round, moved up into the naturals: its round is the round of those naturals, moved down, and 32 bits hold
--- its new value.
+-- What a cabinet reads in a round, moved up into the naturals: its round is the round of those naturals, moved down,
+-- and 32 bits hold its new value.
 -- Assumes nothing.
 use mathlib.Core.Path.{_≡_, sym, subst}
 use Prim.Native.Nat.{ℕ, _≤_, _<_}
@@ -39,10 +39,14 @@ module _ (c : Settings) (v : Readings) (reads : (r : ℕ) → r < c .n → IsRea
   represented : (k : ℕ) → bias ≤ k → EqualBelow (c .n) v (shifted k (λ r. isPresent (v r)) (λ r. up k (ticks (v r))))
   represented k h r l = sym (shift-raise k (v r) (lt-of-lt-of-le (reading-mag (v r) (reads r l)) h))
 
-  pub received-count : (k : ℕ) → bias ≤ k → roundOf c v .count ≡ count (accepts (c .n) (c .m) (c .window) (received k)) (c .n)
+  pub received-count :
+      (k : ℕ) → bias ≤ k
+      → roundOf c v .count ≡ count (accepts (c .n) (c .m) (c .window) (received k)) (c .n)
   received-count k h = round-count c (λ r. isPresent (v r)) (λ r. up k (ticks (v r))) v k (represented k h)
 
-  pub received-value : (k : ℕ) → bias ≤ k → 0 < c .n → 0 < roundOf c v .count → roundOf c v .value ≡ down k (valueBy (c .n) (c .m) (c .window) (received k))
+  pub received-value :
+      (k : ℕ) → bias ≤ k → 0 < c .n → 0 < roundOf c v .count
+      → roundOf c v .value ≡ down k (valueBy (c .n) (c .m) (c .window) (received k))
   received-value k h some-n some-acc =
       round-value c (λ r. isPresent (v r)) (λ r. up k (ticks (v r))) v k (represented k h) some-n
       (subst (λ (a : ℕ). 0 < a) (received-count k h) some-acc)

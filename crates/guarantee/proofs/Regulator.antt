@@ -1,5 +1,5 @@
--- The regulator's case follows from `exact-limits` and `guarantee`: their limits at N 7, m 2 and t 3 or 4, and the plans
--- that the steps hand on, in numbers.
+-- The regulator's case follows from `exact-limits` and `guarantee`: their limits at N 7, m 2 and t 3 or 4, and the
+-- plans that the steps hand on, in numbers.
 -- Assumes nothing.
 use mathlib.Core.Bool.{Bool, true, false, cond, _&&_}
 use mathlib.Core.List.{List, [], _∷_}

@@ -1,12 +1,12 @@
 -- One round of a run, from a state in which a set is good: present, within the plan's accuracy of true and within its
--- window of each other. Where at most m are not good, no cabinet refuses, and new values lie within the next window of each
--- other and within the accuracy with its growth of true. Where more are bad, but fewer than N-m, those that do not refuse
--- lie within the wider limits.
+-- window of each other. Where at most m are not good, no cabinet refuses, and new values lie within the next window of
+-- each other and within the accuracy with its growth of true. Where more are bad, but fewer than N-m, those that do
+-- not refuse lie within the wider limits.
 --   stationAt         a state as the station that starts from it
 -- Assumes nothing.
 use mathlib.Core.Bool.{Bool, true, false, not, cond, _&&_}
 use mathlib.Core.Logic.{⊎-elim}
-use mathlib.Core.Path.{_≡_, refl, ap, _∙_, subst, subst⁻¹}
+use mathlib.Core.Path.{_≡_, refl, ap, subst, subst⁻¹}
 use Prim.Native.Nat.{ℕ, suc, _+_, _*_, _-_, _≤_, _<_}
 use native.Mathlib.Nat.{le-trans, lt-of-lt-of-le, lt-of-le-of-lt, one-mul}
 use native.Mathlib.Omega.{arith}
@@ -28,8 +28,10 @@ use Rattle.model.specs.AnswerSheet.{answerLength}
 use Rattle.model.specs.Planner.{ceilDiv, windowFactor, nextWindow, growth, withWindow}
 use Rattle.model.specs.Calls.{granted}
 use Rattle.limits.proofs.Means.{rise, fall}
-use Rattle.limits.proofs.Settled.{Receiver, accepts, valueBy, CloseValues, GoodAlike, BothAlike, Spread, ReadsSome, Few, Reads, Truth}
-use Rattle.limits.proofs.Limits.{Accurate, accuracy-many, precision-many, unrefused, accuracy-few, precision-few, precision-median}
+use Rattle.limits.proofs.Settled.{Receiver, accepts, valueBy, CloseValues, GoodAlike, BothAlike, Spread, ReadsSome, Few}
+use Rattle.limits.proofs.Settled.{Reads, Truth}
+use Rattle.limits.proofs.Limits.{Accurate, accuracy-many, precision-many, unrefused, accuracy-few, precision-few}
+use Rattle.limits.proofs.Limits.{precision-median}
 use Rattle.guarantee.specs.Guarantee.{IsReading, Station, N, m, Start, Sends, Allowed, State, settled, next}
 use Rattle.guarantee.specs.Guarantee.{newValue, Unrefused, apart, Good, bad}
 use Rattle.guarantee.proofs.Distances.{dist-above, dist-below, dist-of, fits-mag}
@@ -61,9 +63,12 @@ not-mono false true f e = f refl
 not-mono false false f e = refl
 
 -- the faulty ones are among the bad
-pub faults-bad : (st : Station) (now : State) (good : ℕ → Bool) (truth : ℤ) → Good (stationAt st now) good truth → faults (st .sound) (N st) ≤ bad st good
+pub faults-bad :
+    (st : Station) (now : State) (good : ℕ → Bool) (truth : ℤ) → Good (stationAt st now) good truth
+    → faults (st .sound) (N st) ≤ bad st good
 faults-bad st now good truth stand =
-    count-mono (λ s. not (st .sound s)) (λ s. not (good s)) (N st) (λ s l. not-mono (st .sound s) (good s) (stand .sound s l))
+    count-mono (λ s. not (st .sound s)) (λ s. not (good s)) (N st)
+    (λ s l. not-mono (st .sound s) (good s) (stand .sound s l))
 
 module _ (st : Station) (begins : Start st) (j : ℕ) (now : State) (ready : Ready st j now) (x : Sends)
     (allowed : Allowed st x) (good : ℕ → Bool) (truth : ℤ) (stand : Good (stationAt st now) good truth) where
@@ -107,9 +112,11 @@ module _ (st : Station) (begins : Start st) (j : ℕ) (now : State) (ready : Rea
   true-time =
       record {
         above = λ r l e.
-            dist-above far (now .plan .accuracy) (ticks (now .held r)) truth (held-near r l e) truth-near (stand .accurate r l e);
+            dist-above far (now .plan .accuracy) (ticks (now .held r)) truth (held-near r l e) truth-near
+            (stand .accurate r l e);
         below = λ r l e.
-            dist-below far (now .plan .accuracy) (ticks (now .held r)) truth (held-near r l e) truth-near (stand .accurate r l e);
+            dist-below far (now .plan .accuracy) (ticks (now .held r)) truth (held-near r l e) truth-near
+            (stand .accurate r l e);
       }
 
   held-here : (r : ℕ) → r < N st → good r ≡ true → now .held r ≡ present (ticks (now .held r))
@@ -127,7 +134,9 @@ module _ (st : Station) (begins : Start st) (j : ℕ) (now : State) (ready : Rea
       (stand .sound r l e) (held-here r l e) (lt-of-le-of-lt faults-few many))
 
   accepts-here : (p : ℕ) → (0 < found st now x w p .count) → 0 < count (accepts (N st) (m st) w (has p)) (N st)
-  accepts-here p = subst (λ (a : ℕ). 0 < a) (received-count c (seen st now x w p) (reads st begins j now ready x allowed p) far far-enough)
+  accepts-here p =
+      subst (λ (a : ℕ). 0 < a)
+      (received-count c (seen st now x w p) (reads st begins j now ready x allowed p) far far-enough)
 
   -- ---- from the naturals back
 
@@ -213,7 +222,8 @@ module _ (st : Station) (begins : Start st) (j : ℕ) (now : State) (ready : Rea
     unfolding growth
     round-accurate p =
         near-true p (some-accepted p) (now .plan .accuracy + growth c)
-        (accuracy-few (N st) (m st) w good g few-sheets (has p) (all-read p) (up far truth) (now .plan .accuracy) true-time)
+        (accuracy-few (N st) (m st) w good g few-sheets (has p) (all-read p) (up far truth)
+        (now .plan .accuracy) true-time)
 
   -- ---- fewer than N-m bad
 
@@ -245,4 +255,5 @@ module _ (st : Station) (begins : Start st) (j : ℕ) (now : State) (ready : Rea
         → apart (newValue st now x p) truth ≤ now .plan .accuracy + rise (N st) excess
     many-accurate p e =
         near-true p (some-of p e) (now .plan .accuracy + rise (N st) excess)
-        (accuracy-many (N st) (m st) w good g spread (has p) (reads-some p e) (up far truth) (now .plan .accuracy) true-time)
+        (accuracy-many (N st) (m st) w good g spread (has p) (reads-some p e) (up far truth)
+        (now .plan .accuracy) true-time)

@@ -1,13 +1,16 @@
--- The theorems are not empty: `guarantee`, `exact-limits` and `regulators-case` apply to runs of specs/Witnesses.antt, of
--- which all their hypotheses hold.
+-- The theorems are not empty: `guarantee`, `exact-limits` and `regulators-case` apply to runs of specs/Witnesses.antt,
+-- of which all their hypotheses hold.
 -- Assumes nothing.
-use mathlib.Core.Bool.{Bool}
+use mathlib.Core.Bool.{Bool, false}
 use mathlib.Core.List.{List, [], _∷_}
 use mathlib.Core.Path.{refl}
-use Prim.Native.Nat.{ℕ}
+use Prim.Native.Nat.{ℕ, _≤_}
 use lib.Dec.{lit<, lit≤}
 use lib.IntN.{ℤ, pos}
-use Rattle.guarantee.specs.Guarantee.{Station, Sends, start, Every, First, Close, Wide, Guarantee}
+use lib.ListN.{length}
+use Rattle.arithmetic.proofs.Bools.{clash}
+use Rattle.guarantee.specs.Guarantee.{Station, Start, Sends, Allowed, Each, start, Good}
+use Rattle.guarantee.specs.Guarantee.{Every, First, Orderly, Close, Wide, Guarantee}
 use Rattle.guarantee.specs.Exact.{ExactFirst}
 use Rattle.guarantee.specs.Regulator.{SevenPlannedForTwo, ThreeBad}
 use Rattle.guarantee.specs.Witnesses.{Meets, below, wideStation, wideSends, exactStation, exactSends}
@@ -22,6 +25,21 @@ promised :
     (st : Station) (rounds : List Sends) (good : ℕ → Bool) (truth : ℤ)
     → Meets st rounds good truth → Guarantee st rounds good truth
 promised st rounds good truth m = guarantee st (m .starts) rounds (m .most) (m .allowed) good truth (m .goodness)
+
+-- what holds whatever t is needs no good cabinet: the empty set is a good one
+pub every-run-orderly :
+    (st : Station) → Start st → (rounds : List Sends) → length rounds ≤ 32 → Each (Allowed st) rounds
+    → Every st (Orderly st) (start st) rounds
+every-run-orderly st begins rounds most each = guarantee st begins rounds most each (λ p. false) (pos 0) none-good .every-round
+  where
+    none-good : Good st (λ p. false) (pos 0)
+    none-good =
+        record {
+          sound = λ p l e. clash e refl;
+          present = λ p l e. clash e refl;
+          accurate = λ p l e. clash e refl;
+          precise = λ p q lp lq ep eq. clash ep refl;
+        }
 
 -- two rounds, at most m bad
 pub direct-promised :

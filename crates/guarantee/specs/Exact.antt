@@ -1,10 +1,10 @@
 -- The exact limits where more than m are bad: what document 01 states for m < t < N-m, to the tick. They are at most
 -- document 01's own (`Sharper`), which so follow from them. The theorem is `exact-limits` of proofs/Exact.antt.
 --
--- The used values of one cabinet add up to at most N times the highest good reading plus (m+t)δ, and to at least N times
--- the lowest good one less (m+t)δ. The mean's rounding never falls, and moves by k where the sum moves by kN. So new
--- values lie between the lowest good reading with near(-(m+t)δ) and the highest with near((m+t)δ), where near(s) is the
--- nearest whole number to s/N, a half going up; and good readings are at most δ apart.
+-- The used values of one cabinet add up to at most N times the highest good reading plus (m+t)δ, and to at least N
+-- times the lowest good one less (m+t)δ. The mean's rounding never falls, and moves by k where the sum moves by kN. So
+-- new values lie between the lowest good reading with near(-(m+t)δ) and the highest with near((m+t)δ), where near(s)
+-- is the nearest whole number to s/N, a half going up; and good readings are at most δ apart.
 --
 --   near                        what the mean makes of a sum of N values
 --   excess                      (m+t)δ

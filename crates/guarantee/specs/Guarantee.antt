@@ -1,7 +1,7 @@
 -- Demand 3 and document 01, "Limits for sound cabinets": how far sound cabinets can be from each other and from true
 -- time, over a whole run of 0 to 32 rounds, whatever faulty cabinets send. The theorem is `guarantee` of
--- proofs/Guarantee.antt. Beside this file, Regulator.antt has it for seven cabinets, and Witnesses.antt has rounds that
--- reach its limits.
+-- proofs/Guarantee.antt. Beside this file, Exact.antt has the limits for m < t < N-m to the tick, Regulator.antt has it
+-- for seven cabinets, and Witnesses.antt has rounds that reach its limits.
 --
 -- The run settles with `settle`, steps with `step` and fills sheets with `write` of crates/model/specs/Calls.antt: the
 -- same definitions that the functions' promises are equations with.
@@ -10,7 +10,7 @@
 -- bad first reading (the paper's Theorem 2 counts the faulty ones only); limits are whole numbers, rounded up; a
 -- reading may be missing; nothing is said of values that two cabinets share (Lemmas 5 and 7, the sharing half of
 -- Theorem 8, Theorem 10).
--- What is not claimed: anything about networks or times of delivery; more than the first round where more than m are
+-- What is not claimed: anything about networks or times of delivery; limits after the first round where more than m are
 -- bad; what the program prints.
 --
 --   Station, N, m, δ, κ, Start       what a run starts from, the paper's letters for it, and what must hold of it
@@ -20,7 +20,7 @@
 --   newValue, Unrefused, Sound, apart                words for the limits
 --   Good, bad                        the good cabinets, and t, the number of the others
 --   Every, First                     a claim about every round, and about the first
---   Orderly                          what holds whatever t is
+--   Orderly                          what holds of a round whatever t is
 --   closeGap, closeError, Close      the limits for t ≤ m
 --   wideGap, wideError, Wide         the limits for m < t < N-m
 --   Guarantee, Demand3               all three, of one run; of every run
@@ -248,6 +248,7 @@ Each Claim [] = Unit {0}
 Each Claim (x ∷ xs) = Claim x × Each Claim xs
 
 pub record Guarantee (st : Station) (rounds : List Sends) (good : ℕ → Bool) (true-value : ℤ) : Type 0 where
+  -- of every run: the empty set is good too
   pub every-round : Every st (Orderly st) (start st) rounds
   pub few : bad st good ≤ m st → Every st (Close st true-value) (start st) rounds
   pub many :

@@ -12,8 +12,8 @@
 --   CloseReached              FCA: both limits for t ≤ m
 --   MedianReached             CCA with median: the next window ⌈mδ/N⌉
 --   AverageReached            CCA with average: the next window ⌈2mδ/N⌉, where ⌈mδ/N⌉ would be too small
---   BothKindsCounted          t counts sound cabinets with a bad first reading: cases 7 and 8 as one round, which passes
---                             the limit of the paper's Theorem 2
+--   BothKindsCounted          t counts sound cabinets with a bad first reading: cases 7 and 8 as one round, which
+--                             passes the limit of the paper's Theorem 2
 --   MixedRefused              the same: at most m are faulty, yet a sound cabinet refuses
 --   DirectRounds, CrusadersRounds       FCA and CCA: two rounds, the second settled at the second window
 use mathlib.Core.Bool.{Bool, not}

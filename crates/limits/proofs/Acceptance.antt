@@ -1,5 +1,5 @@
--- Which readings are accepted: those of any span as wide as the window that holds enough readings. Every reading of such a span is
--- accepted, so an accepted reading stands in a span of enough accepted ones.
+-- Which readings are accepted: those of any span as wide as the window that holds enough readings. Every reading of
+-- such a span is accepted, so an accepted reading stands in a span of enough accepted ones.
 --   insideSpan w a y           y lies in the span of width w from a
 --   NatSpan w p x need n r     a span that holds r's number and need numbers of indices that pass p
 -- Assumes nothing.
@@ -72,7 +72,9 @@ module _ (w : ℕ) (pres : ℕ → Bool) (x : ℕ → ℕ) (need n : ℕ) where
           here = spans-from (from .0) r from-spans;
           low = inside-low w (x (from .0)) (x r) (spans-inside (from .0) r from-spans);
           high = inside-high w (x (from .0)) (x r) (spans-inside (from .0) r from-spans);
-          holds = leb-true need _ (and-right (spans w pres x (from .0) r) (leb need (count (spans w pres x (from .0)) n)) (from .2));
+          holds =
+              leb-true need _
+              (and-right (spans w pres x (from .0) r) (leb need (count (spans w pres x (from .0)) n)) (from .2));
         }
 
     pub accepted-in-span : NatSpan w pres x need n r
@@ -92,7 +94,9 @@ module _ (w : ℕ) (pres : ℕ → Bool) (x : ℕ → ℕ) (need n : ℕ) where
         }
 
   -- a present reading of a span that holds enough is accepted: the span from its lowest present reading holds as many
-  pub span-accepted : (r : ℕ) → r < n → pres r ≡ true → NatSpan w pres x need n r → accepted-nat w pres x need n r ≡ true
+  pub span-accepted :
+      (r : ℕ) → r < n → pres r ≡ true → NatSpan w pres x need n r
+      → accepted-nat w pres x need n r ≡ true
   unfolding accepted-nat
   span-accepted r l here h =
       any-true
@@ -128,11 +132,16 @@ module _ (w : ℕ) (pres : ℕ → Bool) (x : ℕ → ℕ) (need n : ℕ) where
       enough = le-trans (h .holds) (count-mono held (spans w pres x s) n reaches)
 
   -- L0, L1: spans may start anywhere
-  pub accepted-iff-span : (r : ℕ) → r < n → (accepted-nat w pres x need n r ≡ true) ↔ ((pres r ≡ true) × NatSpan w pres x need n r)
-  accepted-iff-span r l = (λ e. (accepted-present w pres x need n r e, accepted-in-span r e), λ h. span-accepted r l (h .0) (h .1))
+  pub accepted-iff-span :
+      (r : ℕ) → r < n
+      → (accepted-nat w pres x need n r ≡ true) ↔ ((pres r ≡ true) × NatSpan w pres x need n r)
+  accepted-iff-span r l =
+      (λ e. (accepted-present w pres x need n r e, accepted-in-span r e), λ h. span-accepted r l (h .0) (h .1))
 
   -- an accepted reading lies in a span that holds enough accepted ones
-  pub accepted-nat-span : (r : ℕ) → accepted-nat w pres x need n r ≡ true → NatSpan w (accepted-nat w pres x need n) x need n r
+  pub accepted-nat-span :
+      (r : ℕ) → accepted-nat w pres x need n r ≡ true
+      → NatSpan w (accepted-nat w pres x need n) x need n r
   accepted-nat-span r e =
       record {
         start = h .start;
@@ -164,7 +173,9 @@ module _ (w : ℕ) (pres : ℕ → Bool) (x : ℕ → ℕ) (need n : ℕ) where
           })
 
   -- L2: the span from the lowest accepted reading holds enough accepted ones, and so does the span up to the highest
-  pub lowest-span : (lo : Least (accepted-nat w pres x need n) x n) → need ≤ count (λ t. accepted-nat w pres x need n t && insideSpan w (x (lo .index)) (x t)) n
+  pub lowest-span :
+      (lo : Least (accepted-nat w pres x need n) x n)
+      → need ≤ count (λ t. accepted-nat w pres x need n t && insideSpan w (x (lo .index)) (x t)) n
   lowest-span lo =
       le-trans
       (h .holds)
@@ -174,14 +185,18 @@ module _ (w : ℕ) (pres : ℕ → Bool) (x : ℕ → ℕ) (need n : ℕ) where
       n
       (λ t l e.
       let a = and-left (accepted-nat w pres x need n t) (insideSpan w (h .start) (x t)) e in
-      let i = inside-high w (h .start) (x t) (and-right (accepted-nat w pres x need n t) (insideSpan w (h .start) (x t)) e) in
+      let i = inside-high w (h .start) (x t)
+      (and-right (accepted-nat w pres x need n t) (insideSpan w (h .start) (x t)) e) in
       let o = h .low in
       and-intro a (inside-intro w (x (lo .index)) (x t) (lo .first t l a) (omega arith))))
     where
       h : NatSpan w (accepted-nat w pres x need n) x need n (lo .index)
       h = accepted-nat-span (lo .index) (lo .passes)
 
-  pub highest-span : (hi : Greatest (accepted-nat w pres x need n) x n) → need ≤ count (λ t. accepted-nat w pres x need n t && (leb (x (hi .index)) (x t + w) && leb (x t) (x (hi .index)))) n
+  pub highest-span :
+      (hi : Greatest (accepted-nat w pres x need n) x n)
+      → need ≤ count
+      (λ t. accepted-nat w pres x need n t && (leb (x (hi .index)) (x t + w) && leb (x t) (x (hi .index)))) n
   highest-span hi =
       le-trans
       (h .holds)
@@ -191,9 +206,11 @@ module _ (w : ℕ) (pres : ℕ → Bool) (x : ℕ → ℕ) (need n : ℕ) where
       n
       (λ t l e.
       let a = and-left (accepted-nat w pres x need n t) (insideSpan w (h .start) (x t)) e in
-      let i = inside-low w (h .start) (x t) (and-right (accepted-nat w pres x need n t) (insideSpan w (h .start) (x t)) e) in
+      let i = inside-low w (h .start) (x t)
+      (and-right (accepted-nat w pres x need n t) (insideSpan w (h .start) (x t)) e) in
       let o = h .high in
-      and-intro a (and-intro (le-leb (x (hi .index)) (x t + w) (omega arith)) (le-leb (x t) (x (hi .index)) (hi .first t l a)))))
+      and-intro a
+      (and-intro (le-leb (x (hi .index)) (x t + w) (omega arith)) (le-leb (x t) (x (hi .index)) (hi .first t l a)))))
     where
       h : NatSpan w (accepted-nat w pres x need n) x need n (hi .index)
       h = accepted-nat-span (hi .index) (hi .passes)

@@ -1,5 +1,5 @@
--- Each estimate lies between any bounds that the accepted readings have, and so does each used value; the median is an accepted
--- reading with fewer than half of them below it and at least half at or below it.
+-- Each estimate lies between any bounds that the accepted readings have, and so does each used value; the median is an
+-- accepted reading with fewer than half of them below it and at least half at or below it.
 --   Between a b y        a ≤ y ≤ b
 -- Assumes nothing.
 use mathlib.Core.Bool.{Bool, true, false, cond}
@@ -29,7 +29,8 @@ picked-high true a y f = let l = f refl in omega arith
 picked-high false a y f = zero-le
 
 module _ (acc : ℕ → Bool) (n : ℕ) (x : ℕ → ℕ) (some-acc : 0 < count acc n) where
-  module _ (a b : ℕ) (low : (r : ℕ) → r < n → acc r ≡ true → a ≤ x r) (high : (r : ℕ) → r < n → acc r ≡ true → x r ≤ b) where
+  module _ (a b : ℕ) (low : (r : ℕ) → r < n → acc r ≡ true → a ≤ x r)
+      (high : (r : ℕ) → r < n → acc r ≡ true → x r ≤ b) where
     numbered-within : (k h : ℕ) → 0 < h → h ≤ count acc n → Between a b (numbered-nat k acc n x h)
     numbered-within k h some-h most =
         let f = numbered-found acc n x h some-h most k in
@@ -50,13 +51,15 @@ module _ (acc : ℕ → Bool) (n : ℕ) (x : ℕ → ℕ) (some-acc : 0 < count 
         least-sum =
             let c = mul-comm a (count acc n) in
             let s = scaled a in
-            let t = total-mono (λ i. bit (acc i) * a) (λ r. cond (acc r) (x r) 0) n (λ i l. picked-low (acc i) a (x i) (low i l)) in
+            let t = total-mono (λ i. bit (acc i) * a) (λ r. cond (acc r) (x r) 0) n
+            (λ i l. picked-low (acc i) a (x i) (low i l)) in
             omega arith
 
         greatest-sum : total (λ r. cond (acc r) (x r) 0) n ≤ count acc n * b
         greatest-sum =
             let s = scaled b in
-            let t = total-mono (λ r. cond (acc r) (x r) 0) (λ i. bit (acc i) * b) n (λ i l. picked-high (acc i) b (x i) (high i l)) in
+            let t = total-mono (λ r. cond (acc r) (x r) 0) (λ i. bit (acc i) * b) n
+            (λ i l. picked-high (acc i) b (x i) (high i l)) in
             omega arith
 
     median-within : (k : ℕ) → Between a b (median-nat k acc n x)
@@ -75,7 +78,9 @@ module _ (acc : ℕ → Bool) (n : ℕ) (x : ℕ → ℕ) (some-acc : 0 < count 
     unfolding estimate-nat
     estimate-within k kind = go (eqb kind average) (eqb kind median)
       where
-        go : (p q : Bool) → Between a b (cond p (average-nat acc n x) (cond q (median-nat k acc n x) (midpoint-nat k acc n x)))
+        go :
+            (p q : Bool)
+            → Between a b (cond p (average-nat acc n x) (cond q (median-nat k acc n x) (midpoint-nat k acc n x)))
         go true q = average-within
         go false true = median-within k
         go false false = midpoint-within k
@@ -88,7 +93,9 @@ module _ (acc : ℕ → Bool) (n : ℕ) (x : ℕ → ℕ) (some-acc : 0 < count 
         go false e = estimate-within k kind
 
   -- the estimate lies between the lowest and the highest accepted reading
-  pub estimate-between : (k kind : ℕ) (lo : Least acc x n) (hi : Greatest acc x n) → Between (x (lo .index)) (x (hi .index)) (estimate-nat k kind acc n x)
+  pub estimate-between :
+      (k kind : ℕ) (lo : Least acc x n) (hi : Greatest acc x n)
+      → Between (x (lo .index)) (x (hi .index)) (estimate-nat k kind acc n x)
   estimate-between k kind lo hi = estimate-within (x (lo .index)) (x (hi .index)) (lo .first) (hi .first) k kind
 
   -- the median is the accepted reading numbered half of them, rounded up

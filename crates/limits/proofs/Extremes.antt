@@ -19,7 +19,8 @@ pub record Extreme (R : ℕ → ℕ → Type 0) (p : ℕ → Bool) (x : ℕ → 
   pub passes : p index ≡ true
   pub first : (j : ℕ) → j < n → p j ≡ true → R (x index) (x j)
 
-module _ (R : ℕ → ℕ → Type 0) (either : (a b : ℕ) → R a b ⊎ R b a) (trans : (a b c : ℕ) → R a b → R b c → R a c) (p : ℕ → Bool) (x : ℕ → ℕ) where
+module _ (R : ℕ → ℕ → Type 0) (either : (a b : ℕ) → R a b ⊎ R b a) (trans : (a b c : ℕ) → R a b → R b c → R a c)
+    (p : ℕ → Bool) (x : ℕ → ℕ) where
   self : (a : ℕ) → R a a
   self a = ⊎-elim (λ e. e) (λ e. e) (either a a)
 

@@ -1,5 +1,6 @@
--- The span of an accepted reading holds all but the bad ones of n - m. So where fewer than n - m are bad, each accepted reading lies
--- within w of a good one, and each used value lies within w of the good values' hull, and in it where the reading is good and accepted.
+-- The span of an accepted reading holds all but the bad ones of n - m. So where fewer than n - m are bad, each
+-- accepted reading lies within w of a good one, and each used value lies within w of the good values' hull, and in it
+-- where the reading is good and accepted.
 --   good-in a t        t is good, accepted, and its reading lies in the span from a
 --   astray r           1 where r is not both good and accepted, else 0
 --   Near r s           r's reading lies within w of s's good value
@@ -19,7 +20,8 @@ use Rattle.rounds.proofs.Natural.{accepted-present}
 use Rattle.limits.proofs.Acceptance.{insideSpan, inside-low, inside-high, NatSpan, accepted-nat-span}
 use Rattle.limits.proofs.Counts.{count-overlap}
 use Rattle.limits.proofs.Estimates.{Between, used-within}
-use Rattle.limits.proofs.Settled.{Receiver, accepts, usedBy, used-accepted, badCount, GoodAlike, Spread, ReadsSome}
+use Rattle.limits.proofs.Settled.{Receiver, accepts, usedBy, used-accepted, badCount, GoodAlike, Spread}
+use Rattle.limits.proofs.Settled.{ReadsSome}
 
 module _ (n m w : ℕ) (v : Receiver) where
   -- a span that holds r's reading and n - m accepted ones
@@ -38,11 +40,13 @@ module _ (n m w : ℕ) (good : ℕ → Bool) (v : Receiver) where
 
   good-in-accepted : (a t : ℕ) → good-in a t ≡ true → accepts n m w v t ≡ true
   good-in-accepted a t e =
-      and-left (accepts n m w v t) (insideSpan w a (v .x t)) (and-left (accepts n m w v t && insideSpan w a (v .x t)) (good t) e)
+      and-left (accepts n m w v t) (insideSpan w a (v .x t))
+      (and-left (accepts n m w v t && insideSpan w a (v .x t)) (good t) e)
 
   good-in-inside : (a t : ℕ) → good-in a t ≡ true → insideSpan w a (v .x t) ≡ true
   good-in-inside a t e =
-      and-right (accepts n m w v t) (insideSpan w a (v .x t)) (and-left (accepts n m w v t && insideSpan w a (v .x t)) (good t) e)
+      and-right (accepts n m w v t) (insideSpan w a (v .x t))
+      (and-left (accepts n m w v t && insideSpan w a (v .x t)) (good t) e)
 
   pub good-in-good : (a t : ℕ) → good-in a t ≡ true → good t ≡ true
   good-in-good a t e = and-right (accepts n m w v t && insideSpan w a (v .x t)) (good t) e
@@ -56,7 +60,11 @@ module _ (n m w : ℕ) (good : ℕ → Bool) (v : Receiver) where
 
   pub astray-count : total astray n + count (λ r. accepts n m w v r && good r) n ≡ n
   astray-count =
-      omega (arith, count-total (λ r. not (accepts n m w v r && good r)) n, count-not (λ r. accepts n m w v r && good r) n)
+      omega (
+        arith,
+        count-total (λ r. not (accepts n m w v r && good r)) n,
+        count-not (λ r. accepts n m w v r && good r) n,
+      )
 
   -- K: where something is accepted, n - m are, and at most the bad ones of those are not good
   pub astray-few : 0 < count (accepts n m w v) n → m ≤ n → total astray n ≤ m + badCount n good
@@ -86,7 +94,9 @@ pub record Strays (n m w : ℕ) (good : ℕ → Bool) (v : Receiver) (a b r : �
 
 module _ (n m w : ℕ) (good : ℕ → Bool) (g : ℕ → ℕ) (v : Receiver) where
   -- the good ones in a span lie within w of each reading in it
-  pub good-near : GoodAlike n good g v → (r s : ℕ) (h : SpanOf n m w v r) → s < n → good-in n m w good v (h .start) s ≡ true → Near w g v r s
+  pub good-near :
+      GoodAlike n good g v → (r s : ℕ) (h : SpanOf n m w v r) → s < n → good-in n m w good v (h .start) s ≡ true
+      → Near w g v r s
   good-near alike r s h l e =
       let i = good-in-inside n m w good v (h .start) s e in
       let a = inside-low w (h .start) (v .x s) i in
@@ -100,11 +110,13 @@ module _ (n m w : ℕ) (good : ℕ → Bool) (g : ℕ → ℕ) (v : Receiver) wh
     near-good : (r : ℕ) → accepts n m w v r ≡ true → (i : ℕ) × (i < n) × (good i ≡ true) × Near w g v r i
     near-good r e =
         let p = span-of n m w v r e in
-        let f = count-some (good-in n m w good v (p .start)) n (omega (arith, good-in-many n m w good v r p, h .many)) in
+        let f = count-some (good-in n m w good v (p .start)) n
+        (omega (arith, good-in-many n m w good v r p, h .many)) in
         (f .0, f .1, good-in-good n m w good v (p .start) (f .0) (f .2), good-near (s .alike) r (f .0) p (f .1) (f .2))
 
     -- bounds a and b of the good values
-    module _ (a b : ℕ) (low : (i : ℕ) → i < n → good i ≡ true → a ≤ g i) (high : (i : ℕ) → i < n → good i ≡ true → g i ≤ b) where
+    module _ (a b : ℕ) (low : (i : ℕ) → i < n → good i ≡ true → a ≤ g i)
+        (high : (i : ℕ) → i < n → good i ≡ true → g i ≤ b) where
       used-near : (r : ℕ) → r < n → Between (a - w) (b + w) (usedBy n m w v r)
       used-near r l =
           used-within

@@ -1,6 +1,6 @@
--- The limits of one round. With at most m bad nobody is refused, a new value strays from the true one by at most the growth planned,
--- and two new values differ by at most the next window. With more, but fewer than n - m, bad the wider limits hold. By counting: each
--- used value is bounded row by row, the bounds are summed, and the mean of n follows.
+-- The limits of one round. With at most m bad nobody is refused, a new value strays from the true one by at most the
+-- growth planned, and two new values differ by at most the next window. With more, but fewer than n - m, bad the wider
+-- limits hold. By counting: each used value is bounded row by row, the bounds are summed, and the mean of n follows.
 --   unrefused                              every good reading is accepted
 --   accuracy-few, precision-few            any estimators
 --   precision-median                       medians, where both read alike what both have
@@ -10,13 +10,13 @@ use mathlib.Core.Bool.{Bool, true, false, not, _&&_}
 use mathlib.Core.Logic.{⊎-elim}
 use mathlib.Core.Path.{_≡_, refl, sym, ap, _∙_}
 use Prim.Native.Nat.{ℕ, _+_, _*_, _-_, _/_, _≤_, _<_}
-use native.Mathlib.Nat.{le-trans, mul-assoc, mul-comm, mul-le-mul-right, add-mul, one-mul}
+use native.Mathlib.Nat.{le-trans, mul-assoc, mul-comm, mul-le-mul-right, one-mul}
 use native.Mathlib.Omega.{arith}
 use Rattle.arithmetic.specs.Counting.{bit, count}
 use Rattle.arithmetic.proofs.Bools.{both-ways, clash, and-right, and-intro}
 use Rattle.arithmetic.proofs.Counting.{count-mono, count-not, share}
 use Rattle.arithmetic.specs.Naturals.{total}
-use Rattle.arithmetic.proofs.Sums.{total-add, total-const, total-scale, count-total}
+use Rattle.arithmetic.proofs.Sums.{total-const, total-scale, count-total}
 use Rattle.model.specs.Planner.{ceilDiv}
 use Rattle.model.specs.RoundSheet.{median}
 use Rattle.limits.proofs.Extremes.{Least, Greatest, least, greatest}
@@ -24,8 +24,10 @@ use Rattle.limits.proofs.Means.{rise, fall, mean-rise, mean-fall, fall-
 use Rattle.limits.proofs.Acceptance.{insideSpan, inside-intro, NatSpan, span-accepted}
 use Rattle.limits.proofs.Ranks.{Numbered}
 use Rattle.limits.proofs.Estimates.{Between, used-within, median-numbered}
-use Rattle.limits.proofs.Settled.{Receiver, accepts, estimateBy, usedBy, valueBy, used-accepted, used-replaced, badCount, BothAlike, Spread, ReadsSome, Few, Reads, Truth}
-use Rattle.limits.proofs.Hull.{SpanOf, span-of, accepts-present, good-in, good-in-good, good-in-many, astray, astray-count, astray-few, Near, Strays, good-near, used-strays}
+use Rattle.limits.proofs.Settled.{Receiver, accepts, estimateBy, usedBy, valueBy, used-accepted, used-replaced}
+use Rattle.limits.proofs.Settled.{badCount, BothAlike, Spread, ReadsSome, Few, Reads, Truth}
+use Rattle.limits.proofs.Hull.{SpanOf, span-of, accepts-present, good-in, good-in-good, good-in-many, astray}
+use Rattle.limits.proofs.Hull.{astray-count, astray-few, Near, Strays, good-near, used-strays}
 use Rattle.limits.proofs.Medians.{alone, median-above, median-below}
 
 -- a value within d of the true one
@@ -40,7 +42,8 @@ module _ (n m w : ℕ) (good : ℕ → Bool) (g : ℕ → ℕ) where
     some-n : 0 < n
     some-n = omega (arith, h .many)
 
-    module _ (v : Receiver) (s : ReadsSome n m w good g v) (most : ℕ) (sums : total (astray n m w good v) n ≤ most) where
+    module _ (v : Receiver) (s : ReadsSome n m w good g v) (most : ℕ)
+        (sums : total (astray n m w good v) n ≤ most) where
       -- bounds a and b of the good values: the used values add up to at most n times b and the window once for each row
       -- that is not both good and accepted, and to at least n times a less as much
       module _ (a b : ℕ)
@@ -51,12 +54,14 @@ module _ (n m w : ℕ) (good : ℕ → Bool) (g : ℕ → ℕ) where
 
         value-above : valueBy n m w v ≤ b + rise n (most * w)
         value-above =
-            let c = total-close n some-n w (astray n m w good v) most sums (usedBy n m w v) (λ _. b) (λ r l. row r l .above) in
+            let c = total-close n some-n w (astray n m w good v) most sums (usedBy n m w v) (λ _. b)
+            (λ r l. row r l .above) in
             mean-rise n some-n (total (usedBy n m w v) n) b (most * w) (omega (arith, total-const b n))
 
         value-below : a ≤ valueBy n m w v + fall n (most * w)
         value-below =
-            let c = total-close n some-n w (astray n m w good v) most sums (λ _. a) (usedBy n m w v) (λ r l. row r l .below) in
+            let c = total-close n some-n w (astray n m w good v) most sums (λ _. a) (usedBy n m w v)
+            (λ r l. row r l .below) in
             mean-fall n some-n (total (usedBy n m w v) n) a (most * w) (omega (arith, total-const a n))
 
       -- a new value is within κ, and what the mean makes of those rows, of the true one
@@ -82,8 +87,10 @@ module _ (n m w : ℕ) (good : ℕ → Bool) (g : ℕ → ℕ) where
         → valueBy n m w p
         ≤ valueBy n m w q + (w + (rise n ((m + badCount n good) * w) + fall n ((m + badCount n good) * w)))
     precision-many p q sp sq =
-        let a = value-above p sp (m + badCount n good) (astray-most p sp) (g (lo .index)) (g (hi .index)) (lo .first) (hi .first) in
-        let b = value-below q sq (m + badCount n good) (astray-most q sq) (g (lo .index)) (g (hi .index)) (lo .first) (hi .first) in
+        let a = value-above p sp (m + badCount n good) (astray-most p sp) (g (lo .index)) (g (hi .index)) (lo .first)
+        (hi .first) in
+        let b = value-below q sq (m + badCount n good) (astray-most q sq) (g (lo .index)) (g (hi .index)) (lo .first)
+        (hi .first) in
         omega (arith, h .close (hi .index) (lo .index) (hi .inRange) (lo .inRange) (hi .passes) (lo .passes))
       where
         some-good : 0 < count good n
@@ -132,7 +139,8 @@ module _ (n m w : ℕ) (good : ℕ → Bool) (g : ℕ → ℕ) where
                     (count-mono good
                     (λ t. v .pres t && insideSpan w (g (lo .index)) (v .x t))
                     n
-                    (λ t k q. and-intro (s .here t k q) (inside-intro w (g (lo .index)) (v .x t) (low t k q) (high t k q))));
+                    (λ t k q. and-intro (s .here t k q)
+                    (inside-intro w (g (lo .index)) (v .x t) (low t k q) (high t k q))));
               }
 
       pub enough-accepted : n - m ≤ count (accepts n m w v) n
@@ -171,9 +179,12 @@ module _ (n m w : ℕ) (good : ℕ → Bool) (g : ℕ → ℕ) where
 
     module _ (p q : Receiver) (sp : Reads n good g p) (sq : Reads n good g q) where
       -- used values that differ by at most j windows, and at the bad ones only
-      apart-few : (j : ℕ) → ((r : ℕ) → r < n → usedBy n m w p r ≤ usedBy n m w q r + j * w) → valueBy n m w p ≤ valueBy n m w q + ceilDiv (j * (m * w)) n
+      apart-few :
+          (j : ℕ) → ((r : ℕ) → r < n → usedBy n m w p r ≤ usedBy n m w q r + j * w)
+          → valueBy n m w p ≤ valueBy n m w q + ceilDiv (j * (m * w)) n
       apart-few j far =
-          rw (← mul-assoc j m w) (mean-stray n (some-n few-spread) w apart (j * m) sums (usedBy n m w p) (usedBy n m w q) row)
+          rw (← mul-assoc j m w)
+          (mean-stray n (some-n few-spread) w apart (j * m) sums (usedBy n m w p) (usedBy n m w q) row)
         where
           apart : ℕ → ℕ
           apart r = bit (not (good r)) * j
@@ -203,12 +214,20 @@ module _ (n m w : ℕ) (good : ℕ → Bool) (g : ℕ → ℕ) where
           span′ : SpanOf n m w q s
           span′ = span-of n m w q s b
 
-          shared : (t : ℕ) × (t < n) × (good-in n m w good p (span .start) t ≡ true) × (good-in n m w good q (span′ .start) t ≡ true)
+          many : n - m ≤ count (good-in n m w good p (span .start)) n + badCount n good
+          many = good-in-many n m w good p r span
+
+          many′ : n - m ≤ count (good-in n m w good q (span′ .start)) n + badCount n good
+          many′ = good-in-many n m w good q s span′
+
+          shared :
+              (t : ℕ) × (t < n)
+              × (good-in n m w good p (span .start) t ≡ true) × (good-in n m w good q (span′ .start) t ≡ true)
           shared =
               share (good-in n m w good p (span .start)) (good-in n m w good q (span′ .start)) good n
               (λ t _ e. good-in-good n m w good p (span .start) t e)
               (λ t _ e. good-in-good n m w good q (span′ .start) t e)
-              (omega (arith, h .planned, h .few, count-not good n, good-in-many n m w good p r span, good-in-many n m w good q s span′))
+              (omega (arith, h .planned, h .few, count-not good n, many, many′))
 
           near : Near w g p r (shared .0)
           near = good-near n m w good g p (sp .alike) r (shared .0) span (shared .1) (shared .2)
@@ -227,7 +246,8 @@ module _ (n m w : ℕ) (good : ℕ → Bool) (g : ℕ → ℕ) where
               omega (arith, used-between p sp r l .high, used-between q sq r l .low)
 
     -- where q settles by the median: an accepted reading at p lies within w of it
-    module _ (p q : Receiver) (sp : Reads n good g p) (sq : Reads n good g q) (agree : BothAlike n p q) (kind : q .kind ≡ median) where
+    module _ (p q : Receiver) (sp : Reads n good g p) (sq : Reads n good g q) (agree : BothAlike n p q)
+        (kind : q .kind ≡ median) where
       -- p alone accepts bad ones only
       few-alone : count (alone (accepts n m w p) (accepts n m w q)) n ≤ m
       few-alone =
@@ -251,14 +271,18 @@ module _ (n m w : ℕ) (good : ℕ → Bool) (g : ℕ → ℕ) where
 
       median-high : (r : ℕ) → accepts n m w p r ≡ true → p .x r ≤ estimateBy n m w q + w
       median-high r e =
-          median-above n m w (accepts n m w p) (accepts n m w q) (p .x) (q .x) same r (span-of n m w p r e) (h .planned) few-alone _ the-median
+          median-above n m w (accepts n m w p) (accepts n m w q) (p .x) (q .x) same r (span-of n m w p r e)
+          (h .planned) few-alone _ the-median
 
       median-low : (r : ℕ) → accepts n m w p r ≡ true → estimateBy n m w q ≤ p .x r + w
       median-low r e =
-          median-below n m w (accepts n m w p) (accepts n m w q) (p .x) (q .x) same r (span-of n m w p r e) (h .planned) few-alone _ the-median
+          median-below n m w (accepts n m w p) (accepts n m w q) (p .x) (q .x) same r (span-of n m w p r e)
+          (h .planned) few-alone _ the-median
 
     -- rows that neither accepts count too: the median at p is itself an accepted reading there
-    pub precision-median : (p q : Receiver) → Reads n good g p → Reads n good g q → BothAlike n p q → p .kind ≡ median → q .kind ≡ median → valueBy n m w p ≤ valueBy n m w q + ceilDiv (m * w) n
+    pub precision-median :
+        (p q : Receiver) → Reads n good g p → Reads n good g q → BothAlike n p q → p .kind ≡ median → q .kind ≡ median
+        → valueBy n m w p ≤ valueBy n m w q + ceilDiv (m * w) n
     precision-median p q sp sq agree kp kq = rw one-mul at (apart-few p q sp sq 1 far)
       where
         agree′ : BothAlike n q p
@@ -267,7 +291,9 @@ module _ (n m w : ℕ) (good : ℕ → Bool) (g : ℕ → ℕ) where
         own : Numbered (accepts n m w p) n (p .x) ((count (accepts n m w p) n + 1) / 2) (estimateBy n m w p)
         own = the-median q p sq sp agree′ kp
 
-        row : (r : ℕ) → r < n → (a b : Bool) → accepts n m w p r ≡ a → accepts n m w q r ≡ b → usedBy n m w p r ≤ usedBy n m w q r + w
+        row :
+            (r : ℕ) → r < n → (a b : Bool) → accepts n m w p r ≡ a → accepts n m w q r ≡ b
+            → usedBy n m w p r ≤ usedBy n m w q r + w
         row r l true true a b =
             omega (arith, used-accepted n m w p r a, used-accepted n m w q r b, same p q sp sq agree kq r l a b)
         row r l true false a b =
@@ -275,7 +301,8 @@ module _ (n m w : ℕ) (good : ℕ → Bool) (g : ℕ → ℕ) where
         row r l false true a b =
             omega (arith, used-replaced n m w p r a, used-accepted n m w q r b, median-low q p sq sp agree′ kp r b)
         row r l false false a b =
-            omega (arith, used-replaced n m w p r a, used-replaced n m w q r b, own .number, median-high p q sp sq agree kq (own .index) (own .admitted))
+            let high = median-high p q sp sq agree kq (own .index) (own .admitted) in
+            omega (arith, used-replaced n m w p r a, used-replaced n m w q r b, own .number)
 
         far : (r : ℕ) → r < n → usedBy n m w p r ≤ usedBy n m w q r + 1 * w
         far r l = omega (arith, row r l (accepts n m w p r) (accepts n m w q r) refl refl)

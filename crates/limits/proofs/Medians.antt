@@ -1,5 +1,5 @@
--- Two receivers that read alike what both accept: an accepted reading of the one lies within w of the median of the other, where at
--- most m are accepted by the one alone and n is above 3m.
+-- Two receivers that read alike what both accept: an accepted reading of the one lies within w of the median of the
+-- other, where at most m are accepted by the one alone and n is above 3m.
 -- Assumes nothing.
 use mathlib.Core.Bool.{Bool, true, not, _&&_}
 use mathlib.Core.Logic.{⊎-elim}
@@ -28,7 +28,8 @@ module _ (n m w : ℕ) (acc acc′ : ℕ → Bool) (x y : ℕ → ℕ) where
       omega (arith, count-not acc′ n)
 
   -- the span of r's reading at the one: of its accepted readings all but those of the one alone are the other's too
-  module _ (agree : (t : ℕ) → t < n → acc t ≡ true → acc′ t ≡ true → x t ≡ y t) (r : ℕ) (h : NatSpan w acc x (n - m) n r) where
+  module _ (agree : (t : ℕ) → t < n → acc t ≡ true → acc′ t ≡ true → x t ≡ y t) (r : ℕ)
+      (h : NatSpan w acc x (n - m) n r) where
     held : ℕ → Bool
     held t = acc t && insideSpan w (h .start) (x t)
 
@@ -60,10 +61,12 @@ module _ (n m w : ℕ) (acc acc′ : ℕ → Bool) (x y : ℕ → ℕ) where
           omega (arith, h .holds)
 
     -- if r's reading lay further off, the span would be on one side of the median, with more than half of the other's
-    module _ (planned : 3 * m < n) (few : count (alone acc acc′) n ≤ m) (e : ℕ) (med : Numbered acc′ n y ((count acc′ n + 1) / 2) e) where
+    module _ (planned : 3 * m < n) (few : count (alone acc acc′) n ≤ m) (e : ℕ)
+        (med : Numbered acc′ n y ((count acc′ n + 1) / 2) e) where
       pub median-above : x r ≤ e + w
       median-above =
-          ⊎-elim (leb-true (x r) (e + w)) (λ f. absurd (too-many (leb-false (x r) (e + w) f))) (both-ways (leb (x r) (e + w)))
+          ⊎-elim (leb-true (x r) (e + w)) (λ f. absurd (too-many (leb-false (x r) (e + w) f)))
+          (both-ways (leb (x r) (e + w)))
         where
           too-many : e + w < x r → ⊥
           too-many l =

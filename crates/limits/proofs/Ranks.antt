@@ -1,6 +1,7 @@
--- The number h from below among those that a test admits is there for every h from 1 to their count, without a sort: it is the least
--- at or below which h of them stand.
---   Numbered acc n x h e       e is the number of an index that acc admits, h of them are at or below it, and fewer below it
+-- The number h from below among those that a test admits is there for every h from 1 to their count, without a sort:
+-- it is the least at or below which h of them stand.
+--   Numbered acc n x h e       e is the number of an index that acc admits, h of them are at or below it, and fewer
+--                              below it
 -- Assumes nothing.
 use mathlib.Core.Bool.{Bool, true, _&&_}
 use mathlib.Core.Logic.{⊎-elim}
@@ -71,7 +72,8 @@ module _ (acc : ℕ → Bool) (n : ℕ) (x : ℕ → ℕ) (h : ℕ) where
     any-enough : 0 < count enough n
     any-enough =
         let hi = greatest acc x n (omega arith) in
-        let c = count-mono acc (λ s. acc s && leb (x s) (x (hi .index))) n (λ s l a. and-intro a (le-leb _ _ (hi .first s l a))) in
+        let c = count-mono acc (λ s. acc s && leb (x s) (x (hi .index))) n
+        (λ s l a. and-intro a (le-leb _ _ (hi .first s l a))) in
         count-pos enough n (hi .index) (hi .inRange) (enough-intro (hi .index) (hi .passes) (le-trans most c))
 
     first-enough : Least enough x n
@@ -94,7 +96,9 @@ module _ (acc : ℕ → Bool) (n : ℕ) (x : ℕ → ℕ) (h : ℕ) where
         (λ f. clash (numbered-exists .2) (f .1 (numbered-exists .0) (numbered-exists .1)))
         (lowest-cases (is-numbered acc n x h) n)
       where
-        of : (r : ℕ) → r < n → is-numbered acc n x h r ≡ true → nat-at k x (lowest (is-numbered acc n x h) n) ≡ x r → Numbered acc n x h (nat-at k x (lowest (is-numbered acc n x h) n))
+        of :
+            (r : ℕ) → r < n → is-numbered acc n x h r ≡ true → nat-at k x (lowest (is-numbered acc n x h) n) ≡ x r
+            → Numbered acc n x h (nat-at k x (lowest (is-numbered acc n x h) n))
         of r l e q =
             let rest = and-right (acc r) _ e in
             rw q

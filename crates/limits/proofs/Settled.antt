@@ -2,7 +2,8 @@
 --   Receiver                    the readings that a receiver has, and its estimator
 --   accepts, estimateBy,        which of them it accepts; its estimate; the value that it uses for each of the n;
 --   usedBy, valueBy             its new value
---   Spread, ReadsSome           fewer than n - m are bad; a receiver reads the good ones alike, or not at all, and is not refused
+--   Spread, ReadsSome           fewer than n - m are bad; a receiver reads the good ones alike, or not at all, and is
+--                               not refused
 --   Few, Reads                  at most m are bad; a receiver reads every good one alike
 --   Truth                       the good values lie within κ of the true one
 -- Assumes nothing.

@@ -24,23 +24,23 @@ use Rattle.guarantee.specs.Witnesses.{listed, station, twoFaced, Meets}
 
 -- ---- readings of 32 bits
 
-abbrev pub fits : Reading → Bool
-fits missing = true
-fits (present z) = ltb (mag z) 2_147_483_648
+abbrev pub fits32 : Reading → Bool
+fits32 missing = true
+fits32 (present z) = ltb (mag z) 2_147_483_648
 
 abbrev pub all-fit : List Reading → Bool
 all-fit [] = true
-all-fit (r ∷ rs) = fits r && all-fit rs
+all-fit (r ∷ rs) = fits32 r && all-fit rs
 
-reading-tested : (r : Reading) → fits r ≡ true → IsReading r
+reading-tested : (r : Reading) → fits32 r ≡ true → IsReading r
 reading-tested missing e = tt
 reading-tested (present z) e = sfits-lit (to-T e)
 
 readings-tested : (rs : List Reading) → all-fit rs ≡ true → (p : ℕ) → IsReading (listed rs p)
 unfolding listed
 readings-tested [] e p = tt
-readings-tested (r ∷ rs) e zero = reading-tested r (and-left (fits r) (all-fit rs) e)
-readings-tested (r ∷ rs) e (suc p) = readings-tested rs (and-right (fits r) (all-fit rs) e) p
+readings-tested (r ∷ rs) e zero = reading-tested r (and-left (fits32 r) (all-fit rs) e)
+readings-tested (r ∷ rs) e (suc p) = readings-tested rs (and-right (fits32 r) (all-fit rs) e) p
 
 pub sends-tested :
     (st : Station) (told relays : List Reading) → (all-fit told && all-fit relays) ≡ true
@@ -55,7 +55,9 @@ sends-tested st told relays e =
 -- ---- the good set
 
 -- a test that no index fails
-tested : (p q : ℕ → Bool) (n : ℕ) → anyBelow (λ i. p i && not (q i)) n ≡ false → (i : ℕ) → i < n → p i ≡ true → q i ≡ true
+tested :
+    (p q : ℕ → Bool) (n : ℕ) → anyBelow (λ i. p i && not (q i)) n ≡ false → (i : ℕ) → i < n → p i ≡ true
+    → q i ≡ true
 tested p q n e i l h = go (q i) refl
   where
     go : (b : Bool) → q i ≡ b → b ≡ true
@@ -63,12 +65,12 @@ tested p q n e i l h = go (q i) refl
     go false f = clash (any-true (λ j. p j && not (q j)) n i l (and-intro h (rw f))) e
 
 module _ (st : Station) (good : ℕ → Bool) (truth : ℤ) where
-  abbrev pub near : ℕ → ℕ → Bool
-  near p q = leb (apart (ticks (st .first p)) (ticks (st .first q))) (δ st)
+  abbrev pub near-each : ℕ → ℕ → Bool
+  near-each p q = leb (apart (ticks (st .first p)) (ticks (st .first q))) (δ st)
 
   -- p reads within δ of every good cabinet, and within κ of true
   abbrev pub near-good : ℕ → Bool
-  near-good p = not (anyBelow (λ q. good q && not (near p q)) (N st))
+  near-good p = not (anyBelow (λ q. good q && not (near-each p q)) (N st))
 
   abbrev pub near-truth : ℕ → Bool
   near-truth p = leb (apart (ticks (st .first p)) truth) (κ st)
@@ -87,7 +89,7 @@ module _ (st : Station) (good : ℕ → Bool) (truth : ℤ) where
         sound = λ p l g. and-left (st .sound p) _ (is-fine p l g);
         present = λ p l g. and-left (isPresent (st .first p)) _ (and-right (st .sound p) _ (is-fine p l g));
         accurate = λ p l g. leb-true _ _ (and-left (near-truth p) _ (is-near p l g));
-        precise = λ p q lp lq gp gq. leb-true _ _ (tested good (near p) (N st) (none-far p lp gp) q lq gq);
+        precise = λ p q lp lq gp gq. leb-true _ _ (tested good (near-each p) (N st) (none-far p lp gp) q lq gq);
       }
     where
       is-fine : (p : ℕ) → p < N st → good p ≡ true → fine p ≡ true
@@ -96,12 +98,13 @@ module _ (st : Station) (good : ℕ → Bool) (truth : ℤ) where
       is-near : (p : ℕ) → p < N st → good p ≡ true → (near-truth p && near-good p) ≡ true
       is-near p l g = and-right (isPresent (st .first p)) _ (and-right (st .sound p) _ (is-fine p l g))
 
-      none-far : (p : ℕ) → p < N st → good p ≡ true → anyBelow (λ q. good q && not (near p q)) (N st) ≡ false
+      none-far : (p : ℕ) → p < N st → good p ≡ true → anyBelow (λ q. good q && not (near-each p q)) (N st) ≡ false
       none-far p l g = not-true _ (and-right (near-truth p) (near-good p) (is-near p l g))
 
 -- ---- a run
 
-module _ (c : Settings) (accuracy k : ℕ) (first : List Reading) (rounds : List Sends) (good : ℕ → Bool) (truth : ℤ) where
+module _ (c : Settings) (accuracy k : ℕ) (first : List Reading) (rounds : List Sends) (good : ℕ → Bool)
+    (truth : ℤ) where
   pub meets-tested :
       (firstOf (planChecks c accuracy 0) ≡ none)
       × (all-fit first ≡ true)

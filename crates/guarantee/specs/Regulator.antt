@@ -5,8 +5,9 @@
 -- The answer, for seven cabinets planned for two faults, by either rule with any estimator:
 --   three bad        after the first round two sound cabinets that do not refuse are at most δ + 2 near(5δ) apart, and
 --                    each is within κ + near(5δ) of true, near(5δ) being the nearest whole number to 5δ/7. No smaller
---                    gap would be true: crates/sharpness/specs/Sharpness.antt has a round that reaches it at every
---                    window. Document 01's own limits, ⌈17δ/7⌉ and κ + ⌈5δ/7⌉, are the same or one tick more.
+--                    numbers would be true: crates/sharpness/specs/Sharpness.antt has a round that reaches both, at
+--                    every window of at most 2κ (good readings cannot be further apart). Document 01's own limits,
+--                    ⌈17δ/7⌉ and κ + ⌈5δ/7⌉, are the same or one tick more
 --   four bad         the same with 6δ for 5δ and 19δ for 17δ
 --   at most two bad  no sound cabinet refuses, and after round 1, 2, 3, .. they are at most δ₁, δ₂, δ₃, .. apart, where
 --                    δ₁ is ⌈4δ/7⌉, δ₂ is ⌈4δ₁/7⌉ and so on (⌈2δ/7⌉, ⌈2δ₁/7⌉, .. for CCA with median), and within

@@ -14,6 +14,8 @@ use planner::Planned;
 use round::Settled;
 use sheet_writer::Filled;
 
+mod answers;
+
 // The settings, as C lays them out.
 #[repr(C)]
 pub struct Sizes {

@@ -1,0 +1,116 @@
+-- The answer sheet that settling granted passes its checks and shows the round's fields: its bytes are those that settling wrote, and every
+-- number of the round has 32 bits.
+-- Assumes nothing.
+use mathlib.Core.Bool.{true, false}
+use mathlib.Core.List.{List, [], _++_, append-nil}
+use mathlib.Core.Option.{none}
+use mathlib.Core.Path.{_≡_, sym, ap, _∙_, subst⁻¹}
+use Prim.Native.Nat.{ℕ, _+_, _≤_, _<_}
+use native.Mathlib.Omega.{arith}
+use borrow.Author.Tests.{eq-eqb, ne-eqb, le-ltb}
+use lib.Dec.{eqb, ltb}
+use lib.ListN.{length, take, drop}
+use lib.Seq.{take-append-le, take-length, drop-nil}
+use Rattle.arithmetic.specs.Writing.{overwrite}
+use Rattle.model.specs.RoundSheet.{byte, settingsAt}
+use Rattle.model.specs.AnswerSheet.{answerLength, answerBytes}
+use Rattle.model.specs.Steps.{roundAt}
+use Rattle.model.specs.Refusals.{Row, firstOf, settleChecks, sheetChecks, badCabinets, badLength, noRoom}
+use Rattle.model.specs.Calls.{granted, verdict, settle, writtenAfter}
+use Rattle.refusals.proofs.Rows.{first-snoc, none-left}
+use Rattle.refusals.proofs.Limits.{Limits}
+use Rattle.sheets.proofs.Outcomes.{granted-none, granted-same}
+use Rattle.sheets.proofs.Answer.{length-answerBytes, answer-cabinets, answer-count, answer-estimate, answer-value, answer-mark, answer-used}
+use Rattle.sheets.proofs.Inspection.{inspected}
+use Rattle.listing.proofs.Sheets.{settled-estimate, settled-value, settled-used}
+use Rattle.answer_sheet.specs.Fields.{answerChecks, cabinetChecks, cabinetsIn, countIn, estimateIn, valueIn, markIn, usedIn}
+use Rattle.answer_laws.specs.ReadBack.{ReadsBack, Settled, answerSheet, SettledReadsBack}
+
+-- writing over nothing leaves what is written
+over-nothing : (new : List ℕ) → overwrite new [] ≡ new
+unfolding overwrite
+over-nothing new = ap (λ (l : List ℕ). new ++ l) (drop-nil (length new)) ∙ append-nil new
+
+-- the first bytes of what is written over, as many as were written
+over-first : (new old : List ℕ) (size : ℕ) → length new ≡ size → take size (overwrite new old) ≡ new
+unfolding overwrite
+over-first new old size same =
+    ap (λ (k : ℕ). take k (new ++ drop (length new) old)) (sym same)
+    ∙ take-append-le (length new) new (drop (length new) old) (omega arith)
+    ∙ take-length new
+
+module _ (s buffer : List ℕ) (size : ℕ) (settled : Settled s buffer size) where
+  abbrev n : ℕ
+  n = settingsAt s .n
+
+  abbrev row : Row
+  row = firstOf (settleChecks s buffer)
+
+  abbrev new : List ℕ
+  new = answerBytes n (roundAt s)
+
+  passes : row ≡ none
+  unfolding settle
+  passes = granted-none row (answerLength n) size (settled .granted-size)
+
+  same-size : answerLength n ≡ size
+  unfolding settle
+  same-size = granted-same row (answerLength n) size (settled .granted-size)
+
+  abbrev a : List ℕ
+  a = answerSheet s buffer size
+
+  -- what settling wrote, and nothing after it
+  written : a ≡ overwrite new []
+  unfolding settle
+  written =
+      ap (λ (x : Row). take size (writtenAfter x (answerLength n) new buffer .buffer)) passes
+      ∙ over-first new buffer size (length-answerBytes n (roundAt s) ∙ same-size)
+      ∙ sym (over-nothing new)
+
+  within : Limits (settingsAt s)
+  unfolding settleChecks
+  within =
+      inspected s (settingsAt s) (ap (λ (x : Row). verdict x (settingsAt s)) (none-left (sheetChecks s) _ passes)) .within
+
+  -- the bytes are an answer sheet, with cabinets 0 to n-1
+  module _ (b : List ℕ) (cabinets : byte b 0 ≡ n) (long : length b ≡ answerLength n) where
+    sheet-passes : firstOf (answerChecks b) ≡ none
+    unfolding firstOf answerChecks badCabinets badLength
+    sheet-passes =
+        let one = within .someCabinet in
+        let most = within .cabinets in
+        let some-cabinet : eqb (byte b 0) 0 ≡ false = ne-eqb (byte b 0) 0 (λ e. omega arith) in
+        let few : ltb 64 (byte b 0) ≡ false = le-ltb 64 (byte b 0) (omega arith) in
+        let same : eqb (length b) (answerLength (byte b 0)) ≡ true =
+        eq-eqb (length b) (answerLength (byte b 0)) (long ∙ ap answerLength (sym cabinets)) in
+        rw (some-cabinet, few, same)
+
+    cabinet-passes : (r : ℕ) → r < n → firstOf (cabinetChecks b r) ≡ none
+    unfolding cabinetChecks noRoom
+    cabinet-passes r h =
+        let room : ltb (byte b 0) (r + 1) ≡ false = le-ltb (byte b 0) (r + 1) (omega arith) in
+        first-snoc (answerChecks b) (noRoom (byte b 0) (r + 1)) ∙ rw (sheet-passes, room)
+
+  shown : ReadsBack s (overwrite new [])
+  unfolding cabinetsIn countIn estimateIn valueIn markIn usedIn
+  shown =
+      let round = roundAt s in
+      let cabinets = answer-cabinets n round [] in
+      let long = ap length (over-nothing new) ∙ length-answerBytes n round in
+      let pass = sheet-passes (overwrite new []) cabinets long in
+      let pass-at = cabinet-passes (overwrite new []) cabinets long in
+      let bytes = settled .bytes in
+      record {
+        cabinets = rw pass (ap granted cabinets);
+        count = rw pass (ap granted (answer-count n round []));
+        estimate = rw pass (ap granted (answer-estimate n round [] (settled-estimate s bytes buffer passes)));
+        value = rw pass (ap granted (answer-value n round [] (settled-value s bytes buffer passes)));
+        mark = λ r h. rw (pass-at r h) (ap granted (answer-mark n round [] r h));
+        used = λ r h.
+          rw (pass-at r h, cabinets) (ap granted (answer-used n round [] r h (settled-used s bytes buffer passes r h)));
+      }
+
+pub settled-reads-back : SettledReadsBack
+settled-reads-back s buffer size settled =
+    subst⁻¹ (λ (l : List ℕ). ReadsBack s l) (written s buffer size settled) (shown s buffer size settled)

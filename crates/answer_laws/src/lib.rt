@@ -1,0 +1,1 @@
+// Laws of the answer sheet that is read back. It has no function.

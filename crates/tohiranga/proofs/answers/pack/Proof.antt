@@ -1,0 +1,32 @@
+-- `tohiranga::answers::pack` meets its contract: a number stands for itself, and a refusal is packed.
+-- Assumes nothing.
+use borrow.Author.Needs.{needs}
+use mathlib.Core.Path.{sym, ap, _∙_}
+use Rattle.answer_sheet.specs.declared.Shown.{Shown}
+use Rattle.answer_sheet.specs.Fields.{shownAs}
+use Rattle.tohiranga.specs.Answers.{packed}
+use Rattle.tohiranga.proofs.answers.pack.Statement.{statement}
+use Rattle.tohiranga.proofs.answers.pack.Tie as tie
+
+enum-known-shown : tie.Need-enum-known-shown
+enum-known-shown c = search needs
+
+cast-result : tie.Need-cast-result
+cast-result c = search needs
+
+enum-known-shown-2 : tie.Need-enum-known-shown-2
+enum-known-shown-2 c = search needs
+
+refused-requires : tie.Need-refused-requires
+refused-requires c κs = search needs
+
+returns : tie.Need-returns
+returns c = search needs
+
+returns-2 : tie.Need-returns-2
+returns-2 c = c .refused .ensures ∙ sym (ap (λ (x : Shown). packed (shownAs x)) (c .before .before .shown2 .given .1))
+
+pub pack-spec : {M : Type 1} → statement M
+pack-spec =
+    tie.close
+    (tie.spec enum-known-shown cast-result enum-known-shown-2 refused-requires returns returns-2)

@@ -1,0 +1,19 @@
+-- `tohiranga::answers::tohiranga_answer_cabinets` meets its contract: what `answer_sheet::cabinets` shows, packed.
+-- Assumes nothing.
+use borrow.Author.Needs.{needs}
+use mathlib.Core.Path.{ap, _∙_}
+use Rattle.tohiranga.specs.Answers.{packed}
+use Rattle.tohiranga.proofs.answers.tohiranga_answer_cabinets.Statement.{statement}
+use Rattle.tohiranga.proofs.answers.tohiranga_answer_cabinets.Tie as tie
+
+cabinets-requires : tie.Need-cabinets-requires
+cabinets-requires c κs = search needs
+
+pack-requires : tie.Need-pack-requires
+pack-requires c κs = search needs
+
+returns : tie.Need-returns
+returns c = c .pack .ensures ∙ ap packed (c .before .cabinets .ensures)
+
+pub tohiranga-answer-cabinets-spec : {M : Type 1} → statement M
+tohiranga-answer-cabinets-spec = tie.close (tie.spec cabinets-requires pack-requires returns)

@@ -1,0 +1,71 @@
+// The fields of an answer sheet of any bytes, for C and for Rust, and the version. Signed numbers go out as their 32 bits.
+ghost use mathlib.Core.Path.{_≡_};
+ghost use Rattle.answer_sheet.specs.Fields.{shownAs, cabinetsIn, countIn, estimateIn, valueIn, markIn, usedIn};
+ghost use Rattle.version.specs.Version.{versionNumber};
+ghost use Rattle.tohiranga.specs.Answers.{packed};
+use answer_sheet::Shown;
+
+fn pack(shown: Shown) -> u64
+    ensures { λ r. ⌜ r ≡ packed (shownAs shown) ⌝ }
+{
+    match shown {
+        Shown::Granted(number) => number as u64,
+        Shown::Refused(refusal) => crate::refused(refusal),
+    }
+}
+
+// N.
+#[no_mangle]
+pub extern "C" fn tohiranga_answer_cabinets(answer: &[u8]) -> u64
+    ensures { λ r. ⌜ r ≡ packed (cabinetsIn (now (answer .entry))) ⌝ }
+{
+    pack(answer_sheet::cabinets(answer))
+}
+
+// How many readings were accepted.
+#[no_mangle]
+pub extern "C" fn tohiranga_answer_count(answer: &[u8]) -> u64
+    ensures { λ r. ⌜ r ≡ packed (countIn (now (answer .entry))) ⌝ }
+{
+    pack(answer_sheet::count(answer))
+}
+
+// The estimate.
+#[no_mangle]
+pub extern "C" fn tohiranga_answer_estimate(answer: &[u8]) -> u64
+    ensures { λ r. ⌜ r ≡ packed (estimateIn (now (answer .entry))) ⌝ }
+{
+    pack(answer_sheet::estimate(answer))
+}
+
+// The new value.
+#[no_mangle]
+pub extern "C" fn tohiranga_answer_value(answer: &[u8]) -> u64
+    ensures { λ r. ⌜ r ≡ packed (valueIn (now (answer .entry))) ⌝ }
+{
+    pack(answer_sheet::value(answer))
+}
+
+// A cabinet's mark.
+#[no_mangle]
+pub extern "C" fn tohiranga_answer_mark(answer: &[u8], cabinet: u32) -> u64
+    ensures { λ r. ⌜ r ≡ packed (markIn (now (answer .entry)) cabinet) ⌝ }
+{
+    pack(answer_sheet::mark(answer, cabinet))
+}
+
+// A cabinet's used value.
+#[no_mangle]
+pub extern "C" fn tohiranga_answer_used(answer: &[u8], cabinet: u32) -> u64
+    ensures { λ r. ⌜ r ≡ packed (usedIn (now (answer .entry)) cabinet) ⌝ }
+{
+    pack(answer_sheet::used(answer, cabinet))
+}
+
+// The version of the library: major × 2^16 + minor × 2^8 + patch.
+#[no_mangle]
+pub extern "C" fn tohiranga_version() -> u32
+    ensures { λ r. ⌜ r ≡ versionNumber ⌝ }
+{
+    version::number()
+}

@@ -1,6 +1,6 @@
 /* Tohiranga: Byzantine clock agreement, proved. The calls of libtohiranga.a (built by `rt staticlib tohiranga`).
  *
- * Answers. An answer below 2^32 is a grant: a length or a count. Any other answer is a refusal, number * 2^32 + place;
+ * Answers. An answer below 2^32 is a grant: a length, a count or a field. Any other is a refusal, number * 2^32 + place;
  * tohiranga_number and tohiranga_place take it apart. After a refusal nothing lent has been written, and settings and
  * plans handed back are zeros, which every call refuses in turn.
  *
@@ -11,27 +11,22 @@
  *
  * Cabinets are numbered from 0. A tick is 1/16,777,216 second.
  *
- * Refusals, checked in this order, each call only those that concern it:
+ * Refusals, checked in this order, each call only those that concern it. tohiranga_refusal_text says what each means; this is
+ * what to do about it:
  *
- *   number  meaning                                    what to do
- *    1      sheet of fewer than 8 bytes                the transfer was cut off: fetch the sheet again
- *    2      N is 0 or above 64                         correct the number of cabinets in the sheet or the settings
- *    3      N is below 3m + 1                          plan for fewer faults m, or add cabinets
- *    4      unknown rule or estimator                  rule 0 or 1, estimator 0, 1 or 2
- *    5      window above 1,000,000 ticks               narrow the window; a larger one is not supported
- *    6      sheet is not 8 + 5E bytes; for the writer  E is N for rule 0 and N * N for rule 1: fetch the sheet again, or give
- *           an array is not E long                     arrays of exactly E
- *    7      the buffer that is to be filled is short   lend TOHIRANGA_ANSWER_SIZE, TOHIRANGA_SHEET_SIZE or E elements
- *    8      a mark is not 0 or 1                       place is the lowest such entry: what filled it is at fault
- *    9      an entry is marked missing and its         place is the lowest such entry: set the reading to 0, or the mark
- *           reading is not 0                           to 1 if the reading was really received
- *   10      too many faults: no reading is accepted    hold a missing reading for the next round; do not use an old value.
- *                                                      More cabinets are bad than planned for, or the window is too narrow
- *   11      accuracy above 1,000,000,000 at the start, start from a smaller accuracy, or for fewer rounds; a plan that has
- *           or above 32 rounds; for a step 32 rounds   run out is made anew by tohiranga_plan
- *           done, or accuracy above 1,100,000,000
- *   12      no count of rounds up to 32 reaches the    raise the target: a window of 1 and more falls below 1 only
- *           target                                     where m is 0
+ *    1   the transfer was cut off: fetch the sheet again
+ *    2   correct the number of cabinets in the sheet or the settings
+ *    3   plan for fewer faults m, or add cabinets
+ *    4   rule 0 or 1, estimator 0, 1 or 2
+ *    5   narrow the window; a larger one is not supported
+ *    6   E is N for rule 0 and N * N for rule 1: fetch the sheet again, or give arrays of exactly E
+ *    7   lend TOHIRANGA_ANSWER_SIZE, TOHIRANGA_SHEET_SIZE or E elements; from an answer sheet ask for a cabinet below N
+ *    8   place is the lowest such entry: what filled it is at fault
+ *    9   place is the lowest such entry: set the reading to 0, or the mark to 1 if the reading was really received
+ *   10   hold a missing reading for the next round; do not use an old value. More cabinets are bad than planned for, or the
+ *        window is too narrow
+ *   11   start from a smaller accuracy, or for fewer rounds; a plan that has run out is made anew by tohiranga_plan
+ *   12   raise the target: a window of 1 and more falls below 1 only where m is 0
  */
 #ifndef TOHIRANGA_H
 #define TOHIRANGA_H
@@ -43,6 +38,13 @@
 extern "C" {
 #endif
 
+/* The version. tohiranga_version() is that of the archive; as one number it is major * 2^16 + minor * 2^8 + patch. */
+#define TOHIRANGA_VERSION_MAJOR 0
+#define TOHIRANGA_VERSION_MINOR 2
+#define TOHIRANGA_VERSION_PATCH 0
+#define TOHIRANGA_VERSION (TOHIRANGA_VERSION_MAJOR * 65536 + TOHIRANGA_VERSION_MINOR * 256 + TOHIRANGA_VERSION_PATCH)
+#define TOHIRANGA_VERSION_TEXT "0.2.0"
+
 #define TOHIRANGA_MAX_CABINETS 64
 #define TOHIRANGA_MAX_WINDOW 1000000
 #define TOHIRANGA_MAX_ACCURACY 1000000000
@@ -52,10 +54,27 @@ extern "C" {
 enum { TOHIRANGA_FCA = 0, TOHIRANGA_CCA = 1 };
 enum { TOHIRANGA_AVERAGE = 0, TOHIRANGA_MEDIAN = 1, TOHIRANGA_MIDPOINT = 2 };
 
-/* The entries of a sheet of n cabinets; the bytes of a sheet and of an answer sheet. At most 4,096, 20,488 and 330. */
+enum tohiranga_refusal {
+    TOHIRANGA_TOO_SHORT = 1,
+    TOHIRANGA_BAD_CABINETS = 2,
+    TOHIRANGA_BAD_FAULTS = 3,
+    TOHIRANGA_BAD_METHOD = 4,
+    TOHIRANGA_BAD_WINDOW = 5,
+    TOHIRANGA_BAD_LENGTH = 6,
+    TOHIRANGA_NO_ROOM = 7,
+    TOHIRANGA_BAD_MARK = 8,
+    TOHIRANGA_BAD_MISSING = 9,
+    TOHIRANGA_TOO_MANY_FAULTS = 10,
+    TOHIRANGA_BAD_PLAN = 11,
+    TOHIRANGA_TARGET_MISSED = 12
+};
+
+/* The entries of a sheet of n cabinets; the bytes of a sheet and of an answer sheet; the bytes of the longest of each. */
 #define TOHIRANGA_ENTRIES(n, rule) ((rule) == TOHIRANGA_CCA ? (size_t)(n) * (size_t)(n) : (size_t)(n))
 #define TOHIRANGA_SHEET_SIZE(n, rule) (8 + 5 * TOHIRANGA_ENTRIES(n, rule))
 #define TOHIRANGA_ANSWER_SIZE(n) (10 + 5 * (size_t)(n))
+#define TOHIRANGA_MAX_SHEET 20488
+#define TOHIRANGA_MAX_ANSWER 330
 
 /* The settings: n cabinets, m faults planned for, the window in ticks. */
 struct tohiranga_settings {
@@ -84,6 +103,29 @@ struct tohiranga_planning {
 static inline uint32_t tohiranga_number(uint64_t answer) { return (uint32_t)(answer >> 32); }
 static inline uint32_t tohiranga_place(uint64_t answer) { return (uint32_t)answer; }
 
+/* What a number of refusal means, in English. */
+static inline const char *tohiranga_refusal_text(unsigned number) {
+    switch (number) {
+    case TOHIRANGA_TOO_SHORT: return "the sheet has under 8 bytes";
+    case TOHIRANGA_BAD_CABINETS: return "N is 0 or above 64";
+    case TOHIRANGA_BAD_FAULTS: return "N is below 3m+1";
+    case TOHIRANGA_BAD_METHOD: return "unknown rule or estimator";
+    case TOHIRANGA_BAD_WINDOW: return "the window is above 1,000,000";
+    case TOHIRANGA_BAD_LENGTH: return "the sheet (or an array to write) is not as long as its settings say";
+    case TOHIRANGA_NO_ROOM: return "the lent buffer or array is too short";
+    case TOHIRANGA_BAD_MARK: return "a mark is not 0 or 1; the place is its entry";
+    case TOHIRANGA_BAD_MISSING: return "a missing reading's bytes are not zero; the place is its entry";
+    case TOHIRANGA_TOO_MANY_FAULTS: return "too many faults: no reading is accepted";
+    case TOHIRANGA_BAD_PLAN:
+        return "starting accuracy above 1,000,000,000, more than 32 rounds, or a plan that can go no further";
+    case TOHIRANGA_TARGET_MISSED: return "no count of rounds up to 32 reaches the target";
+    default: return "no refusal of this library";
+    }
+}
+
+/* The version of the archive: TOHIRANGA_VERSION of the header that belongs to it. */
+uint32_t tohiranga_version(void);
+
 /* Settles a round sheet: fills the answer sheet and answers its length, 10 + 5N. Refuses under 1 to 10.
  *
  * The sheet, least significant byte first: byte 0 N, 1 m, 2 rule, 3 estimator, 4 to 7 the window; E marks of one byte
@@ -92,6 +134,23 @@ static inline uint32_t tohiranga_place(uint64_t answer) { return (uint32_t)answe
  * The answer sheet: byte 0 N, 1 the number accepted, 2 to 5 the estimate, 6 to 9 the new value; N marks (0 missing or known
  * faulty, 1 accepted, 2 present and not accepted); N used values of four bytes. */
 uint64_t tohiranga_settle(const uint8_t *sheet, size_t sheet_len, uint8_t *answer, size_t answer_len);
+
+/* The fields of an answer sheet of any bytes: N, the number accepted, the estimate, the new value; a cabinet's mark and used
+ * value. answer_len is the answer sheet's own length, as tohiranga_settle answers it, not the buffer's. Each refuses under 2
+ * where byte 0 is 0 or above 64 (an empty sheet has N 0), under 6 where the length is not 10 + 5N, and the last two under 7
+ * where the cabinet is N or above. Estimate, new value and used value are answered as 32 bits, which tohiranga_ticks reads. */
+uint64_t tohiranga_answer_cabinets(const uint8_t *answer, size_t answer_len);
+uint64_t tohiranga_answer_count(const uint8_t *answer, size_t answer_len);
+uint64_t tohiranga_answer_estimate(const uint8_t *answer, size_t answer_len);
+uint64_t tohiranga_answer_value(const uint8_t *answer, size_t answer_len);
+uint64_t tohiranga_answer_mark(const uint8_t *answer, size_t answer_len, uint32_t cabinet);
+uint64_t tohiranga_answer_used(const uint8_t *answer, size_t answer_len, uint32_t cabinet);
+
+/* The signed number that the lower 32 bits of a grant are, in two's complement. */
+static inline int32_t tohiranga_ticks(uint64_t granted) {
+    uint32_t bits = (uint32_t)granted;
+    return bits < 2147483648u ? (int32_t)bits : -(int32_t)(4294967295u - bits) - 1;
+}
 
 /* Reads a round sheet: fills the first E marks and readings, hands back the settings and answers E. Refuses under 1 to 9,
  * 7 where either array is shorter than E. */

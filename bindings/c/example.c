@@ -1,41 +1,54 @@
 /* Writes the round sheet of four cabinets that read 0, 4, 10 and 500, settles it, and prints what the program `settle` would;
- * then the windows of three rounds. */
+ * then the windows of three rounds. Ends with 1 where a call refuses. */
 #include "tohiranga.h"
 #include <inttypes.h>
 #include <stdio.h>
 
-static int32_t ticks_at(const uint8_t *bytes) {
-    uint32_t bits = bytes[0] | (uint32_t)bytes[1] << 8 | (uint32_t)bytes[2] << 16 | (uint32_t)bytes[3] << 24;
-    return (int32_t)bits;
-}
-
 static int refused(uint64_t answer) {
-    if (tohiranga_number(answer) == 0)
+    uint32_t number = tohiranga_number(answer);
+    if (number == 0)
         return 0;
-    printf("refused %" PRIu32 " %" PRIu32 "\n", tohiranga_number(answer), tohiranga_place(answer));
+    fprintf(stderr, "refused %" PRIu32 " %" PRIu32 ": %s\n", number, tohiranga_place(answer), tohiranga_refusal_text(number));
     return 1;
 }
 
+static int show_answer(const uint8_t *answer, size_t length) {
+    const uint64_t n = tohiranga_answer_cabinets(answer, length), count = tohiranga_answer_count(answer, length);
+    const uint64_t estimate = tohiranga_answer_estimate(answer, length), value = tohiranga_answer_value(answer, length);
+    if (refused(n) || refused(count) || refused(estimate) || refused(value))
+        return 1;
+    printf("round %" PRIu64 " %" PRIu64 " %" PRId32 " %" PRId32 "\n", n, count, tohiranga_ticks(estimate), tohiranga_ticks(value));
+    for (uint32_t r = 0; r < n; r++) {
+        const uint64_t mark = tohiranga_answer_mark(answer, length, r), used = tohiranga_answer_used(answer, length, r);
+        if (refused(mark) || refused(used))
+            return 1;
+        printf("%" PRIu32 " %" PRIu64 " %" PRId32 "\n", r, mark, tohiranga_ticks(used));
+    }
+    return 0;
+}
+
 int main(void) {
-    struct tohiranga_settings settings = {.n = 4, .m = 1, .rule = TOHIRANGA_FCA, .estimator = TOHIRANGA_MEDIAN, .window = 10};
+    struct tohiranga_settings settings = {4, 1, TOHIRANGA_FCA, TOHIRANGA_MEDIAN, 10};
     const uint8_t marks[4] = {1, 1, 1, 1};
     const int32_t readings[4] = {0, 4, 10, 500};
     uint8_t sheet[TOHIRANGA_SHEET_SIZE(4, TOHIRANGA_FCA)];
-    uint8_t answer[TOHIRANGA_ANSWER_SIZE(TOHIRANGA_MAX_CABINETS)];
+    uint8_t answer[TOHIRANGA_MAX_ANSWER];
 
-    if (refused(tohiranga_write(settings, marks, 4, readings, 4, sheet, sizeof sheet)))
+    const uint64_t size = tohiranga_write(settings, marks, 4, readings, 4, sheet, sizeof sheet);
+    if (refused(size))
         return 1;
-    if (refused(tohiranga_settle(sheet, sizeof sheet, answer, sizeof answer)))
+    const uint64_t length = tohiranga_settle(sheet, (size_t)size, answer, sizeof answer);
+    if (refused(length) || show_answer(answer, (size_t)length))
         return 1;
-    const uint8_t n = answer[0];
-    printf("round %d %d %" PRId32 " %" PRId32 "\n", n, answer[1], ticks_at(answer + 2), ticks_at(answer + 6));
-    for (int r = 0; r < n; r++)
-        printf("%d %d %" PRId32 "\n", r, answer[10 + r], ticks_at(answer + 10 + n + 4 * r));
 
     settings.window = 100;
     struct tohiranga_planning planned = tohiranga_plan(settings, 100, 0);
-    while (!refused(planned.answer) && planned.plan.rounds < 3) {
+    if (refused(planned.answer))
+        return 1;
+    while (planned.plan.rounds < 3) {
         planned = tohiranga_step(planned.plan);
+        if (refused(planned.answer))
+            return 1;
         printf("after round %" PRIu32 ": window %" PRIu32 ", accuracy %" PRIu32 "\n", planned.plan.rounds,
                planned.plan.settings.window, planned.plan.accuracy);
     }

@@ -177,6 +177,45 @@ static void rows_bad(const uint8_t *good, size_t len, uint8_t n, uint8_t rule) {
     give_back(sheet), give_back(cut);
 }
 
+/* ---- The answer sheet */
+
+static void answers_bad(const uint8_t *good, size_t len, uint8_t n) {
+    size_t size = TOHIRANGA_ANSWER_SIZE(n);
+    struct lent sheet = lend_copy(good, len), answer = lend(size);
+    EXPECT(settle(sheet, answer) == size);
+    EXPECT(tohiranga_answer_cabinets(answer.start, size) == n && tohiranga_answer_count(answer.start, size) == n);
+    EXPECT(tohiranga_answer_estimate(answer.start, size) == answer.start[2]);
+    EXPECT(tohiranga_answer_value(answer.start, size) == answer.start[6]);
+    for (uint32_t r = 0; r < n; r++) {
+        EXPECT(tohiranga_answer_mark(answer.start, size, r) == 1);
+        EXPECT(tohiranga_answer_used(answer.start, size, r) == r);
+    }
+    const uint32_t past[] = {n, (uint32_t)n + 1, 255, 1u << 30, UINT32_MAX};
+    for (size_t i = 0; i < sizeof past / sizeof *past; i++) {
+        EXPECT(tohiranga_answer_mark(answer.start, size, past[i]) == REFUSED(7, 0));
+        EXPECT(tohiranga_answer_used(answer.start, size, past[i]) == REFUSED(7, 0));
+    }
+    for (size_t cut = 0; cut < size; cut = cut < 16 ? cut + 1 : cut + 31 < size ? cut + 31 : size) {
+        struct lent part = lend_copy(answer.start, cut);
+        const uint64_t no = cut == 0 ? REFUSED(2, 0) : REFUSED(6, 0);
+        EXPECT(tohiranga_answer_cabinets(part.start, cut) == no && tohiranga_answer_count(part.start, cut) == no);
+        EXPECT(tohiranga_answer_estimate(part.start, cut) == no && tohiranga_answer_value(part.start, cut) == no);
+        EXPECT(tohiranga_answer_mark(part.start, cut, 0) == no && tohiranga_answer_used(part.start, cut, n) == no);
+        give_back(part);
+    }
+    EXPECT(tohiranga_answer_value(NULL, 0) == REFUSED(2, 0) && tohiranga_answer_used(NULL, 0, 0) == REFUSED(2, 0));
+    memset(answer.start + 2, 0xff, 4), memset(answer.start + 6, 0, 3), answer.start[9] = 0x80;
+    memset(answer.start + size - 4, 0xfe, 4);
+    EXPECT(tohiranga_ticks(tohiranga_answer_estimate(answer.start, size)) == -1);
+    EXPECT(tohiranga_ticks(tohiranga_answer_value(answer.start, size)) == INT32_MIN);
+    EXPECT(tohiranga_ticks(tohiranga_answer_used(answer.start, size, n - 1u)) == -16843010);
+    answer.start[0] = 0;
+    EXPECT(tohiranga_answer_count(answer.start, size) == REFUSED(2, 0));
+    answer.start[0] = 65;
+    EXPECT(tohiranga_answer_mark(answer.start, size, 0) == REFUSED(2, 0));
+    give_back(sheet), give_back(answer);
+}
+
 /* ---- Plans */
 
 static int refused_planning(struct tohiranga_planning p, uint64_t answer) {
@@ -239,6 +278,7 @@ int main(void) {
     EXPECT(sysconf(_SC_PAGESIZE) == PAGE);
     EXPECT(sizeof(struct tohiranga_settings) == 8 && sizeof(struct tohiranga_plan) == 16);
     EXPECT(sizeof(struct tohiranga_opening) == 16 && sizeof(struct tohiranga_planning) == 24);
+    EXPECT(tohiranga_version() == TOHIRANGA_VERSION);
     case_1();
     plans();
     static uint8_t sheet[LARGEST];
@@ -250,6 +290,7 @@ int main(void) {
                 settle_bad(sheet, len, sizes[i]);
                 read_and_write_bad(sheet, len, sizes[i], rule);
                 rows_bad(sheet, len, sizes[i], rule);
+                answers_bad(sheet, len, sizes[i]);
             }
     printf("bad input through C: %lu expectations met\n", tried);
     return 0;

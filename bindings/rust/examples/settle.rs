@@ -1,14 +1,27 @@
 //! Settles a round sheet and prints what the program `settle` would: the sheet in the file that is named, or case 1 of the scope.
 use std::io::Read;
-use tohiranga::{settle, write, Settings, FCA, MAX_ANSWER, MAX_SHEET, MEDIAN};
-
-fn ticks(bytes: &[u8]) -> i32 {
-    i32::from_le_bytes(bytes.try_into().unwrap())
-}
+use tohiranga::{settle, write, Answer, Refusal, Settings, FCA, MAX_ANSWER, MAX_SHEET, MEDIAN};
 
 fn case_1(sheet: &mut [u8]) -> usize {
     let settings = Settings { n: 4, m: 1, rule: FCA, estimator: MEDIAN, window: 10 };
     write(settings, &[1; 4], &[0, 4, 10, 500], sheet).expect("a sheet of four cabinets")
+}
+
+fn show(sheet: &[u8]) -> Result<(), Refusal> {
+    let mut buffer = [0; MAX_ANSWER];
+    let length = settle(sheet, &mut buffer)?;
+    let answer = Answer::new(&buffer[..length])?;
+    println!(
+        "round {} {} {} {}",
+        answer.cabinets(),
+        answer.count(),
+        answer.estimate(),
+        answer.value()
+    );
+    for r in 0..answer.cabinets() {
+        println!("{r} {} {}", answer.mark(r)?, answer.used(r)?);
+    }
+    Ok(())
 }
 
 fn main() -> std::io::Result<()> {
@@ -22,17 +35,10 @@ fn main() -> std::io::Result<()> {
             bytes.len()
         }
     };
-    let mut answer = [0; MAX_ANSWER];
-    match settle(&sheet[..length], &mut answer) {
-        Err(refusal) => println!("refused {} {}", refusal.number, refusal.place),
-        Ok(_) => {
-            let n = answer[0] as usize;
-            println!("round {n} {} {} {}", answer[1], ticks(&answer[2..6]), ticks(&answer[6..10]));
-            for r in 0..n {
-                let used = 10 + n + 4 * r;
-                println!("{r} {} {}", answer[10 + r], ticks(&answer[used..used + 4]));
-            }
-        }
+    if let Err(refusal) = show(&sheet[..length]) {
+        println!("refused {} {}", refusal.number, refusal.place);
+        eprintln!("{refusal}");
+        std::process::exit(3);
     }
     Ok(())
 }

@@ -1,6 +1,9 @@
 //! Byzantine clock agreement, proved: a safe wrapper of the static library, without std.
-//! include/tohiranga.h says what each call does and what each refusal means. Cabinets are numbered from 0.
+//! include/tohiranga.h says what each call does and what to do about each refusal. Cabinets are numbered from 0.
 #![no_std]
+
+use core::error::Error;
+use core::fmt;
 
 pub const FCA: u8 = 0;
 pub const CCA: u8 = 1;
@@ -11,9 +14,23 @@ pub const MIDPOINT: u8 = 2;
 
 pub const TICKS_PER_SECOND: u32 = 16_777_216;
 
+pub const MAX_CABINETS: u8 = 64;
+pub const MAX_WINDOW: u32 = 1_000_000;
+pub const MAX_ACCURACY: u32 = 1_000_000_000;
+pub const MAX_ROUNDS: u32 = 32;
+
 /// The bytes of the longest sheet and the longest answer sheet.
 pub const MAX_SHEET: usize = 20_488;
 pub const MAX_ANSWER: usize = 330;
+
+/// The version of this wrapper, and of the library that belongs to it.
+pub const VERSION: &str = env!("CARGO_PKG_VERSION");
+
+/// The version of the library that is linked: major × 2^16 + minor × 2^8 + patch.
+pub fn version() -> u32 {
+    // SAFETY: no pointer is handed over.
+    unsafe { tohiranga_version() }
+}
 
 /// The settings: n cabinets, m faults planned for, the window in ticks. Any numbers at all.
 #[repr(C)]
@@ -77,23 +94,106 @@ pub struct Refusal {
 }
 
 impl Refusal {
+    pub const TOO_SHORT: u32 = 1;
+    pub const BAD_CABINETS: u32 = 2;
+    pub const BAD_FAULTS: u32 = 3;
+    pub const BAD_METHOD: u32 = 4;
+    pub const BAD_WINDOW: u32 = 5;
+    pub const BAD_LENGTH: u32 = 6;
+    pub const NO_ROOM: u32 = 7;
+    pub const BAD_MARK: u32 = 8;
+    pub const BAD_MISSING: u32 = 9;
+    pub const TOO_MANY_FAULTS: u32 = 10;
+    pub const BAD_PLAN: u32 = 11;
+    pub const TARGET_MISSED: u32 = 12;
+
     /// What the number means.
     pub fn meaning(&self) -> &'static str {
         match self.number {
-            1 => "sheet of fewer than 8 bytes",
-            2 => "N is 0 or above 64",
-            3 => "N is below 3m + 1",
-            4 => "unknown rule or estimator",
-            5 => "window above 1,000,000 ticks",
-            6 => "length is not that of E entries",
-            7 => "the buffer that is to be filled is short",
-            8 => "a mark is not 0 or 1",
-            9 => "an entry is marked missing and its reading is not 0",
-            10 => "too many faults: no reading is accepted",
-            11 => "accuracy or rounds of the plan out of range",
-            12 => "no count of rounds up to 32 reaches the target",
+            Self::TOO_SHORT => "the sheet has under 8 bytes",
+            Self::BAD_CABINETS => "N is 0 or above 64",
+            Self::BAD_FAULTS => "N is below 3m+1",
+            Self::BAD_METHOD => "unknown rule or estimator",
+            Self::BAD_WINDOW => "the window is above 1,000,000",
+            Self::BAD_LENGTH => "the sheet (or an array to write) is not as long as its settings say",
+            Self::NO_ROOM => "the lent buffer or array is too short",
+            Self::BAD_MARK => "a mark is not 0 or 1; the place is its entry",
+            Self::BAD_MISSING => "a missing reading's bytes are not zero; the place is its entry",
+            Self::TOO_MANY_FAULTS => "too many faults: no reading is accepted",
+            Self::BAD_PLAN => {
+                "starting accuracy above 1,000,000,000, more than 32 rounds, or a plan that can go no further"
+            }
+            Self::TARGET_MISSED => "no count of rounds up to 32 reaches the target",
             _ => "no refusal of this library",
         }
+    }
+}
+
+impl fmt::Display for Refusal {
+    fn fmt(&self, f: &mut fmt::Formatter<'_>) -> fmt::Result {
+        write!(f, "refused {} {}: {}", self.number, self.place, self.meaning())
+    }
+}
+
+impl Error for Refusal {}
+
+/// An answer sheet: bytes that are one, with the fields that stand in them.
+#[derive(Clone, Copy, Debug, PartialEq, Eq)]
+pub struct Answer<'a> {
+    bytes: &'a [u8],
+}
+
+impl<'a> Answer<'a> {
+    /// Any bytes. Refused under 2 where byte 0 is 0 or above 64, and under 6 where the length is not 10 + 5N.
+    pub fn new(bytes: &'a [u8]) -> Result<Answer<'a>, Refusal> {
+        let answer = Answer { bytes };
+        answer.field(tohiranga_answer_cabinets).map(|_| answer)
+    }
+
+    fn field(&self, call: unsafe extern "C" fn(*const u8, usize) -> u64) -> Result<u32, Refusal> {
+        // SAFETY: the pointer goes with its slice's length.
+        granted(unsafe { call(self.bytes.as_ptr(), self.bytes.len()) }).map(|number| number as u32)
+    }
+
+    fn field_of(
+        &self,
+        call: unsafe extern "C" fn(*const u8, usize, u32) -> u64,
+        cabinet: u32,
+    ) -> Result<u32, Refusal> {
+        // SAFETY: the pointer goes with its slice's length.
+        granted(unsafe { call(self.bytes.as_ptr(), self.bytes.len(), cabinet) })
+            .map(|number| number as u32)
+    }
+
+    /// N. These four are never refused, since `new` refuses what they would.
+    pub fn cabinets(&self) -> u32 {
+        self.field(tohiranga_answer_cabinets).unwrap_or_default()
+    }
+
+    /// How many readings were accepted.
+    pub fn count(&self) -> u32 {
+        self.field(tohiranga_answer_count).unwrap_or_default()
+    }
+
+    /// The estimate, in ticks.
+    pub fn estimate(&self) -> i32 {
+        self.field(tohiranga_answer_estimate).unwrap_or_default() as i32
+    }
+
+    /// The new value, in ticks.
+    pub fn value(&self) -> i32 {
+        self.field(tohiranga_answer_value).unwrap_or_default() as i32
+    }
+
+    /// A cabinet's mark: 0 missing or known faulty, 1 accepted, 2 present and not accepted. A cabinet of N or above is
+    /// refused under 7.
+    pub fn mark(&self, cabinet: u32) -> Result<u8, Refusal> {
+        self.field_of(tohiranga_answer_mark, cabinet).map(|mark| mark as u8)
+    }
+
+    /// A cabinet's used value, in ticks. A cabinet of N or above is refused under 7.
+    pub fn used(&self, cabinet: u32) -> Result<i32, Refusal> {
+        self.field_of(tohiranga_answer_used, cabinet).map(|bits| bits as i32)
     }
 }
 
@@ -144,6 +244,13 @@ extern "C" {
     fn tohiranga_plan(settings: Settings, accuracy: u32, rounds: u32) -> Planning;
     fn tohiranga_step(plan: Plan) -> Planning;
     fn tohiranga_target(settings: Settings, accuracy: u32, target: u32) -> u64;
+    fn tohiranga_answer_cabinets(answer: *const u8, answer_len: usize) -> u64;
+    fn tohiranga_answer_count(answer: *const u8, answer_len: usize) -> u64;
+    fn tohiranga_answer_estimate(answer: *const u8, answer_len: usize) -> u64;
+    fn tohiranga_answer_value(answer: *const u8, answer_len: usize) -> u64;
+    fn tohiranga_answer_mark(answer: *const u8, answer_len: usize, cabinet: u32) -> u64;
+    fn tohiranga_answer_used(answer: *const u8, answer_len: usize, cabinet: u32) -> u64;
+    fn tohiranga_version() -> u32;
 }
 
 /// Settles a round sheet: the answer sheet fills the start of the buffer, and its length is given back.

@@ -80,8 +80,37 @@ fn plans() {
 }
 
 #[test]
-fn says_what_each_refusal_means() {
-    for number in 1..=12 {
-        assert_ne!(Refusal { number, place: 0 }.meaning(), "no refusal of this library");
+fn shows_the_answer_sheet() {
+    let mut sheet = sheet();
+    sheet[4] = 20;
+    let mut buffer = [0xa5; 31];
+    let length = settle(&sheet, &mut buffer).unwrap();
+    let answer = Answer::new(&buffer[..length]).unwrap();
+    assert_eq!(
+        (answer.cabinets(), answer.count(), answer.estimate(), answer.value()),
+        (4, 3, 4, 3)
+    );
+    for (cabinet, (mark, used)) in [(1, -7), (1, 4), (1, 10), (2, 4)].into_iter().enumerate() {
+        assert_eq!(
+            (answer.mark(cabinet as u32), answer.used(cabinet as u32)),
+            (Ok(mark), Ok(used))
+        );
     }
+    for cabinet in [4, 5, u32::MAX] {
+        assert_eq!(answer.mark(cabinet), refused(7, 0));
+        assert_eq!(answer.used(cabinet), refused(7, 0));
+    }
+    assert_eq!(Answer::new(&buffer), refused(6, 0));
+    assert_eq!(Answer::new(&buffer[..29]), refused(6, 0));
+    assert_eq!(Answer::new(&[]), refused(2, 0));
+    assert_eq!(Answer::new(&[0; 10]), refused(2, 0));
+    assert_eq!(Answer::new(&[65; 335]), refused(2, 0));
+    assert_eq!(Answer::new(&[64; 330]).unwrap().used(63), Ok(0x4040_4040));
+}
+
+#[test]
+fn refusals_are_errors() {
+    let refusal = Refusal { number: Refusal::BAD_MARK, place: 2 };
+    let error: &dyn core::error::Error = &refusal;
+    assert_eq!(error.to_string(), format!("refused 8 2: {}", refusal.meaning()));
 }

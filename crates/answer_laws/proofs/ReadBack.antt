@@ -108,7 +108,7 @@ module _ (s buffer : List ℕ) (size : ℕ) (settled : Settled s buffer size) wh
         value = rw pass (ap granted (answer-value n round [] (settled-value s bytes buffer passes)));
         mark = λ r h. rw (pass-at r h) (ap granted (answer-mark n round [] r h));
         used = λ r h.
-          rw (pass-at r h, cabinets) (ap granted (answer-used n round [] r h (settled-used s bytes buffer passes r h)));
+            rw (pass-at r h, cabinets) (ap granted (answer-used n round [] r h (settled-used s bytes buffer passes r h)));
       }
 
 pub settled-reads-back : SettledReadsBack

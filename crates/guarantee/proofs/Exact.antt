@@ -7,46 +7,34 @@ use mathlib.Core.Path.{_≡_, ap, ap₂, _∙_}
 use Prim.Native.Nat.{ℕ, _+_, _*_, _-_, _/_, _<_}
 use native.Mathlib.Nat.{le-trans, mul-assoc, mul-comm, add-mul, add-mul-div-right}
 use native.Mathlib.Omega.{arith}
-use lib.IntN.{ℤ, pos, _+ℤ_, _-ℤ_}
+use lib.IntN.{ℤ, pos, _-ℤ_}
 use Rattle.arithmetic.specs.Naturals.{down}
-use Rattle.arithmetic.proofs.Shift.{down-cong, pos-down, neg-down, add-down, dist-down}
+use Rattle.arithmetic.proofs.Shift.{down-cong, pos-down, dist-down}
 use Rattle.model.specs.Planner.{ceilDiv}
 use Rattle.model.specs.Steps.{mean}
 use Rattle.rounds.specs.Naturals.{mean-nat}
-use Rattle.rounds.proofs.Shifted.{mean-down}
 use Rattle.limits.proofs.Means.{rise, fall, mean-shift, fall-room, fall-le, fall-least, rise-ceil, rise-fall-ceil}
 use Rattle.guarantee.specs.Guarantee.{Station, N, m, δ, κ, Start, Sends, Allowed, Each, start}
 use Rattle.guarantee.specs.Guarantee.{apart, Good, bad, First, Wide, wideGap}
 use Rattle.guarantee.specs.Exact.{excess, exactGap, exactError, Exact, Sharper, ExactFirst, ExactLimits}
+use Rattle.guarantee.proofs.Distances.{mean-above-zero, mean-below-zero}
 use Rattle.guarantee.proofs.Ready.{ready-start, some-n}
 use Rattle.guarantee.proofs.Round.{many-precise, many-accurate}
 
+-- what the mean makes of x, and of -x
 module _ (n : ℕ) (some : 0 < n) (x : ℕ) where
-  -- x more: the mean of pos x
   mean-more : mean n (pos x) ≡ down x (rise n x + x)
   unfolding rise
   mean-more =
-      ap (mean n) (pos-down x ∙ down-cong 0 x (n * x) (n * x + x) (omega arith))
-      ∙ mean-down x n (n * x + x) some
-      ∙ ap (down x) (omega (arith, mean-shifts))
-    where
-      mean-shifts : mean-nat n (n * x + x) ≡ mean-nat n x + x
-      mean-shifts = ap (mean-nat n) (omega (arith, mul-comm n x)) ∙ mean-shift n some x x
+      mean-above-zero n x some x
+      ∙ ap (λ (s : ℕ). down x (mean-nat n s)) (omega (arith, mul-comm n x))
+      ∙ ap (down x) (mean-shift n some x x)
 
-  -- x less: the mean of -x
   mean-less : mean n (pos 0 -ℤ pos x) ≡ down x (x - fall n x)
   unfolding fall
   mean-less =
-      ap (mean n) less
-      ∙ mean-down x n (n * x - x) some
+      mean-below-zero n x some x (n * x - x) (omega (arith, fall-room n some x))
       ∙ ap (down x) (omega (arith, fall-least n some x))
-    where
-      less : pos 0 -ℤ pos x ≡ down (n * x) (n * x - x)
-      less =
-          ap₂ _-ℤ_ (pos-down 0) (pos-down x)
-          ∙ ap (λ (z : ℤ). down 0 0 +ℤ z) (neg-down 0 x)
-          ∙ add-down 0 0 x 0
-          ∙ down-cong (0 + x) (0 + 0) (n * x) (n * x - x) (omega (arith, fall-room n some x))
 
   far-more : apart (mean n (pos x)) (pos 0) ≡ rise n x
   far-more =

@@ -1,6 +1,7 @@
 -- The limits of one round. With at most m bad nobody is refused, a new value strays from the true one by at most the
 -- growth planned, and two new values differ by at most the next window. With more, but fewer than n - m, bad the wider
--- limits hold. By counting: each used value is bounded row by row, the bounds are summed, and the mean of n follows.
+-- limits hold, to the tick. By counting: each used value is bounded row by row, the bounds are summed, and the mean of n
+-- follows.
 --   unrefused                              every good reading is accepted
 --   accuracy-few, precision-few            any estimators
 --   precision-median                       medians, where both read alike what both have
@@ -74,23 +75,27 @@ module _ (n m w : ℕ) (good : ℕ → Bool) (g : ℕ → ℕ) where
           low : (r : ℕ) → r < n → good r ≡ true → T - κ ≤ g r
           low r l e = omega (arith, truth .below r l e)
 
-    astray-most : (v : Receiver) → ReadsSome n m w good g v → total (astray n m w good v) n ≤ m + badCount n good
+    -- how many rows can be astray, and how far the sum of the used values can so pass n times the highest good value
+    abbrev most : ℕ
+    most = m + badCount n good
+
+    abbrev excess : ℕ
+    excess = most * w
+
+    astray-most : (v : Receiver) → ReadsSome n m w good g v → total (astray n m w good v) n ≤ most
     astray-most v s = astray-few n m w good v (s .unrefused) (omega (arith, h .many))
 
     pub accuracy-many :
         (v : Receiver) → ReadsSome n m w good g v → (T κ : ℕ) → Truth n good g T κ
-        → Accurate T (κ + rise n ((m + badCount n good) * w)) (valueBy n m w v)
-    accuracy-many v s = accurate v s (m + badCount n good) (astray-most v s)
+        → Accurate T (κ + rise n excess) (valueBy n m w v)
+    accuracy-many v s = accurate v s most (astray-most v s)
 
     pub precision-many :
         (p q : Receiver) → ReadsSome n m w good g p → ReadsSome n m w good g q
-        → valueBy n m w p
-        ≤ valueBy n m w q + (w + (rise n ((m + badCount n good) * w) + fall n ((m + badCount n good) * w)))
+        → valueBy n m w p ≤ valueBy n m w q + (w + (rise n excess + fall n excess))
     precision-many p q sp sq =
-        let a = value-above p sp (m + badCount n good) (astray-most p sp) (g (lo .index)) (g (hi .index)) (lo .first)
-        (hi .first) in
-        let b = value-below q sq (m + badCount n good) (astray-most q sq) (g (lo .index)) (g (hi .index)) (lo .first)
-        (hi .first) in
+        let a = value-above p sp most (astray-most p sp) (g (lo .index)) (g (hi .index)) (lo .first) (hi .first) in
+        let b = value-below q sq most (astray-most q sq) (g (lo .index)) (g (hi .index)) (lo .first) (hi .first) in
         omega (arith, h .close (hi .index) (lo .index) (hi .inRange) (lo .inRange) (hi .passes) (lo .passes))
       where
         some-good : 0 < count good n

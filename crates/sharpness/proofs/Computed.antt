@@ -2,6 +2,7 @@
 -- check comes to them before it comes to the theorem, so that a false statement is refused by its numbers.
 -- Assumes nothing.
 use mathlib.Core.Path.{refl}
+use native.Mathlib.Omega.{arith}
 use lib.Dec.{lit<, lit≤}
 use Rattle.arithmetic.specs.Counting.{count, anyBelow, lowest, sum}
 use Rattle.arithmetic.specs.Writing.{table, overwrite}
@@ -16,7 +17,7 @@ use Rattle.model.specs.Refusals.{writeChecks, settleChecks, planChecks, stepChe
 use Rattle.model.specs.Calls.{write, settle, step}
 use Rattle.guarantee.specs.Guarantee.{Station, State, Sends, heard, entryOf, sheetOf, settled, next}
 use Rattle.guarantee.specs.Witnesses.{listed}
-use Rattle.sharpness.specs.Sharpness.{Covered, firstReading, worstStation, worstSends, Reached}
+use Rattle.sharpness.specs.Sharpness.{Covered, spread, firstReading, worstStation, worstSends, Reached}
 use Rattle.sharpness.proofs.Run.{meets}
 
 -- a round, with all that it computes by: whoever unfolds it unfolds its line
@@ -27,13 +28,13 @@ unfolding count anyBelow lowest sum table overwrite
     ceilDiv windowFactor nextWindow growth advance
     firstOf tooShort badCabinets badFaults badMethod badWindow badLength noRoom badMark badMissing tooManyFaults badPlan
     settingsChecks sheetChecks entryChecks writeChecks settleChecks planChecks stepChecks
-    write settle step heard entryOf sheetOf settled next listed firstReading worstStation worstSends
+    write settle step heard entryOf sheetOf settled next listed spread firstReading worstStation worstSends
 computed = next
 
 -- three of seven bad: two good ones at 0 and two at 7
 three-covered : Covered 7 2 3 7 4
 unfolding computed
-three-covered = record { grants = refl; more = lit< tt; fewer = lit< tt; crowded = lit≤ tt; accurate = lit≤ tt }
+three-covered = record { grants = refl; more = lit< tt; fewer = lit< tt; crowded = lit≤ tt; inexact = omega arith }
 
 pub three-reached : Reached 7 2 3 7 4
 unfolding computed
@@ -43,14 +44,15 @@ three-reached =
       counts = refl;
       sound = ((lit< tt, refl), (lit< tt, refl));
       unrefused = (refl, refl);
-      widest = refl;
       farthest = refl;
+      widest = λ _. refl;
+      wide = refl;
     }
 
 -- four of seven bad: good ones at 0, 7 and 4
 four-covered : Covered 7 2 4 7 4
 unfolding computed
-four-covered = record { grants = refl; more = lit< tt; fewer = lit< tt; crowded = lit≤ tt; accurate = lit≤ tt }
+four-covered = record { grants = refl; more = lit< tt; fewer = lit< tt; crowded = lit≤ tt; inexact = omega arith }
 
 pub four-reached : Reached 7 2 4 7 4
 unfolding computed
@@ -60,6 +62,7 @@ four-reached =
       counts = refl;
       sound = ((lit< tt, refl), (lit< tt, refl));
       unrefused = (refl, refl);
-      widest = refl;
       farthest = refl;
+      widest = λ _. refl;
+      wide = refl;
     }

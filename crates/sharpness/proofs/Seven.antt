@@ -1,11 +1,11 @@
--- The regulator's question to the tick: `seven-reached` is the corollary that specs/Sharpness.antt states. Where three of seven are bad the
--- exact gap is δ and twice the nearest whole number to 5δ/7, at every window.
+-- The regulator's question to the tick: `seven-reached` is the corollary that specs/Sharpness.antt states. Where t of seven are bad the
+-- exact gap is δ and twice the nearest whole number to (2+t)δ/7, at every window.
 -- Assumes nothing.
 use mathlib.Core.Path.{_≡_, sym, ap, _∙_}
-use Prim.Native.Nat.{ℕ, _+_, _*_, _-_, _≤_, _<_}
+use Prim.Native.Nat.{ℕ, _+_, _*_, _-_, _/_, _≤_, _<_}
 use native.Mathlib.Omega.{arith}
 use lib.Dec.{lit<, lit≤}
-use lib.IntN.{pos, natAbs, _-ℤ_}
+use lib.IntN.{pos, _-ℤ_}
 use Rattle.arithmetic.specs.Naturals.{down}
 use Rattle.arithmetic.proofs.Shift.{down-cong, pos-down, dist-down}
 use Rattle.model.specs.RoundSheet.{fca, median}
@@ -13,12 +13,15 @@ use Rattle.model.specs.Steps.{mean}
 use Rattle.model.specs.Cases.{settings}
 use Rattle.rounds.specs.Naturals.{mean-nat}
 use Rattle.planning.proofs.Checks.{may-start-none}
-use Rattle.sharpness.specs.Sharpness.{Covered, worstStation, fiveSevenths, SevenReached}
+use Rattle.guarantee.specs.Guarantee.{apart}
+use Rattle.guarantee.specs.Regulator.{nearestSeventh}
+use Rattle.sharpness.specs.Sharpness.{Covered, worstStation, SevenAt, SevenReached}
 use Rattle.sharpness.proofs.Differences.{mean-below-zero, mean-above-zero}
 use Rattle.sharpness.proofs.Sharpness.{always-reached}
 
-seven-covered : (δ κ : ℕ) → δ ≤ 1_000_000 → κ ≤ 1_000_000_000 → δ ≤ 2 * κ → Covered 7 2 3 δ κ
-seven-covered δ κ window accuracy wide =
+seven-covered :
+    (t δ κ : ℕ) → 2 < t → t < 5 → δ ≤ 1_000_000 → 0 < κ → κ ≤ 1_000_000_000 → Covered 7 2 t δ κ
+seven-covered t δ κ more fewer window inexact accuracy =
     record {
       grants =
           may-start-none (settings 7 2 fca median δ) κ 0
@@ -35,36 +38,47 @@ seven-covered δ κ window accuracy wide =
             accurate = accuracy;
             few = lit≤ tt;
           });
-      more = lit< tt;
-      fewer = lit< tt;
-      crowded = lit≤ tt;
-      accurate = wide;
+      more = more;
+      fewer = fewer;
+      crowded = omega arith;
+      inexact = inexact;
     }
 
-module _ (δ : ℕ) where
-  -- the means of 5δ above 0 and below it, moved up by δ
-  above : mean 7 (pos ((2 + 3) * δ)) ≡ down δ (fiveSevenths δ + δ)
-  unfolding mean-nat
-  above = mean-above-zero 7 δ (lit< tt) ((2 + 3) * δ) ∙ ap (down δ) (omega arith)
+-- the means of a sum e, and of e below 0: e and what it lacks to 7δ have nearest sevenths that add up to δ, as 7 is odd
+module _ (δ e : ℕ) (l : e ≤ 7 * δ) where
+  above : mean 7 (pos e) ≡ down δ (nearestSeventh e + δ)
+  unfolding mean-nat nearestSeventh
+  above = mean-above-zero 7 δ (lit< tt) e ∙ ap (down δ) (omega arith)
 
-  below : mean 7 (pos 0 -ℤ pos ((2 + 3) * δ)) ≡ down δ (δ - fiveSevenths δ)
-  unfolding mean-nat
-  below = mean-below-zero 7 δ (lit< tt) ((2 + 3) * δ) (2 * δ) (omega arith) ∙ ap (down δ) (omega arith)
+  under : mean 7 (pos 0 -ℤ pos e) ≡ down δ (δ - nearestSeventh e)
+  unfolding mean-nat nearestSeventh
+  under = mean-below-zero 7 δ (lit< tt) e (7 * δ - e) (omega arith) ∙ ap (down δ) (omega arith)
 
-  seven-gap : δ + natAbs (mean 7 (pos ((2 + 3) * δ)) -ℤ mean 7 (pos 0 -ℤ pos ((2 + 3) * δ))) ≡ δ + 2 * fiveSevenths δ
-  seven-gap = rw (above, below) (omega (arith, dist-down δ (fiveSevenths δ + δ) (δ - fiveSevenths δ)))
+  most : nearestSeventh e ≤ δ
+  unfolding nearestSeventh
+  most = omega arith
 
-  seven-error : natAbs (mean 7 (pos ((2 + 3) * δ)) -ℤ pos 0) ≡ fiveSevenths δ
-  seven-error = rw above (omega (arith, rw zero-down at (dist-down δ (fiveSevenths δ + δ) δ)))
+  both-nearest : apart (mean 7 (pos e)) (mean 7 (pos 0 -ℤ pos e)) ≡ 2 * nearestSeventh e
+  both-nearest = rw (above, under) (omega (arith, dist-down δ (nearestSeventh e + δ) (δ - nearestSeventh e), most))
+
+  one-nearest : apart (mean 7 (pos e)) (pos 0) ≡ nearestSeventh e
+  one-nearest = rw above (omega (arith, rw zero-down at (dist-down δ (nearestSeventh e + δ) δ)))
     where
       zero-down : down δ δ ≡ pos 0
       zero-down = down-cong δ δ 0 0 (omega arith) ∙ sym (pos-down 0)
 
-pub seven-reached : SevenReached
+seven-at :
+    (t δ κ : ℕ) → 2 < t → t < 5 → (2 + t) * δ ≤ 7 * δ → δ ≤ 1_000_000 → 0 < κ → κ ≤ 1_000_000_000 → SevenAt t δ κ
 unfolding worstStation
-seven-reached δ κ window accuracy wide =
+seven-at t δ κ more fewer l window inexact accuracy =
     record {
-      reached = always-reached 7 2 3 δ κ (seven-covered δ κ window accuracy wide);
-      gap = seven-gap δ;
-      error = ap (λ (y : ℕ). κ + y) (seven-error δ);
+      reached = always-reached 7 2 t δ κ (seven-covered t δ κ more fewer window inexact accuracy);
+      gap = ap (λ (y : ℕ). δ + y) (both-nearest δ ((2 + t) * δ) l);
+      error = ap (λ (y : ℕ). κ + y) (one-nearest δ ((2 + t) * δ) l);
     }
+
+pub seven-reached : SevenReached
+seven-reached δ κ window inexact accuracy = (
+  seven-at 3 δ κ (lit< tt) (lit< tt) (omega arith) window inexact accuracy,
+  seven-at 4 δ κ (lit< tt) (lit< tt) (omega arith) window inexact accuracy,
+)

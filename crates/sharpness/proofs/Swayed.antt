@@ -40,8 +40,8 @@ pub record Swayed (n m w : ℕ) (v : Receiver) (a b s A L : ℕ) : Type 0 where
   pub first : a ≤ b
   pub second : b ≤ s
   pub third : s ≤ n
-  -- the liars alone are too many to be left out, and with those who join them they fill a span
-  pub needed : s < n - m
+  -- without the liars no span is filled; with those who join them they fill one
+  pub short : s < n - m
   pub enough : n - m ≤ b - a + (n - s)
   pub most : b - a < n - s
 
@@ -130,7 +130,7 @@ module _ (n m w : ℕ) (v : Receiver) (a b s A L : ℕ) (h : Swayed n m w v a b 
       impossible : accepts n m w v i ≡ true → ⊥
       impossible e =
           let k = count-mono (λ j. v .pres j && insideSpan w (span .start) (v .x j)) (λ j. ltb j s) n sound in
-          omega (arith, span .holds, sound-count, h .needed)
+          omega (arith, span .holds, sound-count, h .short)
         where
           span : NatSpan w (v .pres) (v .x) (n - m) n i
           span = accepted-in-span w (v .pres) (v .x) (n - m) n i e

@@ -1,11 +1,11 @@
--- What cabinets 0 and 1 read in the round of specs/Sharpness.antt, moved up by K into the naturals: the faulty ones sway each, cabinet 0 with
--- those who read 0, cabinet 1 with those who read δ.
+-- What cabinets 0 and 1 read in the round of specs/Sharpness.antt, moved up by K into the naturals: the faulty ones sway each, cabinet 0
+-- with those who read 0, cabinet 1 with those who read highest.
 --   has p        what p reads
 -- Assumes nothing.
 use mathlib.Core.Bool.{true}
 use mathlib.Core.Logic.{_⊎_, inl, inr, ⊎-elim}
 use mathlib.Core.Path.{_≡_, refl, ap, _∙_}
-use Prim.Native.Nat.{ℕ, _+_, _*_, _-_, _≤_, _<_}
+use Prim.Native.Nat.{ℕ, _+_, _*_, _-_, _/_, _≤_, _<_}
 use native.Mathlib.Nat.{le-refl}
 use native.Mathlib.Omega.{arith}
 use borrow.Author.Tests.{ltb-true, ltb-false}
@@ -23,15 +23,28 @@ use Rattle.guarantee.specs.Witnesses.{listed}
 use Rattle.guarantee.proofs.Ready as ready
 use Rattle.guarantee.proofs.Ready.{ready-start}
 use Rattle.guarantee.proofs.Received.{received}
-use Rattle.sharpness.specs.Sharpness.{Covered, firstReading, worstStation, worstSends}
+use Rattle.sharpness.specs.Sharpness.{Covered, needed, spread, firstReading, worstStation, worstSends}
 use Rattle.sharpness.proofs.Differences.{up-difference}
-use Rattle.sharpness.proofs.Run.{may-start, joins, reads-low, reads-high, reads-half, reads-most, starts, allowed, sees, told, sees-sound, sees-liar}
+use Rattle.sharpness.proofs.Run.{spread-window, spread-some, reads-low, reads-high, reads-half, reads-most, sees, told}
+use Rattle.sharpness.proofs.Run.{may-start, joins, starts, allowed, sees-sound, sees-liar}
 use Rattle.sharpness.proofs.Swayed.{Far, Swayed}
 
 module _ (n m t δ κ : ℕ) (h : Covered n m t δ κ) where
   pub reads : (p r : ℕ) → r < n → IsReading (sees n m t δ κ p r)
   unfolding worstStation
-  reads = ready.reads (worstStation n m t δ κ) (starts n m t δ κ h) 0 (start (worstStation n m t δ κ)) (ready-start (worstStation n m t δ κ) (starts n m t δ κ h)) (worstSends n m t δ κ) (allowed n m t δ κ h)
+  reads =
+      ready.reads (worstStation n m t δ κ) (starts n m t δ κ h) 0 (start (worstStation n m t δ κ))
+      (ready-start (worstStation n m t δ κ) (starts n m t δ κ h))
+      (worstSends n m t δ κ)
+      (allowed n m t δ κ h)
+
+  -- none of the good readings are apart, or some are
+  narrow-or-wide : (δ ≡ 0) ⊎ (0 < spread δ κ)
+  narrow-or-wide =
+      ⊎-elim
+      (λ s. inr (spread-some δ κ (omega (arith, h .inexact)) (ltb-true 0 δ s)))
+      (λ f. inl (omega (arith, ltb-false 0 δ f)))
+      (both-ways (ltb 0 δ))
 
   module _ (K : ℕ) where
     unfoldable pub has : ℕ → Receiver
@@ -59,110 +72,105 @@ module _ (n m t δ κ : ℕ) (h : Covered n m t δ κ) where
       near-K : δ ≤ K
       near-K = omega (arith, may-start n m t δ κ h .passes .window)
 
-      -- only those who read 0 are within δ of -δ, or all are at it
-      low-others : (r : ℕ) → r < n - t → (r < 0) ⊎ (n - m - t ≤ r) → (has 0 .x r ≡ K - δ) ⊎ Far δ (K - δ) (has 0 .x r)
-      low-others r l (inl k) = absurd (impossible k)
-        where
-          impossible : r < 0 → ⊥
-          impossible k = omega arith
+      -- none but those who read 0 are within δ of what is told, or all are at it
+      low-others : (r : ℕ) → r < n - t → (r < 0) ⊎ (needed n m t ≤ r) → (has 0 .x r ≡ K - δ) ⊎ Far δ (K - δ) (has 0 .x r)
+      low-others r l (inl k) = absurd (omega (arith, k))
       low-others r l (inr k) =
           ⊎-elim
-          (λ s. inr (inr (omega (arith, positive (ltb-true 0 δ s), sound-read 0 r l, near-K))))
-          (λ f. inl (omega (arith, ltb-false 0 δ f, sound-read 0 r l, reads-most n m t δ κ h r)))
-          (both-ways (ltb 0 δ))
+          (λ z. inl (omega (arith, sound-read 0 r l, reads-most n m t δ κ r, spread-zero z)))
+          (λ s. inr (inr (omega (arith, positive s, sound-read 0 r l, near-K))))
+          narrow-or-wide
         where
-          positive : 0 < δ → 0 < firstReading n m t δ κ r
-          positive some-δ =
-              ⊎-elim
-              (λ s. omega (arith, reads-high n m t δ κ h r k (ltb-true r (2 * (n - m - t)) s)))
-              (λ f. omega (arith, reads-half n m t δ κ h r (ltb-false r (2 * (n - m - t)) f)))
-              (both-ways (ltb r (2 * (n - m - t))))
+          spread-zero : δ ≡ 0 → spread δ κ ≡ 0
+          spread-zero z = omega (arith, spread-window δ κ)
 
-      pub low-swayed : Swayed n m δ (has 0) 0 (n - m - t) (n - t) K (K - δ)
+          positive : 0 < spread δ κ → 0 < firstReading n m t δ κ r
+          positive s =
+              ⊎-elim
+              (λ e. omega (arith, reads-high n m t δ κ r k (ltb-true r (2 * needed n m t) e)))
+              (λ f. omega (arith, reads-half n m t δ κ r (ltb-false r (2 * needed n m t) f)))
+              (both-ways (ltb r (2 * needed n m t)))
+
+      pub low-swayed : Swayed n m δ (has 0) 0 (needed n m t) (n - t) K (K - δ)
       unfolding listed
       low-swayed =
           record {
             kind = unfold has in refl;
             here = λ r l. here 0 r (pos 0 -ℤ pos δ) refl;
             liars = λ r l k. liar-read 0 r (pos 0 -ℤ pos δ) refl k ∙ up-difference K 0 δ near-K ∙ omega arith;
-            joined = λ r l k. omega (arith, reads-low n m t δ κ h r k, sound-read 0 r (omega arith));
+            joined = λ r l k. omega (arith, reads-low n m t δ κ r k, sound-read 0 r (omega arith));
             others = low-others;
             above = omega (arith, near-K);
             below = omega arith;
             first = omega arith;
             second = omega arith;
             third = omega arith;
-            needed = omega (arith, h .more, h .fewer);
+            short = omega (arith, h .more, h .fewer);
             enough = omega (arith, h .fewer);
             most = omega (arith, h .more, h .fewer, h .crowded);
           }
 
     -- ---- cabinet 1
 
-    -- cabinets N-m-t to e-1 read δ, and no other sound one is within δ of 2δ, or all are at it
-    module _ (e : ℕ) (least : 2 * (n - m - t) ≤ e) (within : e ≤ n - t)
-        (at-δ : (r : ℕ) → n - m - t ≤ r → r < e → firstReading n m t δ κ r ≡ δ)
-        (under : (r : ℕ) → e ≤ r → r < n - t → (δ ≡ 0) ⊎ (firstReading n m t δ κ r < δ)) where
-      high-others : (r : ℕ) → r < n - t → (r < n - m - t) ⊎ (e ≤ r) → (has 1 .x r ≡ K + 2 * δ) ⊎ Far δ (K + 2 * δ) (has 1 .x r)
+    -- cabinets needed to e-1 read highest, and no other sound one is within δ of what is told, or all are at it
+    module _ (e : ℕ) (least : 2 * needed n m t ≤ e) (within : e ≤ n - t)
+        (highest : (r : ℕ) → needed n m t ≤ r → r < e → firstReading n m t δ κ r ≡ spread δ κ)
+        (under : (r : ℕ) → e ≤ r → r < n - t → 0 < spread δ κ → firstReading n m t δ κ r < spread δ κ) where
+      high-others :
+          (r : ℕ) → r < n - t → (r < needed n m t) ⊎ (e ≤ r)
+          → (has 1 .x r ≡ K + spread δ κ + δ) ⊎ Far δ (K + spread δ κ + δ) (has 1 .x r)
       high-others r l k =
           ⊎-elim
-          (λ z. inl (omega (arith, sound-read 1 r l, reads-most n m t δ κ h r)))
-          (λ i. inr (inl (omega (arith, sound-read 1 r l))))
-          (⊎-elim low (λ i. under r i l) k)
+          (λ z. inl (omega (arith, sound-read 1 r l, reads-most n m t δ κ r, spread-window δ κ)))
+          (λ s. inr (inl (omega (arith, sound-read 1 r l, ⊎-elim (λ i. low i s) (λ i. under r i l s) k))))
+          narrow-or-wide
         where
-          low : r < n - m - t → (δ ≡ 0) ⊎ (firstReading n m t δ κ r < δ)
-          low i =
-              ⊎-elim
-              (λ s. inr (omega (arith, ltb-true 0 δ s, reads-low n m t δ κ h r i)))
-              (λ f. inl (omega (arith, ltb-false 0 δ f)))
-              (both-ways (ltb 0 δ))
+          low : r < needed n m t → 0 < spread δ κ → firstReading n m t δ κ r < spread δ κ
+          low i s = omega (arith, reads-low n m t δ κ r i)
 
-      high-swayed-by : Swayed n m δ (has 1) (n - m - t) e (n - t) (K + δ) (K + 2 * δ)
+      high-swayed-by : Swayed n m δ (has 1) (needed n m t) e (n - t) (K + spread δ κ) (K + spread δ κ + δ)
       unfolding listed
       high-swayed-by =
           record {
             kind = unfold has in refl;
-            here = λ r l. here 1 r (pos (2 * δ)) refl;
-            liars = λ r l k. liar-read 1 r (pos (2 * δ)) refl k ∙ (unfold up in omega arith);
-            joined = λ r l k. omega (arith, at-δ r l k, sound-read 1 r (omega arith));
+            here = λ r l. here 1 r (pos (spread δ κ + δ)) refl;
+            liars = λ r l k. liar-read 1 r (pos (spread δ κ + δ)) refl k ∙ (unfold up in omega arith);
+            joined = λ r l k. omega (arith, highest r l k, sound-read 1 r (omega arith));
             others = high-others;
             above = omega arith;
             below = omega arith;
             first = omega arith;
             second = within;
             third = omega arith;
-            needed = omega (arith, h .more, h .fewer);
+            short = omega (arith, h .more, h .fewer);
             enough = omega (arith, h .fewer);
             most = omega (arith, h .more, h .fewer, h .crowded);
           }
 
-    -- with a window other than 1 those between lie strictly between
-    pub high-swayed : (δ ≡ 1 → ⊥) → Swayed n m δ (has 1) (n - m - t) (2 * (n - m - t)) (n - t) (K + δ) (K + 2 * δ)
+    -- those between lie strictly between
+    pub high-swayed :
+        (spread δ κ ≡ 1 → ⊥)
+        → Swayed n m δ (has 1) (needed n m t) (2 * needed n m t) (n - t) (K + spread δ κ) (K + spread δ κ + δ)
     high-swayed other =
-        high-swayed-by (2 * (n - m - t)) (le-refl (2 * (n - m - t)))
+        high-swayed-by (2 * needed n m t) (le-refl (2 * needed n m t))
         (omega (arith, joins n m t δ κ h, h .fewer))
-        (reads-high n m t δ κ h)
-        between
+        (reads-high n m t δ κ)
+        (λ r l k s. half (spread δ κ) (firstReading n m t δ κ r) s other (reads-half n m t δ κ r l))
       where
-        between : (r : ℕ) → 2 * (n - m - t) ≤ r → r < n - t → (δ ≡ 0) ⊎ (firstReading n m t δ κ r < δ)
-        between r l k =
-            ⊎-elim
-            (λ s. inr (omega (arith, ltb-true 1 δ s, reads-half n m t δ κ h r l)))
-            (λ f. ⊎-elim (λ s. absurd (other (omega (arith, ltb-true 0 δ s, ltb-false 1 δ f)))) (λ g. inl (omega (arith, ltb-false 0 δ g))) (both-ways (ltb 0 δ)))
-            (both-ways (ltb 1 δ))
+        half : (d y : ℕ) → 0 < d → (d ≡ 1 → ⊥) → y ≡ (d + 1) / 2 → y < d
+        half d y s other e = ⊎-elim (λ k. omega (arith, ltb-true 1 d k)) (λ f. absurd (other (omega (arith, ltb-false 1 d f)))) (both-ways (ltb 1 d))
 
-    -- with a window of 1 they read 1
-    pub high-swayed-one : δ ≡ 1 → Swayed n m δ (has 1) (n - m - t) (n - t) (n - t) (K + δ) (K + 2 * δ)
+    -- or read highest too, where that is 1
+    pub high-swayed-one :
+        spread δ κ ≡ 1
+        → Swayed n m δ (has 1) (needed n m t) (n - t) (n - t) (K + spread δ κ) (K + spread δ κ + δ)
     high-swayed-one one =
         high-swayed-by (n - t)
         (omega (arith, joins n m t δ κ h, h .fewer))
         (le-refl (n - t))
         (λ r l k.
         ⊎-elim
-        (λ s. reads-high n m t δ κ h r l (ltb-true r (2 * (n - m - t)) s))
-        (λ f. omega (arith, reads-half n m t δ κ h r (ltb-false r (2 * (n - m - t)) f)))
-        (both-ways (ltb r (2 * (n - m - t)))))
-        (λ r l k. absurd (impossible r l k))
-      where
-        impossible : (r : ℕ) → n - t ≤ r → r < n - t → ⊥
-        impossible r l k = omega arith
+        (λ s. reads-high n m t δ κ r l (ltb-true r (2 * needed n m t) s))
+        (λ f. omega (arith, reads-half n m t δ κ r (ltb-false r (2 * needed n m t) f)))
+        (both-ways (ltb r (2 * needed n m t))))
+        (λ r l k s. absurd (omega (arith, l, k)))

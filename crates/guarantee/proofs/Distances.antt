@@ -1,5 +1,5 @@
--- Distances of whole numbers as differences of naturals, numbers of 32 bits moved up into the naturals, and the mean of a
--- sum above or below 0 as a mean of naturals.
+-- Distances of whole numbers as differences of naturals, numbers of 32 bits moved up into the naturals, and the mean
+-- of a sum above or below 0 as a mean of naturals.
 -- Assumes nothing.
 use mathlib.Core.Path.{_≡_, sym, ap, ap₂, _∙_}
 use Prim.Native.Nat.{ℕ, _+_, _*_, _-_, _≤_, _<_}

@@ -163,10 +163,10 @@ module _ (st : Station) (now : State) (x : Sends) (w p : ℕ) where
           rw s (rw (none-row (found .count) some-acc))
 
       -- p holds the round's new value
-      pub settled-value :
+      pub settled-holds :
           SFits w32 (found .value)
           → holds (settled st now x p .verdict) (settled st now x p .buffer) ≡ present (found .value)
-      settled-value h =
+      settled-holds h =
           let s = settled-is in
           rw s
           (rw (none-row (found .count) some-acc)

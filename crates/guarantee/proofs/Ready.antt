@@ -31,7 +31,7 @@ use Rattle.limits.proofs.Settled.{valueBy}
 use Rattle.guarantee.specs.Guarantee.{IsReading, Station, N, m, κ, Start, Sends, Allowed, State, start, entryOf}
 use Rattle.guarantee.specs.Guarantee.{settled, holds, next, Sound, Every, Orderly, Each}
 use Rattle.guarantee.proofs.Entries.{seen, seen-reading, entry-fits}
-use Rattle.guarantee.proofs.Link.{found, settled-refused, settled-granted, settled-value}
+use Rattle.guarantee.proofs.Link.{found, settled-refused, settled-granted, settled-holds}
 use Rattle.guarantee.proofs.Received.{received, received-value, new-value-fits}
 
 -- j rounds are done before
@@ -106,7 +106,7 @@ module _ (st : Station) (begins : Start st) (j : ℕ) (now : State) (ready : Rea
 
         holds-value : next st now x .held p ≡ present (found st now x w p .value)
         unfolding next
-        holds-value = settled-value st now x w p plan-settings pass allowed (fits p) some-acc value-fits
+        holds-value = settled-holds st now x w p plan-settings pass allowed (fits p) some-acc value-fits
 
         -- as a natural, moved down by k
         pub new-value :

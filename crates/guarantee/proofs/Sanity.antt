@@ -30,7 +30,8 @@ promised st rounds good truth m = guarantee st (m .starts) rounds (m .most) (m .
 pub every-run-orderly :
     (st : Station) → Start st → (rounds : List Sends) → length rounds ≤ 32 → Each (Allowed st) rounds
     → Every st (Orderly st) (start st) rounds
-every-run-orderly st begins rounds most each = guarantee st begins rounds most each (λ p. false) (pos 0) none-good .every-round
+every-run-orderly st begins rounds most each =
+    guarantee st begins rounds most each (λ p. false) (pos 0) none-good .every-round
   where
     none-good : Good st (λ p. false) (pos 0)
     none-good =

@@ -1,5 +1,6 @@
 -- The exact limits where more than m are bad: what document 01 states for m < t < N-m, to the tick. They are at most
--- document 01's own (`Sharper`), which so follow from them. The theorem is `exact-limits` of proofs/Exact.antt.
+-- document 01's own (`Sharper`), which so follow from them. The theorem is `exact-limits` of proofs/Exact.antt;
+-- crates/sharpness/specs/Sharpness.antt has rounds that reach them.
 --
 -- The used values of one cabinet add up to at most N times the highest good reading plus (m+t)δ, and to at least N
 -- times the lowest good one less (m+t)δ. The mean's rounding never falls, and moves by k where the sum moves by kN. So

@@ -16,7 +16,7 @@ use Rattle.arithmetic.proofs.Bools.{and-left, and-right, and-intro}
 use Rattle.arithmetic.proofs.Counting.{count-mono, count-pos, any-some, any-true}
 use Rattle.rounds.specs.Naturals.{spans, accepted-nat}
 use Rattle.rounds.proofs.Natural.{accepted-present}
-use Rattle.limits.proofs.Extremes.{Least, Greatest, least}
+use Rattle.limits.proofs.Extremes.{LeastOf, GreatestOf, least}
 
 abbrev pub insideSpan : ℕ → ℕ → ℕ → Bool
 insideSpan w a y = leb a y && leb y (a + w)
@@ -112,7 +112,7 @@ module _ (w : ℕ) (pres : ℕ → Bool) (x : ℕ → ℕ) (need n : ℕ) where
       held : ℕ → Bool
       held t = pres t && insideSpan w a (x t)
 
-      low : Least held x n
+      low : LeastOf held x n
       low = least held x n (count-pos held n r l (and-intro here (inside-intro w a (x r) (h .low) (h .high))))
 
       s : ℕ
@@ -174,7 +174,7 @@ module _ (w : ℕ) (pres : ℕ → Bool) (x : ℕ → ℕ) (need n : ℕ) where
 
   -- L2: the span from the lowest accepted reading holds enough accepted ones, and so does the span up to the highest
   pub lowest-span :
-      (lo : Least (accepted-nat w pres x need n) x n)
+      (lo : LeastOf (accepted-nat w pres x need n) x n)
       → need ≤ count (λ t. accepted-nat w pres x need n t && insideSpan w (x (lo .index)) (x t)) n
   lowest-span lo =
       le-trans
@@ -194,7 +194,7 @@ module _ (w : ℕ) (pres : ℕ → Bool) (x : ℕ → ℕ) (need n : ℕ) where
       h = accepted-nat-span (lo .index) (lo .passes)
 
   pub highest-span :
-      (hi : Greatest (accepted-nat w pres x need n) x n)
+      (hi : GreatestOf (accepted-nat w pres x need n) x n)
       → need ≤ count
       (λ t. accepted-nat w pres x need n t && (leb (x (hi .index)) (x t + w) && leb (x t) (x (hi .index)))) n
   highest-span hi =

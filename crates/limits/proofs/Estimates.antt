@@ -13,7 +13,7 @@ use Rattle.arithmetic.specs.Naturals.{total}
 use Rattle.arithmetic.proofs.Sums.{total-mono, total-scale, count-total}
 use Rattle.model.specs.RoundSheet.{average, median}
 use Rattle.rounds.specs.Naturals.{numbered-nat, average-nat, median-nat, midpoint-nat, estimate-nat, used-nat}
-use Rattle.limits.proofs.Extremes.{Least, Greatest}
+use Rattle.limits.proofs.Extremes.{LeastOf, GreatestOf}
 use Rattle.limits.proofs.Ranks.{Numbered, numbered-found}
 
 pub record Between (a b y : ℕ) : Type 0 where
@@ -94,7 +94,7 @@ module _ (acc : ℕ → Bool) (n : ℕ) (x : ℕ → ℕ) (some-acc : 0 < count 
 
   -- the estimate lies between the lowest and the highest accepted reading
   pub estimate-between :
-      (k kind : ℕ) (lo : Least acc x n) (hi : Greatest acc x n)
+      (k kind : ℕ) (lo : LeastOf acc x n) (hi : GreatestOf acc x n)
       → Between (x (lo .index)) (x (hi .index)) (estimate-nat k kind acc n x)
   estimate-between k kind lo hi = estimate-within (x (lo .index)) (x (hi .index)) (lo .first) (hi .first) k kind
 

@@ -79,14 +79,14 @@ le-either a b =
     (λ f. let l = leb-false a b f in inr (omega arith))
     (both-ways (leb a b))
 
-abbrev pub Least : (ℕ → Bool) → (ℕ → ℕ) → ℕ → Type 0
-Least = Extreme (λ a b. a ≤ b)
+abbrev pub LeastOf : (ℕ → Bool) → (ℕ → ℕ) → ℕ → Type 0
+LeastOf = Extreme (λ a b. a ≤ b)
 
-abbrev pub Greatest : (ℕ → Bool) → (ℕ → ℕ) → ℕ → Type 0
-Greatest = Extreme (λ a b. b ≤ a)
+abbrev pub GreatestOf : (ℕ → Bool) → (ℕ → ℕ) → ℕ → Type 0
+GreatestOf = Extreme (λ a b. b ≤ a)
 
-pub least : (p : ℕ → Bool) (x : ℕ → ℕ) (n : ℕ) → 0 < count p n → Least p x n
+pub least : (p : ℕ → Bool) (x : ℕ → ℕ) (n : ℕ) → 0 < count p n → LeastOf p x n
 least = extreme (λ a b. a ≤ b) le-either (λ a b c f g. le-trans f g)
 
-pub greatest : (p : ℕ → Bool) (x : ℕ → ℕ) (n : ℕ) → 0 < count p n → Greatest p x n
+pub greatest : (p : ℕ → Bool) (x : ℕ → ℕ) (n : ℕ) → 0 < count p n → GreatestOf p x n
 greatest = extreme (λ a b. b ≤ a) (λ a b. le-either b a) (λ a b c f g. le-trans g f)

@@ -1,7 +1,7 @@
 -- The limits of one round. With at most m bad nobody is refused, a new value strays from the true one by at most the
 -- growth planned, and two new values differ by at most the next window. With more, but fewer than n - m, bad the wider
--- limits hold, to the tick. By counting: each used value is bounded row by row, the bounds are summed, and the mean of n
--- follows.
+-- limits hold, to the tick. By counting: each used value is bounded row by row, the bounds are summed, and the mean of
+-- n follows.
 --   unrefused                              every good reading is accepted
 --   accuracy-few, precision-few            any estimators
 --   precision-median                       medians, where both read alike what both have
@@ -20,7 +20,7 @@ use Rattle.arithmetic.specs.Naturals.{total}
 use Rattle.arithmetic.proofs.Sums.{total-const, total-scale, count-total}
 use Rattle.model.specs.Planner.{ceilDiv}
 use Rattle.model.specs.RoundSheet.{median}
-use Rattle.limits.proofs.Extremes.{Least, Greatest, least, greatest}
+use Rattle.limits.proofs.Extremes.{LeastOf, GreatestOf, least, greatest}
 use Rattle.limits.proofs.Means.{rise, fall, mean-rise, mean-fall, fall-rise, rise-ceil, total-close, mean-stray}
 use Rattle.limits.proofs.Acceptance.{insideSpan, inside-intro, NatSpan, span-accepted}
 use Rattle.limits.proofs.Ranks.{Numbered}
@@ -101,10 +101,10 @@ module _ (n m w : ℕ) (good : ℕ → Bool) (g : ℕ → ℕ) where
         some-good : 0 < count good n
         some-good = omega (arith, h .many, count-not good n)
 
-        lo : Least good g n
+        lo : LeastOf good g n
         lo = least good g n some-good
 
-        hi : Greatest good g n
+        hi : GreatestOf good g n
         hi = greatest good g n some-good
 
   -- ---- at most m bad
@@ -121,7 +121,7 @@ module _ (n m w : ℕ) (good : ℕ → Bool) (g : ℕ → ℕ) where
       pub good-accepted : (r : ℕ) → r < n → good r ≡ true → accepts n m w v r ≡ true
       good-accepted r l e = span-accepted w (v .pres) (v .x) (n - m) n r l (s .here r l e) span
         where
-          lo : Least good g n
+          lo : LeastOf good g n
           lo = least good g n (omega (arith, h .planned, many-good))
 
           reads : (t : ℕ) → t < n → good t ≡ true → v .x t ≡ g t
@@ -161,10 +161,10 @@ module _ (n m w : ℕ) (good : ℕ → Bool) (g : ℕ → ℕ) where
       used-good : (r : ℕ) → r < n → good r ≡ true → usedBy n m w v r ≡ g r
       used-good r l e = used-accepted n m w v r (good-accepted r l e) ∙ s .alike r l e (s .here r l e)
 
-      lowest : Least (accepts n m w v) (v .x) n
+      lowest : LeastOf (accepts n m w v) (v .x) n
       lowest = least (accepts n m w v) (v .x) n unrefused
 
-      highest : Greatest (accepts n m w v) (v .x) n
+      highest : GreatestOf (accepts n m w v) (v .x) n
       highest = greatest (accepts n m w v) (v .x) n unrefused
 
       used-between : (r : ℕ) → r < n → Between (v .x (lowest .index)) (v .x (highest .index)) (usedBy n m w v r)

@@ -15,7 +15,7 @@ use Rattle.arithmetic.specs.Counting.{count, lowest}
 use Rattle.arithmetic.proofs.Bools.{both-ways, clash, and-left, and-right, and-intro}
 use Rattle.arithmetic.proofs.Counting.{count-mono, count-pos, lowest-cases}
 use Rattle.rounds.specs.Naturals.{nat-at, is-numbered, numbered-nat}
-use Rattle.limits.proofs.Extremes.{Least, Greatest, least, greatest}
+use Rattle.limits.proofs.Extremes.{LeastOf, GreatestOf, least, greatest}
 
 pub record Numbered (acc : ℕ → Bool) (n : ℕ) (x : ℕ → ℕ) (h e : ℕ) : Type 0 where
   pub index : ℕ
@@ -43,7 +43,7 @@ module _ (acc : ℕ → Bool) (n : ℕ) (x : ℕ → ℕ) (h : ℕ) where
   enough-count r e = leb-true h _ (and-right (acc r) (leb h (count (λ s. acc s && leb (x s) (x r)) n)) e)
 
   -- below the least of those fewer than h stand: the greatest of h or more below it would have h at or below it too
-  fewer : (r : Least enough x n) → 0 < h → count (λ s. acc s && ltb (x s) (x (r .index))) n < h
+  fewer : (r : LeastOf enough x n) → 0 < h → count (λ s. acc s && ltb (x s) (x (r .index))) n < h
   fewer r some-h = ⊎-elim (λ t. ltb-true _ h t) (λ f. absurd (impossible (ltb-false _ h f))) (both-ways (ltb _ h))
     where
       under : ℕ → Bool
@@ -55,7 +55,7 @@ module _ (acc : ℕ → Bool) (n : ℕ) (x : ℕ → ℕ) (h : ℕ) where
       under-less : (s : ℕ) → under s ≡ true → x s < x (r .index)
       under-less s e = ltb-true (x s) (x (r .index)) (and-right (acc s) (ltb (x s) (x (r .index))) e)
 
-      as-many : (top : Greatest under x n) → count under n ≤ count (λ s. acc s && leb (x s) (x (top .index))) n
+      as-many : (top : GreatestOf under x n) → count under n ≤ count (λ s. acc s && leb (x s) (x (top .index))) n
       as-many top =
           count-mono under (λ s. acc s && leb (x s) (x (top .index))) n
           (λ s l e. and-intro (under-acc s e) (le-leb (x s) (x (top .index)) (top .first s l e)))
@@ -76,7 +76,7 @@ module _ (acc : ℕ → Bool) (n : ℕ) (x : ℕ → ℕ) (h : ℕ) where
         (λ s l a. and-intro a (le-leb _ _ (hi .first s l a))) in
         count-pos enough n (hi .index) (hi .inRange) (enough-intro (hi .index) (hi .passes) (le-trans most c))
 
-    first-enough : Least enough x n
+    first-enough : LeastOf enough x n
     first-enough = least enough x n any-enough
 
     pub numbered-exists : (r : ℕ) × (r < n) × (is-numbered acc n x h r ≡ true)

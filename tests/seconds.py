@@ -10,6 +10,7 @@ import sys
 PROVED = re.compile(r"^rt: (\w+) (?:proved|NOT PROVED) \((?:exit \d+, )?(\d+) s\)")
 EDIT = re.compile(r"^rt: must-fail (\w+)/\S+: .*?(\d+) s\)$")
 
+sys.stdin.reconfigure(encoding="utf-8", errors="replace")
 proofs = {}
 edits = {}
 for line in sys.stdin:

@@ -1,5 +1,6 @@
--- The round of specs/Sharpness.antt for two stations of seven with a window of 7, computed from the first readings to the last byte. A
--- check comes to them before it comes to the theorem, so that a false statement is refused by its numbers.
+-- The round of specs/Sharpness.antt for two stations of seven with a window of 7, computed from the first readings to
+-- the last byte. A check comes to them before it comes to the theorem, so that a false statement is refused by its
+-- numbers.
 -- Assumes nothing.
 use mathlib.Core.Path.{refl}
 use native.Mathlib.Omega.{arith}

@@ -1,6 +1,6 @@
--- What the mean makes of the two swayed sums. With n = k + (m+t), k of the values at K and the others δ below, the sum is (m+t)δ short of
--- n times K; with k of the values at K+D and the others δ above, the mean is D above that of n times K and (m+t)δ. Where D and δ are 1 the
--- mean is the same with m, not k, of them at K+1.
+-- What the mean makes of the two swayed sums. With n = k + (m+t), k of the values at K and the others δ below, the
+-- sum is (m+t)δ short of n times K; with k of the values at K+D and the others δ above, the mean is D above that of n
+-- times K and (m+t)δ. Where D and δ are 1 the mean is the same with m, not k, of them at K+1.
 -- Assumes nothing.
 use mathlib.Core.Path.{_≡_, ap, _∙_}
 use Prim.Native.Nat.{ℕ, _+_, _*_, _-_, _/_, _≤_, _<_}

@@ -1,4 +1,5 @@
--- The run of specs/Sharpness.antt: demand 3's hypotheses hold of it, t are bad, and what its cabinets read of each other.
+-- The run of specs/Sharpness.antt: demand 3's hypotheses hold of it, t are bad, and what its cabinets read of each
+-- other.
 -- Assumes nothing.
 use mathlib.Core.Bool.{Bool, true, false, cond}
 use mathlib.Core.List.{[], _∷_}
@@ -174,7 +175,9 @@ module _ (n m t δ κ : ℕ) (h : Covered n m t δ κ) where
         present = λ p l g. refl;
         accurate = λ p l g. accurate (firstReading n m t δ κ p) (reads-most n m t δ κ p);
         precise = λ p q lp lq gp gq.
-            precise (firstReading n m t δ κ p) (firstReading n m t δ κ q) (reads-most n m t δ κ p) (reads-most n m t δ κ q);
+            precise (firstReading n m t δ κ p) (firstReading n m t δ κ q)
+            (reads-most n m t δ κ p)
+            (reads-most n m t δ κ q);
       }
 
   pub meets : Meets (worstStation n m t δ κ) (worstSends n m t δ κ ∷ []) (below (n - t)) (trueValue n m t δ κ)
@@ -191,7 +194,8 @@ module _ (n m t δ κ : ℕ) (h : Covered n m t δ κ) where
     unfolding worstStation
     sees-sound l =
         seen-direct (worstStation n m t δ κ) (start (worstStation n m t δ κ)) (worstSends n m t δ κ) δ p r refl
-        ∙ heard-sound (worstStation n m t δ κ) (start (worstStation n m t δ κ)) (worstSends n m t δ κ) r p (lt-ltb r (n - t) l)
+        ∙ heard-sound (worstStation n m t δ κ) (start (worstStation n m t δ κ)) (worstSends n m t δ κ) r p
+        (lt-ltb r (n - t) l)
 
     pub sees-liar : n - t ≤ r → sees n m t δ κ p r ≡ told n m t δ κ p
     unfolding worstStation worstSends heard

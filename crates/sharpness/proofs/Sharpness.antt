@@ -1,5 +1,5 @@
--- The exact limits are reached: `always-reached` is the theorem that specs/Sharpness.antt states. Cabinet 0 is swayed down, to the mean of
--- (m+t)δ below the lowest good reading, and cabinet 1 up, to that of (m+t)δ above the highest.
+-- The exact limits are reached: `always-reached` is the theorem that specs/Sharpness.antt states. Cabinet 0 is swayed
+-- down, to the mean of (m+t)δ below the lowest good reading, and cabinet 1 up, to that of (m+t)δ above the highest.
 -- Assumes nothing.
 use mathlib.Core.Logic.{⊎-elim}
 use mathlib.Core.Path.{_≡_, refl, sym, ap, _∙_, subst⁻¹}
@@ -28,7 +28,7 @@ use Rattle.guarantee.proofs.Received.{received-count}
 use Rattle.sharpness.specs.Sharpness.{Covered, needed, spread, worstStation, worstSends, AlwaysReached}
 use Rattle.sharpness.proofs.Differences.{difference-down, mean-below-zero, mean-above-zero}
 use Rattle.sharpness.proofs.Gains.{low-sum, high-mean, high-mean-one}
-use Rattle.sharpness.proofs.Run.{spread-window, spread-whole, spread-one, sees, may-start, planned, some-n, parts, joins}
+use Rattle.sharpness.proofs.Run.{spread-whole, spread-one, sees, may-start, planned, some-n, parts, joins}
 use Rattle.sharpness.proofs.Run.{starts, allowed, meets, t-bad}
 use Rattle.sharpness.proofs.Swayed.{Swayed, swayed-some, swayed-total}
 use Rattle.sharpness.proofs.Told.{reads, has, low-swayed, high-swayed, high-swayed-one}
@@ -48,7 +48,9 @@ module _ (n m t δ κ : ℕ) (h : Covered n m t δ κ) where
     abbrev reader : ℕ → Receiver
     reader = has n m t δ κ h K
 
-    holds : (p : ℕ) → 0 < count (accepts n m δ (reader p)) n → next st now x .held p ≡ present (down K (valueBy n m δ (reader p)))
+    holds :
+        (p : ℕ) → 0 < count (accepts n m δ (reader p)) n
+        → next st now x .held p ≡ present (down K (valueBy n m δ (reader p)))
     unfolding worstStation has
     holds p some-acc =
         ready.new-value st (starts n m t δ κ h) 0 now (ready-start st (starts n m t δ κ h)) x (allowed n m t δ κ h) p
@@ -68,7 +70,8 @@ module _ (n m t δ κ : ℕ) (h : Covered n m t δ κ) where
     low-total =
         low-sum n (needed n m t) m t δ K (parts n m t δ κ h) low (K - δ)
         (omega (arith, may-start n m t δ κ h .passes .window))
-        (rw from-zero at (swayed-total n m δ (reader 0) 0 (needed n m t) (n - t) K (K - δ) (low-swayed n m t δ κ h K far)))
+        (rw from-zero at
+        (swayed-total n m δ (reader 0) 0 (needed n m t) (n - t) K (K - δ) (low-swayed n m t δ κ h K far)))
       where
         from-zero : n - m - t - 0 ≡ n - m - t
         from-zero = omega arith
@@ -82,13 +85,19 @@ module _ (n m t δ κ : ℕ) (h : Covered n m t δ κ) where
     high : ℕ
     high = mean-nat n (n * K + (m + t) * δ)
 
-    module _ (e c : ℕ) (s : Swayed n m δ (reader 1) (needed n m t) e (n - t) (K + spread δ κ) (K + spread δ κ + δ)) (size : e - needed n m t ≡ c) where
-      high-total : total (usedBy n m δ (reader 1)) n + c * (K + spread δ κ + δ) ≡ n * (K + spread δ κ + δ) + c * (K + spread δ κ)
-      high-total = rw size at (swayed-total n m δ (reader 1) (needed n m t) e (n - t) (K + spread δ κ) (K + spread δ κ + δ) s)
+    -- the highest good reading
+    abbrev top : ℕ
+    top = K + spread δ κ
 
-      high-by : valueBy n m δ (reader 1) ≡ high + spread δ κ → next st now x .held 1 ≡ present (down K (high + spread δ κ))
+    module _ (e c : ℕ) (s : Swayed n m δ (reader 1) (needed n m t) e (n - t) top (top + δ))
+        (size : e - needed n m t ≡ c) where
+      high-total : total (usedBy n m δ (reader 1)) n + c * (top + δ) ≡ n * (top + δ) + c * top
+      high-total = rw size at (swayed-total n m δ (reader 1) (needed n m t) e (n - t) top (top + δ) s)
+
+      high-by :
+          valueBy n m δ (reader 1) ≡ high + spread δ κ → next st now x .held 1 ≡ present (down K (high + spread δ κ))
       high-by v =
-          holds 1 (swayed-some n m δ (reader 1) (needed n m t) e (n - t) (K + spread δ κ) (K + spread δ κ + δ) s)
+          holds 1 (swayed-some n m δ (reader 1) (needed n m t) e (n - t) top (top + δ) s)
           ∙ ap (λ (y : ℕ). present (down K y)) v
 
     high-value : next st now x .held 1 ≡ present (down K (high + spread δ κ))
@@ -103,14 +112,14 @@ module _ (n m t δ κ : ℕ) (h : Covered n m t δ κ) where
         at-other other =
             high-by (2 * needed n m t) (needed n m t) (high-swayed n m t δ κ h K other) (omega arith)
             (high-mean n (needed n m t) m t δ K (parts n m t δ κ h) (some-n n m t δ κ h)
-            (total (usedBy n m δ (reader 1)) n) (spread δ κ) (K + spread δ κ + δ) refl
+            (total (usedBy n m δ (reader 1)) n) (spread δ κ) (top + δ) refl
             (high-total (2 * needed n m t) (needed n m t) (high-swayed n m t δ κ h K other) (omega arith)))
 
         at-one : spread δ κ ≡ 1 → next st now x .held 1 ≡ present (down K (high + spread δ κ))
         at-one one =
             high-by (n - t) m (high-swayed-one n m t δ κ h K one) (omega (arith, h .fewer))
             (high-mean-one n (needed n m t) m t δ K (parts n m t δ κ h) (some-n n m t δ κ h)
-            (total (usedBy n m δ (reader 1)) n) (spread δ κ) (K + spread δ κ + δ) refl
+            (total (usedBy n m δ (reader 1)) n) (spread δ κ) (top + δ) refl
             (spread-one δ κ (omega (arith, h .inexact)) one) one (planned n m t δ κ h) (joins n m t δ κ h)
             (high-total (n - t) m (high-swayed-one n m t δ κ h K one) (omega (arith, h .fewer))))
 

@@ -1,6 +1,7 @@
--- A receiver that t liars sway: they all send it L, and with some of the others, who read A within the window of L, they fill a span.
--- Nobody else reads L or within the window of it. Then the liars and those others are accepted, the median is L, and every used value
--- is A for those others and L for the rest.
+-- A receiver that liars sway: they all send it L, and with some of the others, who read A within the window of L,
+-- they fill a span. Nobody else reads anything but L within the window of L. Then those who read A or L are accepted,
+-- the median is L, and every used value is A for those who read A and L for the rest.
+--   Swayed       what is so said of a receiver
 -- Assumes nothing.
 use mathlib.Core.Bool.{Bool, true, false, cond, not, _&&_}
 use mathlib.Core.Logic.{_⊎_, inl, inr, ⊎-elim}
@@ -11,13 +12,14 @@ use native.Mathlib.Omega.{arith}
 use borrow.Author.Tests.{ltb-true, ltb-false, leb-true, leb-false, lt-ltb, not-true}
 use lib.Dec.{leb, ltb}
 use Rattle.arithmetic.specs.Counting.{count}
+use Rattle.arithmetic.specs.Naturals.{total}
 use Rattle.arithmetic.proofs.Bools.{both-ways, clash, and-left, and-right, and-intro, not-true-false}
 use Rattle.arithmetic.proofs.Counting.{count-mono, count-not}
-use Rattle.arithmetic.specs.Naturals.{total}
 use Rattle.arithmetic.proofs.Sums.{total-ext}
 use Rattle.model.specs.RoundSheet.{median}
 use Rattle.rounds.specs.Naturals.{estimate-nat}
-use Rattle.limits.proofs.Acceptance.{insideSpan, inside-intro, inside-low, inside-high, NatSpan, accepted-in-span, span-accepted}
+use Rattle.limits.proofs.Acceptance.{insideSpan, inside-intro, inside-low, inside-high}
+use Rattle.limits.proofs.Acceptance.{NatSpan, accepted-in-span, span-accepted}
 use Rattle.limits.proofs.Counts.{count-split}
 use Rattle.limits.proofs.Estimates.{median-numbered}
 use Rattle.limits.proofs.Ranks.{Numbered}
@@ -46,67 +48,63 @@ pub record Swayed (n m w : ℕ) (v : Receiver) (a b s A L : ℕ) : Type 0 where
   pub most : b - a < n - s
 
 module _ (n m w : ℕ) (v : Receiver) (a b s A L : ℕ) (h : Swayed n m w v a b s A L) where
-  near-count : count (between a b) n ≡ b - a
-  near-count =
-      let i = h .first in
-      let j = h .second in
-      let k = h .third in
-      omega (arith, count-between a b n i)
+  abbrev acc : ℕ → Bool
+  acc = accepts n m w v
+
+  -- those who join the liars
+  abbrev joins : ℕ → Bool
+  joins = between a b
+
+  joins-count : count joins n ≡ b - a
+  joins-count = omega (arith, count-between a b n (h .first), h .first, h .second, h .third)
 
   sound-count : count (λ i. ltb i s) n ≡ s
-  sound-count = let k = h .third in omega (arith, count-below s n)
+  sound-count = omega (arith, count-below s n, h .third)
 
   liar-count : count (λ i. not (ltb i s)) n ≡ n - s
-  liar-count = let k = sound-count in omega (arith, count-not (λ i. ltb i s) n)
+  liar-count = omega (arith, count-not (λ i. ltb i s) n, sound-count)
+
+  reads-joined : (i : ℕ) → joins i ≡ true → v .x i ≡ A
+  reads-joined i e = h .joined i (between-low a b i e) (between-high a b i e)
+
+  joined-sound : (i : ℕ) → joins i ≡ true → i < s
+  joined-sound i e = omega (arith, between-high a b i e, h .second)
 
   -- ---- who is accepted
 
   -- those who are neither liars nor join them
-  rest-count : count (λ i. ltb i s && not (between a b i)) n + (b - a) ≤ s
+  rest-count : count (λ i. ltb i s && not (joins i)) n + (b - a) ≤ s
   rest-count =
-      let k = count-split (λ i. ltb i s) (between a b) n in
-      let j = count-mono (between a b) (λ i. ltb i s && between a b i) n (λ i _ e. and-intro (lt-ltb i s (sound i e)) e) in
-      omega (arith, sound-count, near-count)
-    where
-      sound : (i : ℕ) → between a b i ≡ true → i < s
-      sound i e =
-          let l = between-high a b i e in
-          let j = h .second in
-          omega arith
+      let k = count-split (λ i. ltb i s) joins n in
+      let j = count-mono joins (λ i. ltb i s && joins i) n (λ i _ e. and-intro (lt-ltb i s (joined-sound i e)) e) in
+      omega (arith, sound-count, joins-count)
 
+  -- a span from z with A and L in it
   module _ (z : ℕ) (zA : z ≤ A) (zL : z ≤ L) (Az : A ≤ z + w) (Lz : L ≤ z + w) where
-    -- a span from z with A and L in it
     held : ℕ → Bool
     held i = v .pres i && insideSpan w z (v .x i)
 
     -- whoever it does not hold is neither
-    missed : (i : ℕ) → i < n → not (held i) ≡ true → (ltb i s && not (between a b i)) ≡ true
+    missed : (i : ℕ) → i < n → not (held i) ≡ true → (ltb i s && not (joins i)) ≡ true
     unfolding held
-    missed i l e = go (ltb i s) refl (between a b i) refl
+    missed i l e = go (ltb i s) refl (joins i) refl
       where
-        in-span : (y : ℕ) → v .x i ≡ y → z ≤ y → y ≤ z + w → (v .pres i && insideSpan w z (v .x i)) ≡ true
-        in-span y q lo hi = and-intro (h .here i l) (inside-intro w z (v .x i) (omega arith) (omega arith))
+        inside : (y : ℕ) → v .x i ≡ y → z ≤ y → y ≤ z + w → (v .pres i && insideSpan w z (v .x i)) ≡ true
+        inside y q lo hi = and-intro (h .here i l) (inside-intro w z (v .x i) (omega arith) (omega arith))
 
-        not-held : (v .pres i && insideSpan w z (v .x i)) ≡ true → (c : Bool) → c ≡ true
-        not-held k c = clash e (ap not k)
-
-        go : (c : Bool) → ltb i s ≡ c → (d : Bool) → between a b i ≡ d → (c && not d) ≡ true
-        go true f true g = not-held (in-span A (h .joined i (between-low a b i g) (between-high a b i g)) zA Az) _
+        go : (c : Bool) → ltb i s ≡ c → (d : Bool) → joins i ≡ d → (c && not d) ≡ true
+        go true f true g = clash e (ap not (inside A (reads-joined i g) zA Az))
         go true f false g = refl
-        go false f d g = not-held (in-span L (h .liars i l (ltb-false i s f)) zL Lz) _
+        go false f d g = clash e (ap not (inside L (h .liars i l (ltb-false i s f)) zL Lz))
 
     holds : n - m ≤ count (λ i. v .pres i && insideSpan w z (v .x i)) n
     unfolding held
     holds =
         let k = count-not held n in
-        let j = count-mono (λ i. not (held i)) (λ i. ltb i s && not (between a b i)) n missed in
-        let r = rest-count in
-        let i = h .first in
-        let l = h .second in
-        let o = h .third in
-        omega (arith, h .enough)
+        let j = count-mono (λ i. not (held i)) (λ i. ltb i s && not (joins i)) n missed in
+        omega (arith, rest-count, h .first, h .second, h .third, h .enough)
 
-    accepted-from : (i : ℕ) → i < n → (v .x i ≡ A) ⊎ (v .x i ≡ L) → accepts n m w v i ≡ true
+    accepted-from : (i : ℕ) → i < n → (v .x i ≡ A) ⊎ (v .x i ≡ L) → acc i ≡ true
     accepted-from i l e =
         span-accepted w (v .pres) (v .x) (n - m) n i l (h .here i l)
         (record {
@@ -116,24 +114,33 @@ module _ (n m w : ℕ) (v : Receiver) (a b s A L : ℕ) (h : Swayed n m w v a b 
           holds = holds;
         })
 
-  swayed-accepted : (i : ℕ) → i < n → (v .x i ≡ A) ⊎ (v .x i ≡ L) → accepts n m w v i ≡ true
+  swayed-accepted : (i : ℕ) → i < n → (v .x i ≡ A) ⊎ (v .x i ≡ L) → acc i ≡ true
   swayed-accepted i l e =
       ⊎-elim
       (λ t. let o = leb-true A L t in accepted-from A (le-refl A) o (omega arith) (h .below) i l e)
       (λ f. let o = leb-false A L f in accepted-from L (omega arith) (le-refl L) (h .above) (omega arith) i l e)
       (both-ways (leb A L))
 
+  joined-accepted : (i : ℕ) → i < n → joins i ≡ true → acc i ≡ true
+  joined-accepted i l e = swayed-accepted i l (inl (reads-joined i e))
+
+  liar-accepted : (i : ℕ) → i < n → not (ltb i s) ≡ true → acc i ≡ true
+  liar-accepted i l e = swayed-accepted i l (inr (h .liars i l (ltb-false i s (not-true (ltb i s) e))))
+
   -- a span with a reading far from L has no liar in it
-  far-refused : (i : ℕ) → Far w L (v .x i) → accepts n m w v i ≡ false
-  far-refused i far = not-true-false (accepts n m w v i) impossible
+  far-refused : (i : ℕ) → Far w L (v .x i) → acc i ≡ false
+  far-refused i far = not-true-false (acc i) impossible
     where
-      impossible : accepts n m w v i ≡ true → ⊥
+      impossible : acc i ≡ true → ⊥
       impossible e =
-          let k = count-mono (λ j. v .pres j && insideSpan w (span .start) (v .x j)) (λ j. ltb j s) n sound in
+          let k = count-mono inside (λ j. ltb j s) n sound in
           omega (arith, span .holds, sound-count, h .short)
         where
           span : NatSpan w (v .pres) (v .x) (n - m) n i
           span = accepted-in-span w (v .pres) (v .x) (n - m) n i e
+
+          inside : ℕ → Bool
+          inside j = v .pres j && insideSpan w (span .start) (v .x j)
 
           outside : (j : ℕ) → v .x j ≡ L → insideSpan w (span .start) (v .x j) ≡ true → ⊥
           outside j q k =
@@ -141,102 +148,93 @@ module _ (n m w : ℕ) (v : Receiver) (a b s A L : ℕ) (h : Swayed n m w v a b 
               let hi = inside-high w (span .start) (v .x j) k in
               ⊎-elim (λ f. omega (arith, span .low)) (λ f. omega (arith, span .high)) far
 
-          sound : (j : ℕ) → j < n → (v .pres j && insideSpan w (span .start) (v .x j)) ≡ true → ltb j s ≡ true
+          sound : (j : ℕ) → j < n → inside j ≡ true → ltb j s ≡ true
           sound j l k =
-              ⊎-elim (λ t. t) (λ f. absurd (outside j (h .liars j l (ltb-false j s f)) (and-right (v .pres j) (insideSpan w (span .start) (v .x j)) k)))
+              ⊎-elim
+              (λ t. t)
+              (λ f. absurd (outside j (h .liars j l (ltb-false j s f)) (and-right (v .pres j) _ k)))
               (both-ways (ltb j s))
 
-  near-accepted : (i : ℕ) → i < n → between a b i ≡ true → accepts n m w v i ≡ true
-  near-accepted i l e = swayed-accepted i l (inl (h .joined i (between-low a b i e) (between-high a b i e)))
-
-  liar-accepted : (i : ℕ) → i < n → not (ltb i s) ≡ true → accepts n m w v i ≡ true
-  liar-accepted i l e = swayed-accepted i l (inr (h .liars i l (ltb-false i s (not-true (ltb i s) e))))
-
-  -- whoever is accepted and does not read A reads L
-  accepted-rest : (i : ℕ) → i < n → between a b i ≡ false → accepts n m w v i ≡ true → v .x i ≡ L
+  -- whoever is accepted and does not join the liars reads what they send
+  accepted-rest : (i : ℕ) → i < n → joins i ≡ false → acc i ≡ true → v .x i ≡ L
   accepted-rest i l f e =
       ⊎-elim
-      (λ t. ⊎-elim (λ q. q) (λ far. clash e (far-refused i far)) (h .others i (ltb-true i s t) (outside (leb a i) refl)))
+      (λ t.
+      ⊎-elim (λ q. q) (λ far. clash e (far-refused i far)) (h .others i (ltb-true i s t) (outside (leb a i) refl)))
       (λ g. h .liars i l (ltb-false i s g))
       (both-ways (ltb i s))
     where
       outside : (c : Bool) → leb a i ≡ c → (i < a) ⊎ (b ≤ i)
-      outside true q = inr (ltb-false i b (go q))
-        where
-          go : leb a i ≡ true → ltb i b ≡ false
-          go q = sym (rw q) ∙ f
+      outside true q = inr (ltb-false i b (sym (rw q) ∙ f))
       outside false q = inl (leb-false a i q)
 
   -- ---- the median
 
-  -- the accepted who do not read A
-  apart-count : n - s ≤ count (λ i. accepts n m w v i && not (between a b i)) n
-  apart-count =
-      let k = count-mono (λ i. not (ltb i s)) (λ i. accepts n m w v i && not (between a b i)) n liars in
+  -- the accepted who do not join the liars
+  abbrev rest : ℕ → Bool
+  rest i = acc i && not (joins i)
+
+  rest-many : n - s ≤ count rest n
+  rest-many =
+      let k = count-mono (λ i. not (ltb i s)) rest n liars in
       omega (arith, liar-count)
     where
-      liars : (i : ℕ) → i < n → not (ltb i s) ≡ true → (accepts n m w v i && not (between a b i)) ≡ true
-      liars i l e = and-intro (liar-accepted i l e) (ap not (not-true-false (between a b i) outside))
+      liars : (i : ℕ) → i < n → not (ltb i s) ≡ true → rest i ≡ true
+      liars i l e = and-intro (liar-accepted i l e) (ap not (not-true-false (joins i) outside))
         where
-          outside : between a b i ≡ true → ⊥
-          outside k =
-              let o = between-high a b i k in
-              let g = ltb-false i s (not-true (ltb i s) e) in
-              omega (arith, h .second)
+          outside : joins i ≡ true → ⊥
+          outside k = omega (arith, joined-sound i k, ltb-false i s (not-true (ltb i s) e))
 
-  together-count : count (λ i. accepts n m w v i && between a b i) n ≡ b - a
-  together-count =
-      let k = count-mono (between a b) (λ i. accepts n m w v i && between a b i) n (λ i l e. and-intro (near-accepted i l e) e) in
-      let j = count-mono (λ i. accepts n m w v i && between a b i) (between a b) n (λ i _ e. and-right (accepts n m w v i) (between a b i) e) in
-      omega (arith, near-count)
+  joined-all : count (λ i. acc i && joins i) n ≡ b - a
+  joined-all =
+      let k = count-mono joins (λ i. acc i && joins i) n (λ i l e. and-intro (joined-accepted i l e) e) in
+      let j = count-mono (λ i. acc i && joins i) joins n (λ i _ e. and-right (acc i) (joins i) e) in
+      omega (arith, joins-count)
 
-  all-count : count (accepts n m w v) n ≡ b - a + count (λ i. accepts n m w v i && not (between a b i)) n
-  all-count = omega (arith, count-split (accepts n m w v) (between a b) n, together-count)
+  all-count : count acc n ≡ b - a + count rest n
+  all-count = omega (arith, count-split acc joins n, joined-all)
 
-  pub swayed-some : 0 < count (accepts n m w v) n
-  swayed-some = omega (arith, all-count, apart-count, h .most)
+  pub swayed-some : 0 < count acc n
+  swayed-some = omega (arith, all-count, rest-many, h .most)
 
   swayed-median : estimateBy n m w v ≡ L
   swayed-median = rw (h .kind) (omega (arith, not-below, not-above))
     where
       e : ℕ
-      e = estimate-nat (v .k) median (accepts n m w v) n (v .x)
+      e = estimate-nat (v .k) median acc n (v .x)
 
-      numbered : Numbered (accepts n m w v) n (v .x) ((count (accepts n m w v) n + 1) / 2) e
-      numbered = median-numbered (accepts n m w v) n (v .x) swayed-some (v .k)
+      numbered : Numbered acc n (v .x) ((count acc n + 1) / 2) e
+      numbered = median-numbered acc n (v .x) swayed-some (v .k)
 
-      half-low : b - a < (count (accepts n m w v) n + 1) / 2
-      half-low = omega (arith, all-count, apart-count, h .most)
+      half-low : b - a < (count acc n + 1) / 2
+      half-low = omega (arith, all-count, rest-many, h .most)
 
-      half-high : (count (accepts n m w v) n + 1) / 2 ≤ count (λ i. accepts n m w v i && not (between a b i)) n
-      half-high = omega (arith, all-count, apart-count, h .most)
+      half-high : (count acc n + 1) / 2 ≤ count rest n
+      half-high = omega (arith, all-count, rest-many, h .most)
 
       too-low : e < L → ⊥
       too-low l =
-          let k = count-mono (λ i. accepts n m w v i && leb (v .x i) e) (between a b) n near in
-          omega (arith, numbered .atOrBelow, half-low, near-count)
+          let k = count-mono (λ i. acc i && leb (v .x i) e) joins n joined in
+          omega (arith, numbered .atOrBelow, half-low, joins-count)
         where
-          near : (i : ℕ) → i < n → (accepts n m w v i && leb (v .x i) e) ≡ true → between a b i ≡ true
-          near i k q =
-              ⊎-elim (λ t. t)
+          joined : (i : ℕ) → i < n → (acc i && leb (v .x i) e) ≡ true → joins i ≡ true
+          joined i k q =
+              ⊎-elim
+              (λ t. t)
               (λ f.
-              let y = accepted-rest i k f (and-left (accepts n m w v i) (leb (v .x i) e) q) in
-              let u = leb-true (v .x i) e (and-right (accepts n m w v i) (leb (v .x i) e) q) in
-              absurd (impossible y u))
-              (both-ways (between a b i))
-            where
-              impossible : v .x i ≡ L → v .x i ≤ e → ⊥
-              impossible y u = omega arith
+              let y = accepted-rest i k f (and-left (acc i) (leb (v .x i) e) q) in
+              absurd (omega (arith, y, l, leb-true (v .x i) e (and-right (acc i) (leb (v .x i) e) q))))
+              (both-ways (joins i))
 
       too-high : L < e → ⊥
       too-high l =
-          let k = count-mono (λ i. accepts n m w v i && not (between a b i)) (λ i. accepts n m w v i && ltb (v .x i) e) n under in
+          let k = count-mono rest (λ i. acc i && ltb (v .x i) e) n under in
           omega (arith, numbered .below, half-high)
         where
-          under : (i : ℕ) → i < n → (accepts n m w v i && not (between a b i)) ≡ true → (accepts n m w v i && ltb (v .x i) e) ≡ true
+          under : (i : ℕ) → i < n → rest i ≡ true → (acc i && ltb (v .x i) e) ≡ true
           under i k q =
-              let c = and-left (accepts n m w v i) (not (between a b i)) q in
-              let y = accepted-rest i k (not-true (between a b i) (and-right (accepts n m w v i) (not (between a b i)) q)) c in
+              let c = and-left (acc i) (not (joins i)) q in
+              let y = accepted-rest i k (not-true (joins i) (and-right (acc i) (not (joins i)) q)) c in
               and-intro c (lt-ltb (v .x i) e (omega arith))
 
       not-below : L ≤ e
@@ -247,16 +245,16 @@ module _ (n m w : ℕ) (v : Receiver) (a b s A L : ℕ) (h : Swayed n m w v a b 
 
   -- ---- the sum
 
-  used : (i : ℕ) → i < n → usedBy n m w v i ≡ cond (between a b i) A L
-  used i l =
-      ⊎-elim
-      (λ t. rw t (used-accepted n m w v i (near-accepted i l t) ∙ h .joined i (between-low a b i t) (between-high a b i t)))
-      (λ f. rw f (⊎-elim (λ e. used-accepted n m w v i e ∙ accepted-rest i l f e) (λ e. used-replaced n m w v i e ∙ swayed-median) (both-ways (accepts n m w v i))))
-      (both-ways (between a b i))
+  used : (i : ℕ) → i < n → usedBy n m w v i ≡ cond (joins i) A L
+  used i l = go (joins i) refl (acc i) refl
+    where
+      go : (c : Bool) → joins i ≡ c → (d : Bool) → acc i ≡ d → usedBy n m w v i ≡ cond c A L
+      go true e d f = used-accepted n m w v i (joined-accepted i l e) ∙ reads-joined i e
+      go false e true f = used-accepted n m w v i f ∙ accepted-rest i l e f
+      go false e false f = used-replaced n m w v i f ∙ swayed-median
 
   pub swayed-total : total (usedBy n m w v) n + (b - a) * L ≡ n * L + (b - a) * A
   swayed-total =
-      let k = total-ext (usedBy n m w v) (λ i. cond (between a b i) A L) n used in
-      let j = total-two (between a b) A L n in
-      let c = near-count in
-      omega (arith, rw c at j)
+      let k = total-ext (usedBy n m w v) (λ i. cond (joins i) A L) n used in
+      let c = joins-count in
+      omega (arith, rw c at (total-two joins A L n))

@@ -1,5 +1,5 @@
--- What cabinets 0 and 1 read in the round of specs/Sharpness.antt, moved up by K into the naturals: the faulty ones sway each, cabinet 0
--- with those who read 0, cabinet 1 with those who read highest.
+-- What cabinets 0 and 1 read in the round of specs/Sharpness.antt, moved up by K into the naturals: the faulty ones
+-- sway each, cabinet 0 with those who read 0, cabinet 1 with those who read highest.
 --   has p        what p reads
 -- Assumes nothing.
 use mathlib.Core.Bool.{true}
@@ -25,7 +25,8 @@ use Rattle.guarantee.proofs.Ready.{ready-start}
 use Rattle.guarantee.proofs.Received.{received}
 use Rattle.sharpness.specs.Sharpness.{Covered, needed, spread, firstReading, worstStation, worstSends}
 use Rattle.sharpness.proofs.Differences.{up-difference}
-use Rattle.sharpness.proofs.Run.{spread-window, spread-some, reads-low, reads-high, reads-half, reads-most, sees, told}
+use Rattle.sharpness.proofs.Run.{spread-window, spread-some, reads-low, reads-high, reads-half, reads-most}
+use Rattle.sharpness.proofs.Run.{sees, told}
 use Rattle.sharpness.proofs.Run.{may-start, joins, starts, allowed, sees-sound, sees-liar}
 use Rattle.sharpness.proofs.Swayed.{Far, Swayed}
 
@@ -73,7 +74,9 @@ module _ (n m t δ κ : ℕ) (h : Covered n m t δ κ) where
       near-K = omega (arith, may-start n m t δ κ h .passes .window)
 
       -- none but those who read 0 are within δ of what is told, or all are at it
-      low-others : (r : ℕ) → r < n - t → (r < 0) ⊎ (needed n m t ≤ r) → (has 0 .x r ≡ K - δ) ⊎ Far δ (K - δ) (has 0 .x r)
+      low-others :
+          (r : ℕ) → r < n - t → (r < 0) ⊎ (needed n m t ≤ r)
+          → (has 0 .x r ≡ K - δ) ⊎ Far δ (K - δ) (has 0 .x r)
       low-others r l (inl k) = absurd (omega (arith, k))
       low-others r l (inr k) =
           ⊎-elim
@@ -158,7 +161,11 @@ module _ (n m t δ κ : ℕ) (h : Covered n m t δ κ) where
         (λ r l k s. half (spread δ κ) (firstReading n m t δ κ r) s other (reads-half n m t δ κ r l))
       where
         half : (d y : ℕ) → 0 < d → (d ≡ 1 → ⊥) → y ≡ (d + 1) / 2 → y < d
-        half d y s other e = ⊎-elim (λ k. omega (arith, ltb-true 1 d k)) (λ f. absurd (other (omega (arith, ltb-false 1 d f)))) (both-ways (ltb 1 d))
+        half d y s other e =
+            ⊎-elim
+            (λ k. omega (arith, ltb-true 1 d k))
+            (λ f. absurd (other (omega (arith, ltb-false 1 d f))))
+            (both-ways (ltb 1 d))
 
     -- or read highest too, where that is 1
     pub high-swayed-one :

@@ -15,9 +15,9 @@ use Rattle.arithmetic.specs.Writing.{overwrite}
 use Rattle.model.specs.RoundSheet.{byte, settingsAt}
 use Rattle.model.specs.AnswerSheet.{answerLength, answerBytes}
 use Rattle.model.specs.Steps.{roundAt}
-use Rattle.model.specs.Refusals.{Row, firstOf, settleChecks, sheetChecks, badCabinets, badLength, noRoom}
+use Rattle.model.specs.Refusals.{Check, firstOf, settleChecks, sheetChecks, badCabinets, badLength, noRoom}
 use Rattle.model.specs.Calls.{granted, verdict, settle, writtenAfter}
-use Rattle.refusals.proofs.Rows.{first-snoc, none-left}
+use Rattle.refusals.proofs.Checks.{first-snoc, none-left}
 use Rattle.refusals.proofs.Limits.{Limits}
 use Rattle.sheets.proofs.Outcomes.{granted-none, granted-same}
 use Rattle.sheets.proofs.Answer.{length-answerBytes, answer-cabinets, answer-count, answer-estimate, answer-value, answer-mark, answer-used}
@@ -43,7 +43,7 @@ module _ (s buffer : List ℕ) (size : ℕ) (settled : Settled s buffer size) wh
   abbrev n : ℕ
   n = settingsAt s .n
 
-  abbrev row : Row
+  abbrev row : Check
   row = firstOf (settleChecks s buffer)
 
   abbrev new : List ℕ
@@ -64,14 +64,14 @@ module _ (s buffer : List ℕ) (size : ℕ) (settled : Settled s buffer size) wh
   written : a ≡ overwrite new []
   unfolding settle
   written =
-      ap (λ (x : Row). take size (writtenAfter x (answerLength n) new buffer .buffer)) passes
+      ap (λ (x : Check). take size (writtenAfter x (answerLength n) new buffer .buffer)) passes
       ∙ over-first new buffer size (length-answerBytes n (roundAt s) ∙ same-size)
       ∙ sym (over-nothing new)
 
   within : Limits (settingsAt s)
   unfolding settleChecks
   within =
-      inspected s (settingsAt s) (ap (λ (x : Row). verdict x (settingsAt s)) (none-left (sheetChecks s) _ passes)) .within
+      inspected s (settingsAt s) (ap (λ (x : Check). verdict x (settingsAt s)) (none-left (sheetChecks s) _ passes)) .within
 
   -- the bytes are an answer sheet, with cabinets 0 to n-1
   module _ (b : List ℕ) (cabinets : byte b 0 ≡ n) (long : length b ≡ answerLength n) where

@@ -12,8 +12,8 @@ use lib.ListN.{length}
 use Rattle.model.specs.declared.Refusal.{Refusal}
 use Rattle.model.specs.RoundSheet.{byte}
 use Rattle.model.specs.AnswerSheet.{answerLength}
-use Rattle.model.specs.Refusals.{Row, refusal, orNext, firstOf, badCabinets, badLength, noRoom}
-use Rattle.refusals.proofs.Rows.{first-snoc}
+use Rattle.model.specs.Refusals.{Check, refusal, orNext, firstOf, badCabinets, badLength, noRoom}
+use Rattle.refusals.proofs.Checks.{first-snoc}
 use Rattle.answer_sheet.specs.Fields.{answerChecks, cabinetChecks}
 
 module _ (a : List ℕ) (n : ℕ) (cabinets : n ≡ byte a 0) where
@@ -45,12 +45,12 @@ module _ (a : List ℕ) (r : ℕ) where
   in-order = first-snoc (answerChecks a) (noRoom (byte a 0) (r + 1))
 
   pub sheet-refuses : {x : Refusal} → some x ≡ firstOf (answerChecks a) → some x ≡ firstOf (cabinetChecks a r)
-  sheet-refuses h = sym (in-order ∙ ap (λ (row : Row). orNext row (noRoom (byte a 0) (r + 1))) (sym h))
+  sheet-refuses h = sym (in-order ∙ ap (λ (row : Check). orNext row (noRoom (byte a 0) (r + 1))) (sym h))
 
   module _ (passes : none ≡ firstOf (answerChecks a)) (n : ℕ) (cabinets : n ≡ byte a 0) where
     last-row : firstOf (cabinetChecks a r) ≡ noRoom n (r + 1)
     last-row =
-        in-order ∙ ap (λ (row : Row). orNext row (noRoom (byte a 0) (r + 1))) (sym passes)
+        in-order ∙ ap (λ (row : Check). orNext row (noRoom (byte a 0) (r + 1))) (sym passes)
         ∙ ap (λ (k : ℕ). noRoom k (r + 1)) (sym cabinets)
 
     pub cabinet-refuses : n ≤ r → some (refusal 7 0) ≡ firstOf (cabinetChecks a r)

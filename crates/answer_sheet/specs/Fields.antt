@@ -14,17 +14,17 @@ use mir.Syntax.{w32}
 use mir.Val.{toZ}
 use Rattle.model.specs.RoundSheet.{byte, word, settingsAt}
 use Rattle.model.specs.AnswerSheet.{answerHeaderSize, answerLength}
-use Rattle.model.specs.Refusals.{Row, firstOf, badCabinets, badLength, noRoom}
+use Rattle.model.specs.Refusals.{Check, firstOf, badCabinets, badLength, noRoom}
 use Rattle.model.specs.Calls.{Verdict, granted, refused, verdict}
 use Rattle.answer_sheet.specs.declared.Shown.{Shown}
 use Rattle.answer_sheet.specs.declared.Shown.the-variants.{Granted, Refused}
 
 -- "Byte 0 N", which is 1 to 64 (2); "Length is 10 + 5N" (6). An empty sheet has N 0
-unfoldable pub answerChecks : List ℕ → List Row
+unfoldable pub answerChecks : List ℕ → List Check
 answerChecks a = badCabinets (settingsAt a) ∷ badLength (length a) (answerLength (byte a 0)) ∷ []
 
 -- "Cabinets are numbered 0 to N-1": the sheet has no room for cabinet r where N is below r + 1 (7)
-unfoldable pub cabinetChecks : List ℕ → ℕ → List Row
+unfoldable pub cabinetChecks : List ℕ → ℕ → List Check
 cabinetChecks a r = answerChecks a ++ (noRoom (byte a 0) (r + 1) ∷ [])
 
 -- "Byte 0 N; byte 1 the accepted count; bytes 2 to 5 the estimate; bytes 6 to 9 the new value"

@@ -3,7 +3,7 @@
 ghost use mathlib.Core.Path.{_≡_};
 ghost use mathlib.Core.Bool.{_||_};
 ghost use lib.Dec.{eqb, ltb};
-ghost use Rattle.ensemble.specs.Answers.{rowOf};
+ghost use Rattle.ensemble.specs.Answers.{checkOf};
 ghost use Rattle.model.specs.Refusals.{firstOf};
 ghost use Rattle.model.specs.Calls.{verdict};
 ghost use Rattle.answer_sheet.specs.Fields.{answerChecks, cabinetChecks, cabinetsIn, countIn, estimateIn, valueIn, markIn, usedIn, shownAs};
@@ -24,7 +24,7 @@ fn bad_cabinets(n: usize) -> bool
 
 // Whether the bytes are an answer sheet: 1 to 64 cabinets, 10 + 5N bytes.
 fn check(answer: &[u8]) -> Screened
-    ensures { λ r. ⌜ rowOf r ≡ firstOf (answerChecks (now (answer .entry))) ⌝ }
+    ensures { λ r. ⌜ checkOf r ≡ firstOf (answerChecks (now (answer .entry))) ⌝ }
 {
     let n = words::byte_at(answer, 0) as usize;
     if bad_cabinets(n) {
@@ -45,7 +45,7 @@ fn check(answer: &[u8]) -> Screened
 
 // Whether they are one that has the cabinet.
 fn check_cabinet(answer: &[u8], cabinet: u32) -> Screened
-    ensures { λ r. ⌜ rowOf r ≡ firstOf (cabinetChecks (now (answer .entry)) cabinet) ⌝ }
+    ensures { λ r. ⌜ checkOf r ≡ firstOf (cabinetChecks (now (answer .entry)) cabinet) ⌝ }
 {
     match check(answer) {
         Screened::Refused(first) => Screened::Refused(first),
@@ -65,7 +65,7 @@ fn check_cabinet(answer: &[u8], cabinet: u32) -> Screened
 
 // The number, unless the sheet is refused.
 fn unless_refused(screened: Screened, number: u32) -> Shown
-    ensures { λ r. ⌜ shownAs r ≡ verdict (rowOf screened) number ⌝ }
+    ensures { λ r. ⌜ shownAs r ≡ verdict (checkOf screened) number ⌝ }
 {
     match screened {
         Screened::Passed => Shown::Granted(number),

@@ -10,7 +10,7 @@ use lib.Dec.{leb}
 use Rattle.model.specs.declared.Settings.{Settings}
 use Rattle.model.specs.declared.Refusal.{Refusal}
 use Rattle.model.specs.Ensemble.{missing}
-use Rattle.model.specs.Refusals.{Row, firstOf, planChecks}
+use Rattle.model.specs.Refusals.{Check, firstOf, planChecks}
 use Rattle.guarantee.specs.Guarantee.{Station, wideGap, wideError}
 use Rattle.degradation.specs.declared.Limits.{Limits}
 use Rattle.degradation.specs.declared.Wider.{Wider}
@@ -32,7 +32,7 @@ bounds c κ t =
     (cond (leb (c .n - c .m) t) nothing
     (wider (wideGap (stationOf c κ) t) (wideError (stationOf c κ) t)))
 
-abbrev pub statedAfter : Row → Stated → Stated
+abbrev pub statedAfter : Check → Stated → Stated
 statedAfter none s = s
 statedAfter (some r) s = refused r
 

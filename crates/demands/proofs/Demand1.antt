@@ -23,9 +23,9 @@ use Rattle.model.specs.RoundSheet.{settingsAt, entryCount, sheetLength, markAt,
 use Rattle.model.specs.AnswerSheet.{answerLength, answerBytes}
 use Rattle.model.specs.Steps.{roundAt}
 use Rattle.model.specs.Planner.{Plan, planFrom, advance, after, windowAfter, Reaches, maxAccuracy, maxRounds, maxStepAccuracy}
-use Rattle.model.specs.Refusals.{refusal, Row, firstOf, noRoom, badLength, tooManyFaults, badPlan, targetMissed, settingsChecks, sheetChecks, entryChecks, readChecks, writeChecks, rowChecks, settleChecks, planChecks, stepChecks, targetChecks}
+use Rattle.model.specs.Refusals.{refusal, Check, firstOf, noRoom, badLength, tooManyFaults, badPlan, targetMissed, settingsChecks, sheetChecks, entryChecks, readChecks, writeChecks, rowChecks, settleChecks, planChecks, stepChecks, targetChecks}
 use Rattle.model.specs.Calls.{Verdict, granted, refused, verdict, lent, marksOf, ticksOf, read, write, row, settle, plan, step, Target}
-use Rattle.refusals.proofs.Rows.{none-at}
+use Rattle.refusals.proofs.Checks.{none-at}
 use Rattle.sheets.proofs.Answer.{length-answerBytes}
 use Rattle.sheets.proofs.Checks.{length-passed, room-passed}
 use Rattle.sheets.proofs.Outcomes.{refused-some, row-refused}
@@ -36,12 +36,12 @@ use Rattle.demands.proofs.Orders.{no-refusal, Plain, row-more, no-rows,
 
 -- ---- any call
 
-module _ {A : Type 0} (checks : List Row) (a : A) where
+module _ {A : Type 0} (checks : List Check) (a : A) where
   -- it gives what its first check says
   gives-first : Gives checks (λ b. b ≡ a) (verdict (firstOf checks) a)
   gives-first = go (firstOf checks) refl
     where
-      go : (x : Row) → firstOf checks ≡ x → Gives checks (λ b. b ≡ a) (verdict x a)
+      go : (x : Check) → firstOf checks ≡ x → Gives checks (λ b. b ≡ a) (verdict x a)
       go none e = (none-at checks e, refl)
       go (some r) e = first-applies checks r e
 
@@ -49,7 +49,7 @@ module _ {A : Type 0} (checks : List Row) (a : A) where
   leaves-first : {B : Type 0} (new before : List B) → (firstOf checks ≡ none → length new ≤ length before) → Leaves (verdict (firstOf checks) a) new before (lent (firstOf checks) (overwrite new before) before)
   leaves-first new before room = go (firstOf checks) refl
     where
-      go : (x : Row) → firstOf checks ≡ x → Leaves (verdict x a) new before (lent x (overwrite new before) before)
+      go : (x : Check) → firstOf checks ≡ x → Leaves (verdict x a) new before (lent x (overwrite new before) before)
       go none e = record { start = take-overwrite new before; later = drop-overwrite new before; long = length-overwrite new before (room e) }
       go (some r) e = refl
 
@@ -66,7 +66,7 @@ module _ (s : List ℕ) where
     behind-settle : Plain (10 ∷ []) (tooManyFaults (roundAt s .count) ∷ [])
     behind-settle = plain-one (faults-says (roundAt s .count))
 
-    pub settle-order : InOrder (1 ∷ 2 ∷ 3 ∷ 4 ∷ 5 ∷ 6 ∷ 7 ∷ 8 ∷ 9 ∷ 10 ∷ []) (settleChecks s answer)
+    pub settle-order : InOrder (1 ∷ 2 ∷ 3 ∷ 4 ∷ 5 ∷ 6 ∷ 7 ∷ 8 ∷ 9 ∷ 10 ∷ []) (settleChecks s (length answer))
     unfolding settleChecks sheetChecks settingsChecks entryChecks
     settle-order = entry-order (markAt s) (bitsAt s E) E before-settle behind-settle
 
@@ -74,12 +74,12 @@ module _ (s : List ℕ) where
     unfolding settle settleChecks sheetChecks settingsChecks entryChecks each
     settle-placed r h =
         entry-placed (markAt s) (bitsAt s E) E before-settle behind-settle refl refl r
-        (refused-some (firstOf (settleChecks s answer)) (answerLength (settingsAt s .n)) r h)
+        (refused-some (firstOf (settleChecks s (length answer))) (answerLength (settingsAt s .n)) r h)
 
-    settle-room : firstOf (settleChecks s answer) ≡ none → length (answerBytes (settingsAt s .n) (roundAt s)) ≤ length answer
+    settle-room : firstOf (settleChecks s (length answer)) ≡ none → length (answerBytes (settingsAt s .n) (roundAt s)) ≤ length answer
     unfolding settleChecks sheetChecks settingsChecks entryChecks
     settle-room h =
-        let room = room-passed (length answer) (answerLength (settingsAt s .n)) (none-at (settleChecks s answer) h 6) in
+        let room = room-passed (length answer) (answerLength (settingsAt s .n)) (none-at (settleChecks s (length answer)) h 6) in
         let long = length-answerBytes (settingsAt s .n) (roundAt s) in
         omega arith
 
@@ -88,8 +88,8 @@ module _ (s : List ℕ) where
     settling =
         record {
           order = settle-order;
-          gives = gives-first (settleChecks s answer) (answerLength (settingsAt s .n));
-          leaves = leaves-first (settleChecks s answer) (answerLength (settingsAt s .n)) (answerBytes (settingsAt s .n) (roundAt s)) answer settle-room;
+          gives = gives-first (settleChecks s (length answer)) (answerLength (settingsAt s .n));
+          leaves = leaves-first (settleChecks s (length answer)) (answerLength (settingsAt s .n)) (answerBytes (settingsAt s .n) (roundAt s)) answer settle-room;
           place = settle-placed;
         }
 
@@ -97,7 +97,7 @@ module _ (s : List ℕ) where
     before-read : Plain (1 ∷ 2 ∷ 3 ∷ 4 ∷ 5 ∷ 6 ∷ 7 ∷ 7 ∷ []) (sheetChecks s ++ (noRoom (length marks) E ∷ noRoom (length readings) E ∷ []))
     before-read = plain-append (plain-sheet s) (row-more (room-says (length marks) E) (plain-one (room-says (length readings) E)))
 
-    read-order : InOrder (1 ∷ 2 ∷ 3 ∷ 4 ∷ 5 ∷ 6 ∷ 7 ∷ 7 ∷ 8 ∷ 9 ∷ []) (readChecks s marks readings)
+    read-order : InOrder (1 ∷ 2 ∷ 3 ∷ 4 ∷ 5 ∷ 6 ∷ 7 ∷ 7 ∷ 8 ∷ 9 ∷ []) (readChecks s (length marks) (length readings))
     unfolding readChecks sheetChecks settingsChecks entryChecks
     read-order = entry-order (markAt s) (bitsAt s E) E before-read no-rows
 
@@ -105,19 +105,19 @@ module _ (s : List ℕ) where
     unfolding read readChecks sheetChecks settingsChecks entryChecks each
     read-placed r h =
         entry-placed (markAt s) (bitsAt s E) E before-read no-rows refl refl r
-        (refused-some (firstOf (readChecks s marks readings)) (settingsAt s) r h)
+        (refused-some (firstOf (readChecks s (length marks) (length readings))) (settingsAt s) r h)
 
-    marks-room : firstOf (readChecks s marks readings) ≡ none → length (marksOf s) ≤ length marks
+    marks-room : firstOf (readChecks s (length marks) (length readings)) ≡ none → length (marksOf s) ≤ length marks
     unfolding readChecks sheetChecks settingsChecks entryChecks
     marks-room h =
-        let room = room-passed (length marks) E (none-at (readChecks s marks readings) h 6) in
+        let room = room-passed (length marks) E (none-at (readChecks s (length marks) (length readings)) h 6) in
         let long = length-table (markAt s) E in
         omega arith
 
-    readings-room : firstOf (readChecks s marks readings) ≡ none → length (ticksOf s) ≤ length readings
+    readings-room : firstOf (readChecks s (length marks) (length readings)) ≡ none → length (ticksOf s) ≤ length readings
     unfolding readChecks sheetChecks settingsChecks entryChecks
     readings-room h =
-        let room = room-passed (length readings) E (none-at (readChecks s marks readings) h 7) in
+        let room = room-passed (length readings) E (none-at (readChecks s (length marks) (length readings)) h 7) in
         let long = length-table (λ e. toZ w32 (bitsAt s E e)) E in
         omega arith
 
@@ -126,9 +126,9 @@ module _ (s : List ℕ) where
     reader =
         record {
           order = read-order;
-          gives = gives-first (readChecks s marks readings) (settingsAt s);
-          leavesMarks = leaves-first (readChecks s marks readings) (settingsAt s) (marksOf s) marks marks-room;
-          leavesReadings = leaves-first (readChecks s marks readings) (settingsAt s) (ticksOf s) readings readings-room;
+          gives = gives-first (readChecks s (length marks) (length readings)) (settingsAt s);
+          leavesMarks = leaves-first (readChecks s (length marks) (length readings)) (settingsAt s) (marksOf s) marks marks-room;
+          leavesReadings = leaves-first (readChecks s (length marks) (length readings)) (settingsAt s) (ticksOf s) readings readings-room;
           place = read-placed;
         }
 
@@ -158,7 +158,7 @@ module _ (c : Settings) (marks : List ℕ) (readings : List ℤ) (buffer : List 
       (row-more (length-says (length marks) (entryCount c))
       (row-more (length-says (length readings) (entryCount c)) (plain-one (room-says (length buffer) (sheetLength c)))))
 
-  write-order : InOrder (2 ∷ 3 ∷ 4 ∷ 5 ∷ 6 ∷ 6 ∷ 7 ∷ 8 ∷ 9 ∷ []) (writeChecks c marks readings buffer)
+  write-order : InOrder (2 ∷ 3 ∷ 4 ∷ 5 ∷ 6 ∷ 6 ∷ 7 ∷ 8 ∷ 9 ∷ []) (writeChecks c marks readings (length buffer))
   unfolding writeChecks settingsChecks
   write-order = entry-order mark bits (entryCount c) before-write no-rows
 
@@ -166,12 +166,12 @@ module _ (c : Settings) (marks : List ℕ) (readings : List ℤ) (buffer : List 
   unfolding write writeChecks settingsChecks each
   write-placed r h =
       entry-placed mark bits (entryCount c) before-write no-rows refl refl r
-      (refused-some (firstOf (writeChecks c marks readings buffer)) (sheetLength c) r h)
+      (refused-some (firstOf (writeChecks c marks readings (length buffer))) (sheetLength c) r h)
 
-  write-room : firstOf (writeChecks c marks readings buffer) ≡ none → length (sheetBytes c marks readings) ≤ length buffer
+  write-room : firstOf (writeChecks c marks readings (length buffer)) ≡ none → length (sheetBytes c marks readings) ≤ length buffer
   unfolding writeChecks settingsChecks
   write-room h =
-      let rows = none-at (writeChecks c marks readings buffer) h in
+      let rows = none-at (writeChecks c marks readings (length buffer)) h in
       let long =
       written-length c marks readings (length-passed (length marks) (entryCount c) (rows 4)) (length-passed (length readings) (entryCount c) (rows 5)) in
       let room = room-passed (length buffer) (sheetLength c) (rows 6) in
@@ -182,15 +182,15 @@ module _ (c : Settings) (marks : List ℕ) (readings : List ℤ) (buffer : List 
   writer =
       record {
         order = write-order;
-        gives = gives-first (writeChecks c marks readings buffer) (sheetLength c);
-        leaves = leaves-first (writeChecks c marks readings buffer) (sheetLength c) (sheetBytes c marks readings) buffer write-room;
+        gives = gives-first (writeChecks c marks readings (length buffer)) (sheetLength c);
+        leaves = leaves-first (writeChecks c marks readings (length buffer)) (sheetLength c) (sheetBytes c marks readings) buffer write-room;
         place = write-placed;
       }
 
 -- ---- the planner
 
 -- the first refusal of plain rows has the place 0
-plain-place : {ns : List ℕ} {xs : List Row} → Plain ns xs → (r : Refusal) → firstOf xs ≡ some r → r .place ≡ 0
+plain-place : {ns : List ℕ} {xs : List Check} → Plain ns xs → (r : Refusal) → firstOf xs ≡ some r → r .place ≡ 0
 unfolding firstOf
 plain-place {ns} {xs} p r h =
     ⊎-elim
@@ -227,7 +227,7 @@ module _ (c : Settings) (κ : ℕ) where
     target-some : (answer : Verdict ℕ) × Target c κ target answer
     target-some = go (firstOf (planChecks c κ 0)) refl
       where
-        go : (x : Row) → firstOf (planChecks c κ 0) ≡ x → (answer : Verdict ℕ) × Target c κ target answer
+        go : (x : Check) → firstOf (planChecks c κ 0) ≡ x → (answer : Verdict ℕ) × Target c κ target answer
         go (some r) e = (refused r, start-refuses-target c κ target e)
         go none e =
             ⊎-elim
@@ -263,4 +263,4 @@ module _ (p : Plan) where
 
 pub demand-1 : Demand1
 demand-1 =
-    record { ofSettle = settling; ofRead = reader; ofWrite = writer; ofRow = row-empty; ofPlan = plans; ofStep = steps; ofTarget = counts }
+    record { ofSettle = settling; ofRead = reader; ofWrite = writer; ofCheck = row-empty; ofPlan = plans; ofStep = steps; ofTarget = counts }

@@ -23,8 +23,8 @@ use Rattle.crusaders.proofs.Decision.{decided-need, decide-value, decide-none}
 use Rattle.crusaders.proofs.Equality.{missing-present}
 use Rattle.crusaders.proofs.Rows.{reading-decided, read-direct, read-decided}
 use Rattle.planning.proofs.Checks.{none-may-step}
-use Rattle.planning.proofs.Steps.{plan-granted-row, plan-steps}
-use Rattle.planning.proofs.Verdicts.{granted-row}
+use Rattle.planning.proofs.Steps.{plan-granted-check, plan-steps}
+use Rattle.planning.proofs.Verdicts.{granted-check}
 use Rattle.sheets.proofs.RoundTrips.{read-write, write-read}
 use Rattle.demands.specs.Demand2.{Accepted, copiesEqual, Decided, Used, RoundedUp, Forward, PlannedRounds, Demand2}
 use Rattle.demands.proofs.Estimated.{estimated}
@@ -130,13 +130,13 @@ module _ (p : Plan) where
   forward : (q : Plan) → step p ≡ granted q → Forward p q
   unfolding step
   forward q e =
-      let row = granted-row (advance p) (firstOf (stepChecks p)) (sym e) in
+      let row = granted-check (advance p) (firstOf (stepChecks p)) (sym e) in
       subst⁻¹ (Forward p) (row .1) (advanced (none-may-step p (row .0) .passes .someCabinet))
 
 planned : (c : Settings) (κ : ℕ) → PlannedRounds c κ
 planned c κ =
     record {
-      fresh = λ p e. start p (plan-granted-row c κ 0 (sym e) .1);
+      fresh = λ p e. start p (plan-granted-check c κ 0 (sym e) .1);
       stepwise = plan-steps c κ;
       forward = forward;
     }

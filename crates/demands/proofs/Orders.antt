@@ -17,18 +17,18 @@ use Rattle.arithmetic.proofs.Bools.{clash, and-left, and-right, and-intro}
 use Rattle.arithmetic.proofs.Counting.{lowest-found, Lowest}
 use Rattle.model.specs.declared.Settings.{Settings}
 use Rattle.model.specs.declared.Refusal.{Refusal}
-use Rattle.model.specs.Refusals.{refusal, Row, refuseIf, atEntry, orNext, firstOf, tooShort, badCabinets, badFaults, badMethod, badWindow, badLength, noRoom, badMark, badMissing, tooManyFaults, badPlan, targetMissed, settingsChecks, sheetChecks}
+use Rattle.model.specs.Refusals.{refusal, Check, refuseIf, atEntry, orNext, firstOf, tooShort, badCabinets, badFaults, badMethod, badWindow, badLength, noRoom, badMark, badMissing, tooManyFaults, badPlan, targetMissed, settingsChecks, sheetChecks}
 use Rattle.model.specs.RoundSheet.{settingsAt, sheetLength}
-use Rattle.refusals.proofs.Rows.{next-none-left}
+use Rattle.refusals.proofs.Checks.{next-none-left}
 use Rattle.sheets.proofs.Checks.{marks-passed}
 use Rattle.demands.specs.Demand1.{NoneApplies, FirstThatApplies, InOrder, LowestAtFault, Placed}
 
-pub no-refusal {ℓ} : {X : Type ℓ} {r : Refusal} → _≡_ {A = Row} none (some r) → X
+pub no-refusal {ℓ} : {X : Type ℓ} {r : Refusal} → _≡_ {A = Check} none (some r) → X
 no-refusal e = let z : _≡_ {A = ℕ} 0 1 = cc in absurd (omega arith)
 
 -- ---- the first check that applies
 
-pub first-applies : (checks : List Row) (r : Refusal) → firstOf checks ≡ some r → FirstThatApplies checks r
+pub first-applies : (checks : List Check) (r : Refusal) → firstOf checks ≡ some r → FirstThatApplies checks r
 unfolding firstOf
 first-applies [] r h = no-refusal h
 first-applies (some x ∷ checks) r h = record { index = 0; applies = h; earlier = λ i l. absurd (not-suc-le-zero l) }
@@ -36,32 +36,32 @@ first-applies (none ∷ checks) r h =
     let rest = first-applies checks r h in
     record { index = suc (rest .index); applies = rest .applies; earlier = before (rest .index) (rest .earlier) }
   where
-    before : (k : ℕ) → ((i : ℕ) → i < k → getD checks i none ≡ none) → (i : ℕ) → i < suc k → getD {A = Row} (none ∷ checks) i none ≡ none
+    before : (k : ℕ) → ((i : ℕ) → i < k → getD checks i none ≡ none) → (i : ℕ) → i < suc k → getD {A = Check} (none ∷ checks) i none ≡ none
     before k f zero l = refl
     before k f (suc i) l = f i (le-of-suc-le-suc l)
 
 -- it is the first of the list
-pub applies-first : (checks : List Row) (r : Refusal) → FirstThatApplies checks r → firstOf checks ≡ some r
+pub applies-first : (checks : List Check) (r : Refusal) → FirstThatApplies checks r → firstOf checks ≡ some r
 unfolding firstOf
 applies-first checks r h = go checks (h .index) (h .applies) (h .earlier)
   where
-    go : (checks : List Row) (k : ℕ) → getD checks k none ≡ some r → ((i : ℕ) → i < k → getD checks i none ≡ none) → firstOf checks ≡ some r
+    go : (checks : List Check) (k : ℕ) → getD checks k none ≡ some r → ((i : ℕ) → i < k → getD checks i none ≡ none) → firstOf checks ≡ some r
     go [] k a e = a
-    go (x ∷ checks) zero a e = ap (λ (y : Row). orNext y (firstOf checks)) a
+    go (x ∷ checks) zero a e = ap (λ (y : Check). orNext y (firstOf checks)) a
     go (x ∷ checks) (suc k) a e =
-        ap (λ (y : Row). orNext y (firstOf checks)) (e 0 (omega arith)) ∙ go checks k a (λ i l. e (suc i) (omega arith))
+        ap (λ (y : Check). orNext y (firstOf checks)) (e 0 (omega arith)) ∙ go checks k a (λ i l. e (suc i) (omega arith))
 
 -- none applies where the first so many pass, which are all
-pub all-pass : (checks : List Row) → ((i : ℕ) → i < length checks → getD checks i none ≡ none) → firstOf checks ≡ none
+pub all-pass : (checks : List Check) → ((i : ℕ) → i < length checks → getD checks i none ≡ none) → firstOf checks ≡ none
 unfolding firstOf
 all-pass [] h = refl
 all-pass (x ∷ checks) h =
-    ap (λ (y : Row). orNext y (firstOf checks)) (h 0 (omega arith)) ∙ all-pass checks (λ i l. h (suc i) (omega arith))
+    ap (λ (y : Check). orNext y (firstOf checks)) (h 0 (omega arith)) ∙ all-pass checks (λ i l. h (suc i) (omega arith))
 
 -- ---- one row
 
 -- what a row says that has no entry to point at
-abbrev pub Says : ℕ → Row → Type 0
+abbrev pub Says : ℕ → Check → Type 0
 Says number x = (r : Refusal) → x ≡ some r → r ≡ refusal number 0
 
 says-if : (b : Bool) (number : ℕ) → Says number (refuseIf b number)
@@ -77,34 +77,34 @@ entry-says (some i) number r e = (ap {B = Option ℕ} (λ (x : Refusal). some (x
 
 -- ---- rows that have no entry to point at
 
-pub data Plain : List ℕ → List Row → Type 0 where
+pub data Plain : List ℕ → List Check → Type 0 where
   no-rows : Plain [] []
-  row-more : {number : ℕ} {x : Row} {numbers : List ℕ} {checks : List Row} → Says number x → Plain numbers checks → Plain (number ∷ numbers) (x ∷ checks)
+  row-more : {number : ℕ} {x : Check} {numbers : List ℕ} {checks : List Check} → Says number x → Plain numbers checks → Plain (number ∷ numbers) (x ∷ checks)
 
-pub plain-append : {ns ms : List ℕ} {xs ys : List Row} → Plain ns xs → Plain ms ys → Plain (ns ++ ms) (xs ++ ys)
+pub plain-append : {ns ms : List ℕ} {xs ys : List Check} → Plain ns xs → Plain ms ys → Plain (ns ++ ms) (xs ++ ys)
 plain-append no-rows q = q
 plain-append (row-more f p) q = row-more f (plain-append p q)
 
 no-order : InOrder [] []
 no-order i r e = no-refusal e
 
-order-more : (number : ℕ) (x : Row) (ns : List ℕ) (xs : List Row) → ((r : Refusal) → x ≡ some r → r .number ≡ number) → InOrder ns xs → InOrder (number ∷ ns) (x ∷ xs)
+order-more : (number : ℕ) (x : Check) (ns : List ℕ) (xs : List Check) → ((r : Refusal) → x ≡ some r → r .number ≡ number) → InOrder ns xs → InOrder (number ∷ ns) (x ∷ xs)
 order-more number x ns xs f h zero r e = f r e
 order-more number x ns xs f h (suc i) r e = h i r e
 
-pub plain-then : {ns : List ℕ} {xs : List Row} → Plain ns xs → (ms : List ℕ) (ys : List Row) → InOrder ms ys → InOrder (ns ++ ms) (xs ++ ys)
+pub plain-then : {ns : List ℕ} {xs : List Check} → Plain ns xs → (ms : List ℕ) (ys : List Check) → InOrder ms ys → InOrder (ns ++ ms) (xs ++ ys)
 plain-then no-rows ms ys h = h
 plain-then (row-more {number} {x} {numbers} {checks} f p) ms ys h =
     order-more number x (numbers ++ ms) (checks ++ ys) (λ r e. ap (λ (y : Refusal). y .number) (f r e)) (plain-then p ms ys h)
 
-pub plain-order : {ns : List ℕ} {xs : List Row} → Plain ns xs → InOrder ns xs
+pub plain-order : {ns : List ℕ} {xs : List Check} → Plain ns xs → InOrder ns xs
 plain-order no-rows = no-order
 plain-order (row-more {number} {x} {numbers} {checks} f p) =
     order-more number x numbers checks (λ r e. ap (λ (y : Refusal). y .number) (f r e)) (plain-order p)
 
 -- the first refusal of plain rows, if there is one, and else that of the rows behind them
 pub plain-first :
-    {ns : List ℕ} {xs : List Row} → Plain ns xs → (ys : List Row) (r : Refusal) → firstOf (xs ++ ys) ≡ some r
+    {ns : List ℕ} {xs : List Check} → Plain ns xs → (ys : List Check) (r : Refusal) → firstOf (xs ++ ys) ≡ some r
     → ((i : ℕ) × (r ≡ refusal (getD ns i 0) 0)) ⊎ (firstOf ys ≡ some r)
 unfolding firstOf
 plain-first no-rows ys r h = inr h
@@ -113,7 +113,7 @@ plain-first (row-more {number} {x} {numbers} {checks} f p) ys r h = go x f h (pl
     Out : List ℕ → Type 0
     Out ns = ((i : ℕ) × (r ≡ refusal (getD ns i 0) 0)) ⊎ (firstOf ys ≡ some r)
 
-    go : (x : Row) → Says number x → orNext x (firstOf (checks ++ ys)) ≡ some r → (firstOf (checks ++ ys) ≡ some r → Out numbers) → Out (number ∷ numbers)
+    go : (x : Check) → Says number x → orNext x (firstOf (checks ++ ys)) ≡ some r → (firstOf (checks ++ ys) ≡ some r → Out numbers) → Out (number ∷ numbers)
     go none f h ih = ⊎-elim (λ w. inl (suc (w .0), w .1)) (λ e. inr e) (ih h)
     go (some y) f h ih = inl (0, f r h)
 
@@ -162,7 +162,7 @@ plain-settings c =
     (row-more (says-if (ltb 1 (c .rule) || ltb 2 (c .estimator)) 4)
     (row-more (says-if (ltb 1_000_000 (c .window)) 5) no-rows)))
 
-pub plain-one : {number : ℕ} {x : Row} → Says number x → Plain (number ∷ []) (x ∷ [])
+pub plain-one : {number : ℕ} {x : Check} → Says number x → Plain (number ∷ []) (x ∷ [])
 plain-one f = row-more f no-rows
 
 pub plain-sheet : (s : List ℕ) → Plain (1 ∷ 2 ∷ 3 ∷ 4 ∷ 5 ∷ 6 ∷ []) (sheetChecks s)
@@ -213,7 +213,7 @@ module _ (mark bits : ℕ → ℕ) (E : ℕ) where
       }
 
   -- checks 8 and 9 between plain rows, whose numbers are neither
-  module _ {ns ms : List ℕ} {xs ys : List Row} (before : Plain ns xs) (behind : Plain ms ys) where
+  module _ {ns ms : List ℕ} {xs ys : List Check} (before : Plain ns xs) (behind : Plain ms ys) where
     pub entry-order : InOrder (ns ++ (8 ∷ 9 ∷ ms)) (xs ++ (badMark mark E ∷ badMissing mark bits E ∷ ys))
     entry-order =
         plain-then before (8 ∷ 9 ∷ ms) (badMark mark E ∷ badMissing mark bits E ∷ ys)
@@ -242,7 +242,7 @@ module _ (mark bits : ℕ → ℕ) (E : ℕ) where
         (λ e. at-mark (badMark mark E) refl e)
         (plain-first before (badMark mark E ∷ badMissing mark bits E ∷ ys) r h)
       where
-        at-missing : badMark mark E ≡ none → (x : Row) → badMissing mark bits E ≡ x → orNext x (firstOf ys) ≡ some r → Placed mark bits E r
+        at-missing : badMark mark E ≡ none → (x : Check) → badMissing mark bits E ≡ x → orNext x (firstOf ys) ≡ some r → Placed mark bits E r
         at-missing pass (some y) p e =
             let is : badMissing mark bits E ≡ some r = p ∙ e in
             let nine = missing-number r is in
@@ -258,7 +258,7 @@ module _ (mark bits : ℕ → ℕ) (E : ℕ) where
             (λ e. no-refusal e)
             (plain-first behind [] r (rw mathlib.Core.List.append-nil e))
 
-        at-mark : (x : Row) → badMark mark E ≡ x → orNext x (orNext (badMissing mark bits E) (firstOf ys)) ≡ some r → Placed mark bits E r
+        at-mark : (x : Check) → badMark mark E ≡ x → orNext x (orNext (badMissing mark bits E) (firstOf ys)) ≡ some r → Placed mark bits E r
         at-mark (some y) p e =
             let is : badMark mark E ≡ some r = p ∙ e in
             let eight = mark-number r is in

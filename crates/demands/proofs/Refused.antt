@@ -17,9 +17,9 @@ use Rattle.model.specs.Ensemble.{quorum}
 use Rattle.model.specs.RoundSheet.{settingsAt, entryCount, entryAt, markAt, bitsAt}
 use Rattle.model.specs.AnswerSheet.{answerLength}
 use Rattle.model.specs.Steps.{readingsOf, roundAt}
-use Rattle.model.specs.Refusals.{refusal, Row, refuseIf, orNext, firstOf, noRoom, tooManyFaults, settingsChecks, sheetChecks, entryChecks, settleChecks}
+use Rattle.model.specs.Refusals.{refusal, Check, refuseIf, orNext, firstOf, noRoom, tooManyFaults, settingsChecks, sheetChecks, entryChecks, settleChecks}
 use Rattle.model.specs.Calls.{verdict, refused, settle}
-use Rattle.refusals.proofs.Rows.{first-snoc, none-at, none-left}
+use Rattle.refusals.proofs.Checks.{first-snoc, none-at, none-left}
 use Rattle.refusals.proofs.Limits.{limits}
 use Rattle.sheets.proofs.Checks.{settings-passed}
 use Rattle.sheets.proofs.Outcomes.{refused-some}
@@ -31,11 +31,11 @@ use Rattle.demands.proofs.Spans.{too-many-faults}
 
 module _ (s answer : List ℕ) where
   -- checks 1 to 9
-  abbrev front : List Row
+  abbrev front : List Check
   front = sheetChecks s ++ (noRoom (length answer) (answerLength (settingsAt s .n)) ∷ entryChecks s)
 
   -- check 10 comes behind them
-  rows : settleChecks s answer ≡ front ++ (tooManyFaults (roundAt s .count) ∷ [])
+  rows : settleChecks s (length answer) ≡ front ++ (tooManyFaults (roundAt s .count) ∷ [])
   unfolding settleChecks sheetChecks settingsChecks entryChecks
   rows = refl
 
@@ -47,9 +47,9 @@ module _ (s answer : List ℕ) where
   unfolding sheetChecks settingsChecks entryChecks
   front-order = entry-order (markAt s) (bitsAt s (entryCount (settingsAt s))) (entryCount (settingsAt s)) (before-settle s answer) no-rows
 
-  front-at : (i : ℕ) → i < 9 → getD (settleChecks s answer) i none ≡ getD front i none
+  front-at : (i : ℕ) → i < 9 → getD (settleChecks s (length answer)) i none ≡ getD front i none
   front-at i l =
-      ap (λ (checks : List Row). getD checks i none) rows
+      ap (λ (checks : List Check). getD checks i none) rows
       ∙ List·getD-append front (tooManyFaults (roundAt s .count) ∷ []) none i (rw nine l)
 
   passed-front : Passed s answer → firstOf front ≡ none
@@ -58,11 +58,11 @@ module _ (s answer : List ℕ) where
   front-passed : firstOf front ≡ none → Passed s answer
   front-passed h i l = front-at i l ∙ none-at front h i
 
-  first-row : firstOf (settleChecks s answer) ≡ orNext (firstOf front) (tooManyFaults (roundAt s .count))
+  first-row : firstOf (settleChecks s (length answer)) ≡ orNext (firstOf front) (tooManyFaults (roundAt s .count))
   first-row = ap firstOf rows ∙ first-snoc front (tooManyFaults (roundAt s .count))
 
   -- a check that says 10 is the last, and it says so where nothing is accepted
-  last-says : (r : Refusal) → r .number ≡ 10 → (x : Row) → firstOf front ≡ x → orNext x (tooManyFaults (roundAt s .count)) ≡ some r → (firstOf front ≡ none) × (roundAt s .count ≡ 0)
+  last-says : (r : Refusal) → r .number ≡ 10 → (x : Check) → firstOf front ≡ x → orNext x (tooManyFaults (roundAt s .count)) ≡ some r → (firstOf front ≡ none) × (roundAt s .count ≡ 0)
   unfolding tooManyFaults each
   last-says r ten none e h = (e, zeroes (eqb (roundAt s .count) 0) refl h)
     where
@@ -86,7 +86,7 @@ module _ (s answer : List ℕ) where
   unfolding roundAt
   faults pass = too-many-faults (settingsAt s) (readingsOf (settingsAt s) (entryAt s (entryCount (settingsAt s)))) (enough pass)
 
-  last-ten : (x : Row) (k : ℕ) → x ≡ none → k ≡ 0 → orNext x (tooManyFaults k) ≡ some (refusal 10 0)
+  last-ten : (x : Check) (k : ℕ) → x ≡ none → k ≡ 0 → orNext x (tooManyFaults k) ≡ some (refusal 10 0)
   unfolding tooManyFaults
   last-ten x k p z = rw (p, eq-eqb k 0 z)
 
@@ -96,10 +96,10 @@ module _ (s answer : List ℕ) where
       record {
         said = λ pass none-holds.
             let front-pass = passed-front pass in
-            ap (λ (x : Row). verdict x (answerLength (settingsAt s .n)))
+            ap (λ (x : Check). verdict x (answerLength (settingsAt s .n)))
             (first-row ∙ last-ten (firstOf front) (roundAt s .count) front-pass (faults front-pass .1 none-holds));
         never = λ r h ten.
-            let row = refused-some (firstOf (settleChecks s answer)) (answerLength (settingsAt s .n)) r h in
+            let row = refused-some (firstOf (settleChecks s (length answer))) (answerLength (settingsAt s .n)) r h in
             let parts = last-says r ten (firstOf front) refl (sym first-row ∙ row) in
             (front-passed (parts .0), faults (parts .0) .0 (parts .1));
       }

@@ -30,27 +30,27 @@ use Rattle.model.specs.RoundSheet.{settingsAt, entryCount, sheetLength, markAt,
 use Rattle.model.specs.AnswerSheet.{answerLength, answerBytes}
 use Rattle.model.specs.Steps.{roundAt}
 use Rattle.model.specs.Planner.{Plan, planFrom, advance, after, Reaches}
-use Rattle.model.specs.Refusals.{Row, readChecks, writeChecks, rowChecks, settleChecks, planChecks, stepChecks, targetChecks}
+use Rattle.model.specs.Refusals.{Check, readChecks, writeChecks, rowChecks, settleChecks, planChecks, stepChecks, targetChecks}
 use Rattle.model.specs.Calls.{Verdict, granted, refused, marksOf, ticksOf, read, write, row, settle, plan, step, Target}
 
 -- ---- "one answer sheet or one numbered refusal, the first that applies"
 
-abbrev pub NoneApplies : List Row → Type 0
+abbrev pub NoneApplies : List Check → Type 0
 NoneApplies checks = (i : ℕ) → getD checks i none ≡ none
 
 -- r is what one of the checks says, and no check before that one applies
-pub record FirstThatApplies (checks : List Row) (r : Refusal) : Type 0 where
+pub record FirstThatApplies (checks : List Check) (r : Refusal) : Type 0 where
   pub index : ℕ
   pub applies : getD checks index none ≡ some r
   pub earlier : (i : ℕ) → i < index → getD checks i none ≡ none
 
 -- document 01: "Checks run in this order, those that apply to the call". Each check that refuses does so under the
 -- number that stands at its place
-abbrev pub InOrder : List ℕ → List Row → Type 0
+abbrev pub InOrder : List ℕ → List Check → Type 0
 InOrder numbers checks = (i : ℕ) (r : Refusal) → getD checks i none ≡ some r → r .number ≡ getD numbers i 0
 
 -- where no check applies the call grants, and what it grants is as Granted says; else it says the first refusal
-abbrev pub Gives : {A : Type 0} → List Row → (A → Type 0) → Verdict A → Type 0
+abbrev pub Gives : {A : Type 0} → List Check → (A → Type 0) → Verdict A → Type 0
 Gives checks Granted (granted a) = NoneApplies checks × Granted a
 Gives checks Granted (refused r) = FirstThatApplies checks r
 
@@ -89,9 +89,9 @@ pub record Placed (mark bits : ℕ → ℕ) (E : ℕ) (r : Refusal) : Type 0 whe
 
 -- "A round sheet comes in as bytes of any kind and any length": the list s, and the answer buffer
 pub record OfSettle (s answer : List ℕ) : Type 0 where
-  pub order : InOrder (1 ∷ 2 ∷ 3 ∷ 4 ∷ 5 ∷ 6 ∷ 7 ∷ 8 ∷ 9 ∷ 10 ∷ []) (settleChecks s answer)
+  pub order : InOrder (1 ∷ 2 ∷ 3 ∷ 4 ∷ 5 ∷ 6 ∷ 7 ∷ 8 ∷ 9 ∷ 10 ∷ []) (settleChecks s (length answer))
   -- "It leaves as one answer sheet or one numbered refusal, the first that applies": what is granted is its length
-  pub gives : Gives (settleChecks s answer) (λ size. size ≡ answerLength (settingsAt s .n)) (settle s answer .verdict)
+  pub gives : Gives (settleChecks s (length answer)) (λ size. size ≡ answerLength (settingsAt s .n)) (settle s answer .verdict)
   -- "and a refusal changes nothing in the answer buffer"; later bytes keep what they had
   pub leaves :
       Leaves (settle s answer .verdict) (answerBytes (settingsAt s .n) (roundAt s)) answer (settle s answer .buffer)
@@ -101,8 +101,8 @@ pub record OfSettle (s answer : List ℕ) : Type 0 where
 
 -- the reader: "refusing under 1 to 9 (7 when either array is shorter than E); entries past E keep what they had"
 pub record OfRead (s marks : List ℕ) (readings : List ℤ) : Type 0 where
-  pub order : InOrder (1 ∷ 2 ∷ 3 ∷ 4 ∷ 5 ∷ 6 ∷ 7 ∷ 7 ∷ 8 ∷ 9 ∷ []) (readChecks s marks readings)
-  pub gives : Gives (readChecks s marks readings) (λ c. c ≡ settingsAt s) (read s marks readings .verdict)
+  pub order : InOrder (1 ∷ 2 ∷ 3 ∷ 4 ∷ 5 ∷ 6 ∷ 7 ∷ 7 ∷ 8 ∷ 9 ∷ []) (readChecks s (length marks) (length readings))
+  pub gives : Gives (readChecks s (length marks) (length readings)) (λ c. c ≡ settingsAt s) (read s marks readings .verdict)
   pub leavesMarks : Leaves (read s marks readings .verdict) (marksOf s) marks (read s marks readings .marks)
   pub leavesReadings : Leaves (read s marks readings .verdict) (ticksOf s) readings (read s marks readings .readings)
   pub place :
@@ -112,9 +112,9 @@ pub record OfRead (s marks : List ℕ) (readings : List ℤ) : Type 0 where
 -- the writer: "refuses under 2 to 9: 6 when an array is not E long, 7 when its buffer is short. Bytes past the sheet
 -- keep what they had"
 pub record OfWrite (c : Settings) (marks : List ℕ) (readings : List ℤ) (buffer : List ℕ) : Type 0 where
-  pub order : InOrder (2 ∷ 3 ∷ 4 ∷ 5 ∷ 6 ∷ 6 ∷ 7 ∷ 8 ∷ 9 ∷ []) (writeChecks c marks readings buffer)
+  pub order : InOrder (2 ∷ 3 ∷ 4 ∷ 5 ∷ 6 ∷ 6 ∷ 7 ∷ 8 ∷ 9 ∷ []) (writeChecks c marks readings (length buffer))
   pub gives :
-      Gives (writeChecks c marks readings buffer) (λ size. size ≡ sheetLength c) (write c marks readings buffer .verdict)
+      Gives (writeChecks c marks readings (length buffer)) (λ size. size ≡ sheetLength c) (write c marks readings buffer .verdict)
   pub leaves :
       Leaves (write c marks readings buffer .verdict) (sheetBytes c marks readings) buffer (write c marks readings buffer .buffer)
   pub place :
@@ -154,7 +154,7 @@ pub record Demand1 : Type 0 where
   pub ofSettle : (s answer : List ℕ) → OfSettle s answer
   pub ofRead : (s marks : List ℕ) (readings : List ℤ) → OfRead s marks readings
   pub ofWrite : (c : Settings) (marks : List ℕ) (readings : List ℤ) (buffer : List ℕ) → OfWrite c marks readings buffer
-  pub ofRow : (s : List ℕ) → OfRow s
+  pub ofCheck : (s : List ℕ) → OfRow s
   pub ofPlan : (c : Settings) (κ k : ℕ) → OfPlan c κ k
   pub ofStep : (p : Plan) → OfStep p
   pub ofTarget : (c : Settings) (κ target : ℕ) → OfTarget c κ target

@@ -178,7 +178,7 @@ pub record PlannedRounds (c : Settings) (κ : ℕ) : Type 0 where
 
 -- "Where no earlier check refuses": checks 1 to 9
 abbrev pub Passed : List ℕ → List ℕ → Type 0
-Passed s answer = (i : ℕ) → i < 9 → getD (settleChecks s answer) i none ≡ none
+Passed s answer = (i : ℕ) → i < 9 → getD (settleChecks s (length answer)) i none ≡ none
 
 -- "no span as wide as the window holds N-m readings"
 abbrev pub NoSpan : List ℕ → Type 0

@@ -6,7 +6,7 @@ ghost use lib.Dec.{eqb, ltb};
 ghost use mir.Syntax.{w32};
 ghost use mir.Val.{toZ, ofZ};
 ghost use Rattle.model.specs.Refusals.{refuseIf, firstOf, settingsChecks};
-ghost use Rattle.ensemble.specs.Answers.{rowOf};
+ghost use Rattle.ensemble.specs.Answers.{checkOf};
 use model::Refusal;
 use model::Settings;
 
@@ -75,14 +75,14 @@ fn bad_window(window: u32) -> bool
 }
 
 fn refused(number: u8) -> Screened
-    ensures { λ r. ⌜ rowOf r ≡ refuseIf true number ⌝ }
+    ensures { λ r. ⌜ checkOf r ≡ refuseIf true number ⌝ }
 {
     Screened::Refused(Refusal { number, place: 0 })
 }
 
 // Checks 2 to 5, of any settings.
 pub fn screen(settings: Settings) -> Screened
-    ensures { λ r. ⌜ rowOf r ≡ firstOf (settingsChecks settings) ⌝ }
+    ensures { λ r. ⌜ checkOf r ≡ firstOf (settingsChecks settings) ⌝ }
 {
     if bad_cabinets(settings.n) {
         return refused(2);

@@ -12,7 +12,7 @@ use lib.Dec.{ltb}
 use Rattle.arithmetic.specs.Counting.{lowest}
 use Rattle.arithmetic.proofs.Counting.{lowest-none}
 use Rattle.model.specs.RoundSheet.{byte, word}
-use Rattle.sheets.specs.Entries.{notZero}
+use Rattle.model.specs.Refusals.{notZero}
 use Rattle.entries.specs.Marks.{AtMost, AtLeast}
 
 -- the first n numbers and the next one

@@ -12,7 +12,7 @@ use lib.Dec.{eqb}
 use lib.ListN.{length}
 use Rattle.arithmetic.specs.Counting.{lowest}
 use Rattle.model.specs.RoundSheet.{byte, word}
-use Rattle.sheets.specs.Entries.{notZero}
+use Rattle.model.specs.Refusals.{notZero}
 use Rattle.entries.specs.Answers.{missingIn}
 
 pub fit-test : (marks readings : ℕ) → (not (eqb (readings / 4) marks) || not (eqb (readings % 4) 0)) ≡ not (eqb readings (4 * marks))

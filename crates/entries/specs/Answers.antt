@@ -1,5 +1,5 @@
 -- What a search says in document 01's terms.
---   foundAs      the entry that a search found
+--   foundOf      the entry that a search found
 --   missingIn    the lowest entry that is missing with bytes that are not zero
 use mathlib.Core.Bool.{cond}
 use mathlib.Core.List.{List}
@@ -9,13 +9,13 @@ use lib.Dec.{eqb}
 use lib.ListN.{length}
 use Rattle.arithmetic.specs.Counting.{lowest}
 use Rattle.model.specs.RoundSheet.{byte, word}
-use Rattle.sheets.specs.Entries.{notZero}
+use Rattle.model.specs.Refusals.{notZero}
 use Rattle.entries.specs.declared.Found.{Found}
 use Rattle.entries.specs.declared.Found.the-variants.{At, Nothing}
 
-abbrev pub foundAs : Found → Option ℕ
-foundAs (At e) = some e
-foundAs Nothing = none
+abbrev pub foundOf : Found → Option ℕ
+foundOf (At e) = some e
+foundOf Nothing = none
 
 -- nothing is found where the readings are not four bytes for each mark
 unfoldable pub missingIn : List ℕ → List ℕ → Option ℕ

@@ -6,8 +6,8 @@ ghost use lib.Dec.{ltb, eqb};
 ghost use lib.ListN.{length};
 ghost use Rattle.arithmetic.specs.Counting.{lowest};
 ghost use Rattle.model.specs.RoundSheet.{byte, word};
-ghost use Rattle.sheets.specs.Entries.{notZero};
-ghost use Rattle.entries.specs.Answers.{foundAs, missingIn};
+ghost use Rattle.model.specs.Refusals.{notZero};
+ghost use Rattle.entries.specs.Answers.{foundOf, missingIn};
 ghost use Rattle.entries.specs.Marks.{AtMost, AtLeast};
 
 // Where a search for an entry ends.
@@ -56,7 +56,7 @@ fn least(marks: &[u8]) -> u8
 
 // The lowest mark that is not 0 or 1.
 fn search_mark(marks: &[u8]) -> Found
-    ensures { λ r. ⌜ foundAs r ≡ lowest (λ e. ltb 1 (byte (now (marks .entry)) e)) (length (now (marks .entry))) ⌝ }
+    ensures { λ r. ⌜ foundOf r ≡ lowest (λ e. ltb 1 (byte (now (marks .entry)) e)) (length (now (marks .entry))) ⌝ }
 {
     let mut e: usize = 0;
     'entries: while e < marks.len() {
@@ -71,7 +71,7 @@ fn search_mark(marks: &[u8]) -> Found
 
 // The same, by one pass that never ends early where all marks are 0 or 1.
 pub fn bad_mark(marks: &[u8]) -> Found
-    ensures { λ r. ⌜ foundAs r ≡ lowest (λ e. ltb 1 (byte (now (marks .entry)) e)) (length (now (marks .entry))) ⌝ }
+    ensures { λ r. ⌜ foundOf r ≡ lowest (λ e. ltb 1 (byte (now (marks .entry)) e)) (length (now (marks .entry))) ⌝ }
 {
     if greatest(marks) <= 1 {
         return Found::Nothing;
@@ -102,7 +102,7 @@ fn not_zero(marks: &[u8], readings: &[u8], e: usize) -> bool
 fn search_missing(marks: &[u8], readings: &[u8]) -> Found
     requires { ⌜ length (now readings) ≡ 4 * length (now marks) ⌝ }
     ensures { λ r.
-        ⌜ foundAs r
+        ⌜ foundOf r
         ≡ lowest (λ e. notZero (byte (now (marks .entry)) e) (word (now (readings .entry)) (4 * e)))
         (length (now (marks .entry))) ⌝ }
 {
@@ -124,7 +124,7 @@ fn misfit(marks: usize, readings: usize) -> bool
 
 // The lowest entry that is missing with bytes that are not zero; nothing where the readings are not four bytes for each mark.
 pub fn bad_missing(marks: &[u8], readings: &[u8]) -> Found
-    ensures { λ r. ⌜ foundAs r ≡ missingIn (now (marks .entry)) (now (readings .entry)) ⌝ }
+    ensures { λ r. ⌜ foundOf r ≡ missingIn (now (marks .entry)) (now (readings .entry)) ⌝ }
 {
     if misfit(marks.len(), readings.len()) {
         return Found::Nothing;

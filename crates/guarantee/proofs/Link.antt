@@ -31,7 +31,7 @@ use Rattle.rounds.proofs.Local.{EqualBelow, EqualRounds, round-local, answer-lo
 use Rattle.sheets.proofs.Answer.{answer-value}
 use Rattle.sheets.proofs.Checks.{room-pass}
 use Rattle.sheets.proofs.Entries.{marksFrom, ticksFrom, filled-well-formed, filled-entry, filled-write}
-use Rattle.sheets.proofs.Outcomes.{settle-rows}
+use Rattle.sheets.proofs.Orders.{settle-checks}
 use Rattle.sheets.proofs.Written.{WellFormed, settings-back, sheet-passes, entries-pass}
 use Rattle.guarantee.specs.Guarantee.{Station, N, Sends, Allowed, State, entryOf, sheetOf, settled, holds}
 use Rattle.guarantee.proofs.Entries.{seen}
@@ -120,11 +120,11 @@ module _ (st : Station) (now : State) (x : Sends) (w p : ℕ) where
         (readingsOf c entries)
         (readings-local c (entryAt bytes (entryCount c)) entries (filled-entry c entries pass fits-here)))
 
-    -- of the rows only 10 can refuse
-    rows : firstOf (settleChecks bytes (x .buffer p)) ≡ tooManyFaults (found .count)
+    -- of the checks only 10 can refuse
+    checks : firstOf (settleChecks bytes (length (x .buffer p))) ≡ tooManyFaults (found .count)
     unfolding bytes
-    rows =
-        settle-rows bytes (x .buffer p)
+    checks =
+        settle-checks bytes (length (x .buffer p))
         ∙ rw (
           sheet-passes c marks readings formed,
           size-is,
@@ -140,27 +140,27 @@ module _ (st : Station) (now : State) (x : Sends) (w p : ℕ) where
     unfolding settled settle
     settled-is =
         ap (λ (s : List ℕ). settle s (x .buffer p)) sheet-is
-        ∙ rw (rows, size-is, answer-local (N st) (roundAt bytes) found round-is)
+        ∙ rw (checks, size-is, answer-local (N st) (roundAt bytes) found round-is)
 
-    none-row : (count : ℕ) → 0 < count → tooManyFaults count ≡ none
+    none-check : (count : ℕ) → 0 < count → tooManyFaults count ≡ none
     unfolding tooManyFaults
-    none-row count h = rw (ne-eqb count 0 (λ e. omega arith))
+    none-check count h = rw (ne-eqb count 0 (λ e. omega arith))
 
-    some-row : (count : ℕ) → count ≡ 0 → tooManyFaults count ≡ some (refusal 10 0)
+    some-check : (count : ℕ) → count ≡ 0 → tooManyFaults count ≡ some (refusal 10 0)
     unfolding tooManyFaults
-    some-row count h = rw (eq-eqb count 0 h)
+    some-check count h = rw (eq-eqb count 0 h)
 
     -- no reading accepted: refusal 10 at place 0
     pub settled-refused : found .count ≡ 0 → settled st now x p .verdict ≡ refused (refusal 10 0)
     settled-refused h =
         let s = settled-is in
-        rw s (rw (some-row (found .count) h))
+        rw s (rw (some-check (found .count) h))
 
     module _ (some-acc : 0 < found .count) where
       pub settled-granted : settled st now x p .verdict ≡ granted (answerLength (N st))
       settled-granted =
           let s = settled-is in
-          rw s (rw (none-row (found .count) some-acc))
+          rw s (rw (none-check (found .count) some-acc))
 
       -- p holds the round's new value
       pub settled-holds :
@@ -169,5 +169,5 @@ module _ (st : Station) (now : State) (x : Sends) (w p : ℕ) where
       settled-holds h =
           let s = settled-is in
           rw s
-          (rw (none-row (found .count) some-acc)
+          (rw (none-check (found .count) some-acc)
           (ap present (answer-value (N st) found (x .buffer p) h)))

@@ -25,7 +25,7 @@ use Rattle.model.specs.Calls.{Verdict, granted, refused, step}
 use Rattle.refusals.proofs.Limits.{Limits, limits-pass}
 use Rattle.planning.proofs.Checks.{none-may-start}
 use Rattle.planning.proofs.Rounds.{settings-after}
-use Rattle.planning.proofs.Steps.{start-step-passes, step-by-row}
+use Rattle.planning.proofs.Steps.{start-step-passes, step-by-check}
 use Rattle.planning.proofs.Windows.{passes-after}
 use Rattle.limits.proofs.Settled.{valueBy}
 use Rattle.guarantee.specs.Guarantee.{IsReading, Station, N, m, κ, Start, Sends, Allowed, State, start, entryOf}
@@ -70,7 +70,7 @@ module _ (st : Station) (begins : Start st) (j : ℕ) (now : State) (ready : Rea
 
   pub step-granted : j < 32 → step (now .plan) ≡ granted (advance (now .plan))
   step-granted l =
-      step-by-row (now .plan)
+      step-by-check (now .plan)
       (subst⁻¹ (λ (p : Plan). firstOf (stepChecks p) ≡ none) (ready .plan)
       (start-step-passes (st .settings) (κ st) j (begins .grants) l))
 

@@ -15,7 +15,7 @@ use Rattle.model.specs.Planner.{Plan, ceilDiv, windowFactor, nextWindow, growth
 use Rattle.model.specs.Refusals.{firstOf, stepChecks}
 use Rattle.model.specs.Calls.{granted, step}
 use Rattle.planning.proofs.Rounds.{settings-after}
-use Rattle.planning.proofs.Verdicts.{granted-row}
+use Rattle.planning.proofs.Verdicts.{granted-check}
 use Rattle.rounds.specs.Naturals.{mean-nat}
 use Rattle.limits.proofs.Means.{rise, fall-rise}
 use Rattle.guarantee.specs.Guarantee.{Station, N, δ, κ, Sends, State, start, next, bad, Every, First, Close}
@@ -29,7 +29,7 @@ use Rattle.guarantee.proofs.Guarantee.{guarantee}
 -- a step that is granted hands on the plan one round on
 step-advances : (p q : Plan) → step p ≡ granted q → q ≡ advance p
 unfolding step
-step-advances p q e = granted-row (advance p) (firstOf (stepChecks p)) (sym e) .1
+step-advances p q e = granted-check (advance p) (firstOf (stepChecks p)) (sym e) .1
 
 module _ (st : Station) (seven : SevenPlannedForTwo st) where
   -- ---- the planner's windows and accuracies

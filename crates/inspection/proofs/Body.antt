@@ -1,7 +1,7 @@
 -- Checks 6, 8 and 9 of a sheet with given settings, by the tests that the code makes; and of a sheet that passes checks 1 to 6.
 -- Assumes nothing.
 use mathlib.Core.Bool.{Bool, true, false, cond}
-use mathlib.Core.List.{List}
+use mathlib.Core.List.{List, _∷_}
 use mathlib.Core.Option.{some}
 use mathlib.Core.Path.{_≡_, refl, sym, ap, _∙_}
 use Prim.Native.Nat.{ℕ, _+_, _*_, _-_, _≤_}
@@ -13,44 +13,40 @@ use lib.ListN.{length, drop, length-drop}
 use lib.Seq.{length-take-le}
 use Rattle.model.specs.declared.Settings.{Settings}
 use Rattle.arithmetic.specs.Counting.{lowest}
-use Rattle.model.specs.RoundSheet.{byte, word, cca, entryCount, markAt, bitsAt}
-use Rattle.model.specs.Refusals.{refusal, orNext, firstOf, entryChecks, badLength, badMark, badMissing}
-use Rattle.refusals.proofs.Rows.{next-none}
+use Rattle.model.specs.RoundSheet.{byte, word, cca, entryCount, sheetLength, markAt, bitsAt}
+use Rattle.model.specs.Refusals.{refusal, firstOf, arrayChecks, entryChecks, badLength, notZero}
 use Rattle.sheets.proofs.Checks.{length-pass}
-use Rattle.sheets.proofs.Inspection.{Inspected, entry-rows}
-use Rattle.sheets.specs.Entries.{notZero}
+use Rattle.sheets.proofs.Inspection.{Inspected, entry-checks}
 use Rattle.sheets.proofs.Parts.{marksPart, readingsPart, length-marksPart}
 use Rattle.entries.specs.Answers.{missingIn}
-use Rattle.inspection.specs.Checks.{bodyChecks}
 
 -- sizes of a byte make few entries
-pub entries-most : (c : Settings) → c .n ≤ 255 → entryCount c ≤ 65025
+pub byte-entries-most : (c : Settings) → c .n ≤ 255 → entryCount c ≤ 65025
 unfolding entryCount
-entries-most c small = go (eqb (c .rule) cca)
+byte-entries-most c small = go (eqb (c .rule) cca)
   where
     go : (b : Bool) → cond b (c .n * c .n) (c .n) ≤ 65025
     go true = mul-le-mul small small
     go false = omega arith
 
 module _ (s : List ℕ) (c : Settings) (E : ℕ) (same : E ≡ entryCount c) where
-  pub body-length-refused : (length s ≡ 8 + 5 * E → ⊥) → some (refusal 6 0) ≡ firstOf (bodyChecks c s)
-  unfolding bodyChecks firstOf badLength
+  pub body-length-refused : (length s ≡ 8 + 5 * E → ⊥) → some (refusal 6 0) ≡ firstOf (badLength (length s) (sheetLength c) ∷ arrayChecks (markAt s) (bitsAt s (entryCount c)) (entryCount c))
+  unfolding firstOf badLength
   body-length-refused h = rw (sym same, ne-eqb (length s) (8 + 5 * E) h)
 
   -- of a sheet of its length checks 8 and 9 are left
-  pub body-rows :
+  pub body-checks :
       length s ≡ 8 + 5 * E
-      → firstOf (bodyChecks c s) ≡ orNext (badMark (markAt s) E) (badMissing (markAt s) (bitsAt s E) E)
-  unfolding bodyChecks firstOf
-  body-rows h =
-      rw (sym same, length-pass (length s) (8 + 5 * E) h)
-      (ap (orNext (badMark (markAt s) E)) (next-none (badMissing (markAt s) (bitsAt s E) E)))
+      → firstOf (badLength (length s) (sheetLength c) ∷ arrayChecks (markAt s) (bitsAt s (entryCount c)) (entryCount c))
+      ≡ firstOf (arrayChecks (markAt s) (bitsAt s E) E)
+  unfolding firstOf
+  body-checks h = rw (sym same, length-pass (length s) (8 + 5 * E) h)
 
 -- with the settings that checks 1 to 6 grant they are those of the sheet
-pub body-entries : (s : List ℕ) (c : Settings) → Inspected s c → firstOf (bodyChecks c s) ≡ firstOf (entryChecks s)
+pub body-entries : (s : List ℕ) (c : Settings) → Inspected s c → firstOf (badLength (length s) (sheetLength c) ∷ arrayChecks (markAt s) (bitsAt s (entryCount c)) (entryCount c)) ≡ firstOf (entryChecks s)
 body-entries s c i =
-    body-rows s c (entryCount c) refl (i .long)
-    ∙ sym (entry-rows s (entryCount c) (ap entryCount (sym (i .settings))))
+    body-checks s c (entryCount c) refl (i .long)
+    ∙ sym (entry-checks s (entryCount c) (ap entryCount (sym (i .settings))))
 
 -- the parts of a sheet have four bytes for each mark
 pub parts-missing :

@@ -5,6 +5,6 @@ use Rattle.inspection.specs.declared.Opened.{Opened}
 use Rattle.inspection.specs.declared.Opened.the-variants.{Granted, Refused}
 
 -- the settings granted, or the first refusal
-abbrev pub openedAs : Opened → Verdict Settings
-openedAs (Granted c) = granted c
-openedAs (Refused r) = refused r
+abbrev pub openedOf : Opened → Verdict Settings
+openedOf (Granted c) = granted c
+openedOf (Refused r) = refused r

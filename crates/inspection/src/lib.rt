@@ -1,12 +1,12 @@
 // Document 01, "The round sheet" and "Numbers of refusal": the checks of a sheet.
 ghost use mathlib.Core.Path.{_≡_};
-ghost use Prim.Native.Nat.{_*_, _<_};
-ghost use Rattle.ensemble.specs.Answers.{rowOf};
-ghost use Rattle.model.specs.RoundSheet.{settingsAt, entryCount};
-ghost use Rattle.model.specs.Refusals.{firstOf, sheetChecks, rowChecks};
+ghost use mathlib.Core.List.{_∷_};
+ghost use lib.ListN.{length};
+ghost use Rattle.ensemble.specs.Answers.{checkOf};
+ghost use Rattle.model.specs.RoundSheet.{settingsAt, entryCount, sheetLength, markAt, bitsAt};
+ghost use Rattle.model.specs.Refusals.{firstOf, badLength, arrayChecks, sheetChecks, rowChecks};
 ghost use Rattle.model.specs.Calls.{verdict};
-ghost use Rattle.inspection.specs.Answers.{openedAs};
-ghost use Rattle.inspection.specs.Checks.{bodyChecks};
+ghost use Rattle.inspection.specs.Answers.{openedOf};
 use ensemble::Screened;
 use entries::Found;
 use model::Refusal;
@@ -42,7 +42,7 @@ pub fn entry_count(settings: Settings) -> usize
 // Checks 1 to 6.
 pub fn inspect(sheet: &[u8]) -> Opened
     ensures { λ r.
-        ⌜ openedAs r
+        ⌜ openedOf r
         ≡ verdict (firstOf (sheetChecks (now (sheet .entry)))) (settingsAt (now (sheet .entry))) ⌝ }
 {
     if sheet.len() < 8 {
@@ -69,7 +69,11 @@ pub fn inspect(sheet: &[u8]) -> Opened
 
 // Checks 6, 8 and 9 of a sheet with these settings.
 pub fn check_entries(sheet: &[u8], settings: Settings) -> Screened
-    ensures { λ r. ⌜ rowOf r ≡ firstOf (bodyChecks settings (now (sheet .entry))) ⌝ }
+    ensures { λ r.
+        ⌜ checkOf r
+        ≡ firstOf (badLength (length (now (sheet .entry))) (sheetLength settings)
+        ∷ arrayChecks (markAt (now (sheet .entry)))
+        (bitsAt (now (sheet .entry)) (entryCount settings)) (entryCount settings)) ⌝ }
 {
     let entries = entry_count(settings);
     if sheet.len() != 8 + 5 * entries {
@@ -100,7 +104,7 @@ pub fn check_entries(sheet: &[u8], settings: Settings) -> Screened
 // Checks 1 to 6, 8 and 9.
 pub fn validate(sheet: &[u8]) -> Opened
     ensures { λ r.
-        ⌜ openedAs r
+        ⌜ openedOf r
         ≡ verdict (firstOf (rowChecks (now (sheet .entry)))) (settingsAt (now (sheet .entry))) ⌝ }
 {
     match inspect(sheet) {

@@ -21,7 +21,7 @@ use Rattle.model.specs.Calls.{Verdict, granted, refused, verdict, Outcome, sett
 use Rattle.model.specs.Listing.{maxInput, listingBuffer, listing}
 use Rattle.sheets.proofs.Outcomes.{refused-some, granted-none}
 use Rattle.round.specs.declared.Settled.the-variants.{Granted, Refused}
-use Rattle.round.specs.Answers.{settledAs}
+use Rattle.round.specs.Answers.{settlingOf}
 use Rattle.text.specs.Text.{textIn, roundCapacity, refusalCapacity, roundWritten, refusalWritten}
 use Rattle.text.proofs.Texts.{text-shown}
 use Rattle.text.proofs.Listings.{listing-refused, listing-settled}
@@ -66,7 +66,7 @@ module _ (input buffer answer left : List ℕ) (end : ℕ) (size : end ≡ min (
   settled-here w e = e ∙ ap₂ settle (read-part input end size) zeros
 
   verdict-here : (v : Verdict ℕ) → record { verdict = v; buffer = left } ≡ settle (take end input) answer
-      → verdict (firstOf (settleChecks sheet listingBuffer)) (answerLength (settingsAt sheet .n)) ≡ v
+      → verdict (firstOf (settleChecks sheet (length listingBuffer))) (answerLength (settingsAt sheet .n)) ≡ v
   unfolding settle
   verdict-here v e = sym (ap (λ (w : Outcome). w .verdict) (settled-here (record { verdict = v; buffer = left }) e))
 
@@ -74,16 +74,16 @@ module _ (input buffer answer left : List ℕ) (end : ℕ) (size : end ≡ min (
   refusal-room : (text : List ℕ) → textIn refusalCapacity text buffer ≡ textIn roundCapacity text buffer
   refusal-room text = rw (le-ltb (length buffer) 23 (le-trans (lit≤ tt) room), le-ltb (length buffer) 5138 room)
 
-  pub refusal-listed : (r : Refusal) → settledAs (Refused r) left ≡ settle (take end input) answer
+  pub refusal-listed : (r : Refusal) → settlingOf (Refused r) left ≡ settle (take end input) answer
       → refusalWritten (r .number) (r .place) buffer ≡ listed input buffer
   unfolding listed
   refusal-listed r e =
       listing-refused input buffer r
-      (refused-some (firstOf (settleChecks sheet listingBuffer)) (answerLength (settingsAt sheet .n)) r
+      (refused-some (firstOf (settleChecks sheet (length listingBuffer))) (answerLength (settingsAt sheet .n)) r
       (verdict-here (refused r) e))
       ∙ refusal-room (listing input)
 
-  pub round-listed : ((j : ℕ) → byte input j < 256) → (n : ℕ) → settledAs (Granted n) left ≡ settle (take end input) answer
+  pub round-listed : ((j : ℕ) → byte input j < 256) → (n : ℕ) → settlingOf (Granted n) left ≡ settle (take end input) answer
       → roundWritten left buffer ≡ listed input buffer
   unfolding listed
   round-listed small n e =
@@ -96,9 +96,9 @@ module _ (input buffer answer left : List ℕ) (end : ℕ) (size : end ≡ min (
       bytes : (j : ℕ) → byte sheet j < 256
       bytes = part-small maxInput input small
 
-      passed : firstOf (settleChecks sheet listingBuffer) ≡ none
+      passed : firstOf (settleChecks sheet (length listingBuffer)) ≡ none
       passed =
-          granted-none (firstOf (settleChecks sheet listingBuffer)) (answerLength (settingsAt sheet .n)) n
+          granted-none (firstOf (settleChecks sheet (length listingBuffer))) (answerLength (settingsAt sheet .n)) n
           (verdict-here (granted n) e)
 
 -- the bytes up to the answered length are the listing

@@ -22,10 +22,10 @@ use Rattle.model.specs.Ensemble.{Reading, missing, present, Readings, ticks, qu
 use Rattle.model.specs.RoundSheet.{cca, byte, settingsAt, entryCount, markAt, bitsAt, entryAt}
 use Rattle.model.specs.Steps.{same, decisionAt, decidedReading, decideRow, readingsOf, roundAt}
 use Rattle.model.specs.AnswerSheet.{answerLength}
-use Rattle.model.specs.Refusals.{Row, orNext, firstOf, sheetChecks, entryChecks, settleChecks, noRoom, tooManyFaults}
+use Rattle.model.specs.Refusals.{Check, orNext, firstOf, sheetChecks, entryChecks, settleChecks, noRoom, tooManyFaults}
 use Rattle.sheets.proofs.Words.{word-fits}
-use Rattle.refusals.proofs.Rows.{next-none-left, next-none-right, when-none}
-use Rattle.sheets.proofs.Outcomes.{settle-rows}
+use Rattle.refusals.proofs.Checks.{next-none-left, next-none-right, when-none}
+use Rattle.sheets.proofs.Orders.{settle-checks}
 use Rattle.refusals.proofs.Limits.{limits}
 use Rattle.sheets.proofs.Checks.{settings-passed}
 use Rattle.demands.proofs.Values.{estimate-fits, used-fits, value-fits}
@@ -71,28 +71,28 @@ module _ (s : List ℕ) (small : (j : ℕ) → byte s j < 256) where
   readings-fit r h =
       reading-fits (settingsAt s) (entryAt s (entryCount (settingsAt s))) (entry-fits (entryCount (settingsAt s))) r
 
-  module _ (answer : List ℕ) (granted : firstOf (settleChecks s answer) ≡ none) where
-    abbrev room : Row
+  module _ (answer : List ℕ) (granted : firstOf (settleChecks s (length answer)) ≡ none) where
+    abbrev room : Check
     room = noRoom (length answer) (answerLength (settingsAt s .n))
 
-    abbrev faults : Row
+    abbrev faults : Check
     faults = tooManyFaults (roundAt s .count)
 
-    rows : orNext (firstOf (sheetChecks s)) (orNext room (orNext (firstOf (entryChecks s)) faults)) ≡ none
-    rows = sym (settle-rows s answer) ∙ granted
+    checks : orNext (firstOf (sheetChecks s)) (orNext room (orNext (firstOf (entryChecks s)) faults)) ≡ none
+    checks = sym (settle-checks s (length answer)) ∙ granted
 
     some-cabinet : 0 < settingsAt s .n
     some-cabinet =
         limits (settingsAt s)
         (settings-passed s
-        (next-none-left (firstOf (sheetChecks s)) (orNext room (orNext (firstOf (entryChecks s)) faults)) rows))
+        (next-none-left (firstOf (sheetChecks s)) (orNext room (orNext (firstOf (entryChecks s)) faults)) checks))
         .someCabinet
 
     few-faults : faults ≡ none
     few-faults =
         next-none-right (firstOf (entryChecks s)) faults
         (next-none-right room (orNext (firstOf (entryChecks s)) faults)
-        (next-none-right (firstOf (sheetChecks s)) (orNext room (orNext (firstOf (entryChecks s)) faults)) rows))
+        (next-none-right (firstOf (sheetChecks s)) (orNext room (orNext (firstOf (entryChecks s)) faults)) checks))
 
     some-accepted : 0 < roundAt s .count
     unfolding tooManyFaults

@@ -1,5 +1,6 @@
 -- Document 01, "The answer sheet".
 --   answerLength    10 + 5N
+--   headerBytes     bytes 0 to 9, of numbers given by their bits
 --   answerBytes     every byte of the answer sheet of a settled round
 use mathlib.Core.List.{List, [], _∷_, _++_}
 use Prim.Native.Nat.{ℕ, _+_, _*_}
@@ -18,8 +19,11 @@ abbrev pub answerLength : ℕ → ℕ
 answerLength n = answerHeaderSize + 5 * n
 
 -- "Byte 0 N; byte 1 the accepted count; bytes 2 to 5 the estimate; bytes 6 to 9 the new value"
+abbrev pub headerBytes : ℕ → ℕ → ℕ → ℕ → List ℕ
+headerBytes n count estimate value = (n ∷ count ∷ []) ++ (bytes4 estimate ++ bytes4 value)
+
 unfoldable pub answerHeader : ℕ → Round → List ℕ
-answerHeader n round = (n ∷ round .count ∷ []) ++ (bytes4 (ofZ w32 (round .estimate)) ++ bytes4 (ofZ w32 (round .value)))
+answerHeader n round = headerBytes n (round .count) (ofZ w32 (round .estimate)) (ofZ w32 (round .value))
 
 -- "then N marks; then N used values"
 unfoldable pub answerBytes : ℕ → Round → List ℕ

@@ -8,6 +8,7 @@ use mathlib.Core.Option.{none, some}
 use mathlib.Core.Path.{_≡_}
 use Prim.Native.Nat.{ℕ}
 use lib.Dec.{ltb}
+use lib.ListN.{length}
 use lib.IntN.{ℤ}
 use mir.Syntax.{w32}
 use mir.Val.{toZ}
@@ -18,7 +19,8 @@ use Rattle.model.specs.RoundSheet.{settingsAt, entryCount, sheetLength, 
 use Rattle.model.specs.AnswerSheet.{answerLength, answerBytes}
 use Rattle.model.specs.Steps.{roundAt}
 use Rattle.model.specs.Planner.{Plan, planFrom, advance, after, Reaches}
-use Rattle.model.specs.Refusals.{Row, firstOf, readChecks, writeChecks, rowChecks, settleChecks, planChecks, stepChecks, targetChecks}
+use Rattle.model.specs.Refusals.{Check, firstOf, readChecks, writeChecks, rowChecks, settleChecks, planChecks, stepChecks}
+use Rattle.model.specs.Refusals.{targetChecks}
 
 -- "one answer sheet or one numbered refusal"
 pub data Verdict (A : Type 0) : Type 0 where
@@ -26,13 +28,13 @@ pub data Verdict (A : Type 0) : Type 0 where
   refused : Refusal → Verdict A
 
 module _ {A : Type 0} where
-  -- what a call grants unless a row refuses
-  abbrev pub verdict : Row → A → Verdict A
+  -- what a call grants unless a check refuses
+  abbrev pub verdict : Check → A → Verdict A
   verdict none a = granted a
   verdict (some r) a = refused r
 
-  -- what is lent: written anew unless a row refuses. "Nothing lent is written" by a refusal
-  abbrev pub lent : Row → A → A → A
+  -- what is lent: written anew unless a check refuses. "Nothing lent is written" by a refusal
+  abbrev pub lent : Check → A → A → A
   lent none new old = new
   lent (some r) new old = old
 
@@ -50,16 +52,16 @@ abbrev pub ticksOf : List ℕ → List ℤ
 ticksOf s = table (λ e. toZ w32 (bitsAt s (entryCount (settingsAt s)) e)) (entryCount (settingsAt s))
 
 -- "entries past E keep what they had"
-abbrev pub readAfter : Row → List ℕ → List ℕ → List ℤ → Read
-readAfter row s marks readings =
+abbrev pub readAfter : Check → List ℕ → List ℕ → List ℤ → Read
+readAfter check s marks readings =
     record {
-      verdict = verdict row (settingsAt s);
-      marks = lent row (overwrite (marksOf s) marks) marks;
-      readings = lent row (overwrite (ticksOf s) readings) readings;
+      verdict = verdict check (settingsAt s);
+      marks = lent check (overwrite (marksOf s) marks) marks;
+      readings = lent check (overwrite (ticksOf s) readings) readings;
     }
 
 unfoldable pub read : List ℕ → List ℕ → List ℤ → Read
-read s marks readings = readAfter (firstOf (readChecks s marks readings)) s marks readings
+read s marks readings = readAfter (firstOf (readChecks s (length marks) (length readings))) s marks readings
 
 -- ---- "The writer takes the settings and two arrays"; "Bytes past the sheet keep what they had". It grants the sheet's length
 
@@ -67,12 +69,12 @@ pub record Outcome : Type 0 where
   pub verdict : Verdict ℕ
   pub buffer : List ℕ
 
-abbrev pub writtenAfter : Row → ℕ → List ℕ → List ℕ → Outcome
-writtenAfter row size bytes buffer = record { verdict = verdict row size; buffer = lent row (overwrite bytes buffer) buffer }
+abbrev pub writtenAfter : Check → ℕ → List ℕ → List ℕ → Outcome
+writtenAfter check size bytes buffer = record { verdict = verdict check size; buffer = lent check (overwrite bytes buffer) buffer }
 
 unfoldable pub write : Settings → List ℕ → List ℤ → List ℕ → Outcome
 write c marks readings buffer =
-    writtenAfter (firstOf (writeChecks c marks readings buffer)) (sheetLength c) (sheetBytes c marks readings) buffer
+    writtenAfter (firstOf (writeChecks c marks readings (length buffer))) (sheetLength c) (sheetBytes c marks readings) buffer
 
 -- ---- "One cabinet's row of readings is shown as the part of the sheet that holds it"
 
@@ -82,13 +84,12 @@ row s r = lent (firstOf (rowChecks s)) (cond (ltb r (settingsAt s .n)) (rowPart 
 
 -- ---- Settling: "it leaves as one answer sheet or one numbered refusal". It grants the answer sheet's length
 
+abbrev pub settleAfter : Check → List ℕ → List ℕ → Outcome
+settleAfter check s answer =
+    writtenAfter check (answerLength (settingsAt s .n)) (answerBytes (settingsAt s .n) (roundAt s)) answer
+
 unfoldable pub settle : List ℕ → List ℕ → Outcome
-settle s answer =
-    writtenAfter
-    (firstOf (settleChecks s answer))
-    (answerLength (settingsAt s .n))
-    (answerBytes (settingsAt s .n) (roundAt s))
-    answer
+settle s answer = settleAfter (firstOf (settleChecks s (length answer))) s answer
 
 -- ---- The planner: "From N, m, rule, estimator, δ, accuracy κ and 0 to 32 rounds it gives the window and the accuracy after them"
 
@@ -98,7 +99,7 @@ plan c κ k = verdict (firstOf (planChecks c κ k)) (after k (planFrom c κ))
 unfoldable pub step : Plan → Verdict Plan
 step p = verdict (firstOf (stepChecks p)) (advance p)
 
--- "it also gives a round count of at most 32 whose window is at or below the target": a refusal is the first row that refuses, and
+-- "it also gives a round count of at most 32 whose window is at or below the target": a refusal is the first check that refuses, and
 -- any count that reaches the target may be granted where none does
 abbrev pub Target : Settings → ℕ → ℕ → Verdict ℕ → Type 0
 Target c κ target (granted k) = (firstOf (targetChecks c κ target) ≡ none) × Reaches c κ target k

@@ -14,7 +14,7 @@ use Rattle.model.specs.Ensemble.{Reading, missing, present, ticks}
 use Rattle.model.specs.RoundSheet.{fca, cca, median, midpoint, sheetBytes}
 use Rattle.model.specs.Steps.{Decision, decided, knownFaulty, decideRow, Round, readingsOf, roundOf}
 use Rattle.model.specs.Planner.{planFrom, after}
-use Rattle.model.specs.Refusals.{Row, firstOf, tooManyFaults, targetChecks}
+use Rattle.model.specs.Refusals.{Check, firstOf, tooManyFaults, targetChecks}
 use Rattle.model.specs.Calls.{row}
 
 pub data Question : Type 0 where
@@ -39,9 +39,9 @@ pub data Answer : Type 0 where
   grants : Answer
   refuses : ℕ → Answer
 
-abbrev pub ofRow : Row → Answer → Answer
-ofRow none a = a
-ofRow (some r) a = refuses (r .number)
+abbrev pub ofCheck : Check → Answer → Answer
+ofCheck none a = a
+ofCheck (some r) a = refuses (r .number)
 
 abbrev pub ofDecision : Decision → Answer
 ofDecision (decided z) = gives (z ∷ [])
@@ -52,7 +52,7 @@ abbrev pub roundFrom : Settings → List Reading → Round
 roundFrom c entries = roundOf c (readingsOf c (λ e. getD entries e missing))
 
 unfoldable pub ofRound : Round → List ℤ → Answer
-ofRound r shown = ofRow (tooManyFaults (r .count)) (gives shown)
+ofRound r shown = ofCheck (tooManyFaults (r .count)) (gives shown)
 
 unfoldable pub ask : Question → Answer
 ask (round c es) = ofRound (roundFrom c es) (pos (roundFrom c es .count) ∷ roundFrom c es .estimate ∷ roundFrom c es .value ∷ [])
@@ -61,7 +61,7 @@ ask (settled c es) = ofRound (roundFrom c es) (roundFrom c es .value ∷ [])
 ask (replaced c es r) = ofRound (roundFrom c es) (roundFrom c es .used r ∷ roundFrom c es .value ∷ [])
 ask (decision n m copies) = ofDecision (decideRow (n - m) n (λ s. getD copies s missing))
 ask (planned c κ k) = gives (pos (after k (planFrom c κ) .settings .window) ∷ pos (after k (planFrom c κ) .accuracy) ∷ [])
-ask (target c κ t) = ofRow (firstOf (targetChecks c κ t)) grants
+ask (target c κ t) = ofCheck (firstOf (targetChecks c κ t)) grants
 
 pub record Case : Type 0 where
   pub number : ℕ

@@ -7,14 +7,14 @@ use mathlib.Core.List.{List, [], _∷_, _++_}
 use mathlib.Core.Option.{none, some}
 use Prim.Native.Nat.{ℕ, zero, suc, _+_, _/_, _%_}
 use lib.Dec.{ltb}
-use lib.ListN.{replicate, take}
+use lib.ListN.{length, replicate, take}
 use lib.IntN.{ℤ, pos, negsuc}
 use Rattle.model.specs.declared.Refusal.{Refusal}
 use Rattle.model.specs.Ensemble.{maxCabinets}
 use Rattle.model.specs.RoundSheet.{settingsAt}
 use Rattle.model.specs.AnswerSheet.{answerLength}
 use Rattle.model.specs.Steps.{Round, roundAt}
-use Rattle.model.specs.Refusals.{Row, firstOf, settleChecks}
+use Rattle.model.specs.Refusals.{Check, firstOf, settleChecks}
 
 -- `settle` "reads one round sheet from standard input, at most 20,489 bytes"
 abbrev pub maxInput : ℕ
@@ -63,7 +63,7 @@ roundText n round =
 unfoldable pub refusalText : Refusal → List ℕ
 refusalText r = line refusedWord (decimal (r .number) ∷ decimal (r .place) ∷ [])
 
-abbrev pub textAfter : Row → List ℕ → List ℕ
+abbrev pub textAfter : Check → List ℕ → List ℕ
 textAfter none text = text
 textAfter (some r) text = refusalText r
 
@@ -75,4 +75,4 @@ listingBuffer = replicate (answerLength maxCabinets) 0
 unfoldable pub listing : List ℕ → List ℕ
 listing input =
     let s : List ℕ = take maxInput input in
-    textAfter (firstOf (settleChecks s listingBuffer)) (roundText (settingsAt s .n) (roundAt s))
+    textAfter (firstOf (settleChecks s (length listingBuffer))) (roundText (settingsAt s .n) (roundAt s))

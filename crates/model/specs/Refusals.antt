@@ -1,22 +1,26 @@
--- Document 01, "Numbers of refusal": the table, a definition for each row in its order, and the rows that apply to each call.
---   refuseIf, atEntry a row whose place is 0; a row whose place is the lowest entry at fault
---   firstOf           "Checks run in this order, those that apply to the call": the first row that refuses
---   tooShort .. targetMissed    rows 1 to 12
---   readChecks, writeChecks, rowChecks, settleChecks, planChecks, stepChecks, targetChecks    the rows of each call
+-- Document 01, "Numbers of refusal": the table, a definition for each check in its order, and the checks that apply to each call. Of
+-- what a call is lent to fill they ask the length.
+--   Check                       what a check gives: its refusal, or nothing
+--   refuseIf, atEntry           a check whose place is 0; a check whose place is the lowest entry at fault
+--   firstOf                     "Checks run in this order, those that apply to the call": the first that refuses
+--   tooShort .. targetMissed    checks 1 to 12
+--   settingsChecks              2 to 5, of settings
+--   sheetChecks                 1 to 6, of a sheet
+--   arrayChecks, entryChecks    8 and 9, of two parallel arrays; of a sheet's entries
+--   planningChecks              2 to 5 and 11, of settings and a start or a step that fails or not
+--   readChecks, writeChecks, rowChecks, settleChecks, planChecks, stepChecks, targetChecks    the checks of each call
 use mathlib.Core.Bool.{Bool, cond, not, _&&_, _||_}
 use mathlib.Core.List.{List, [], _∷_, _++_}
 use mathlib.Core.Option.{Option, none, some}
 use Prim.Native.Nat.{ℕ, _+_, _*_}
 use lib.Dec.{leb, ltb, eqb}
-use lib.ListN.{length, getD}
-use lib.IntN.{ℤ, pos}
-use mir.Syntax.{w32}
-use mir.Val.{ofZ}
+use lib.ListN.{length}
+use lib.IntN.{ℤ}
 use Rattle.arithmetic.specs.Counting.{lowest}
 use Rattle.model.specs.declared.Settings.{Settings}
 use Rattle.model.specs.declared.Refusal.{Refusal}
 use Rattle.model.specs.Ensemble.{maxCabinets, maxWindow}
-use Rattle.model.specs.RoundSheet.{cca, midpoint, headerSize, settingsAt, entryCount, sheetLength, markAt, bitsAt}
+use Rattle.model.specs.RoundSheet.{cca, midpoint, headerSize, byte, settingsAt, entryCount, sheetLength, markAt, bitsAt, bitsIn}
 use Rattle.model.specs.AnswerSheet.{answerLength}
 use Rattle.model.specs.Steps.{roundAt}
 use Rattle.model.specs.Planner.{Plan, maxAccuracy, maxRounds, maxStepAccuracy, windowAfter}
@@ -25,124 +29,130 @@ use Rattle.model.specs.Planner.{Plan, maxAccuracy, maxRounds, maxStepAcc
 abbrev pub refusal : ℕ → ℕ → Refusal
 refusal number place = record { number = number; place = place }
 
-abbrev pub Row : Type 0
-Row = Option Refusal
+-- what a check gives
+abbrev pub Check : Type 0
+Check = Option Refusal
 
-abbrev pub refuseIf : Bool → ℕ → Row
+abbrev pub refuseIf : Bool → ℕ → Check
 refuseIf fails number = cond fails (some (refusal number 0)) none
 
-abbrev pub atEntry : Option ℕ → ℕ → Row
+abbrev pub atEntry : Option ℕ → ℕ → Check
 atEntry (some e) number = some (refusal number e)
 atEntry none number = none
 
 -- the first refusal stands
-abbrev pub orNext : Row → Row → Row
+abbrev pub orNext : Check → Check → Check
 orNext (some r) next = some r
 orNext none next = next
 
-unfoldable pub firstOf : List Row → Row
+unfoldable pub firstOf : List Check → Check
 firstOf [] = none
 firstOf (r ∷ rs) = orNext r (firstOf rs)
 
 -- 1 (stub): "sheet under 8 bytes"
-unfoldable pub tooShort : List ℕ → Row
+unfoldable pub tooShort : List ℕ → Check
 tooShort s = refuseIf (ltb (length s) headerSize) 1
 
 -- 2 (ensemble): "N is 0 or above 64"
-unfoldable pub badCabinets : Settings → Row
+unfoldable pub badCabinets : Settings → Check
 badCabinets c = refuseIf (eqb (c .n) 0 || ltb maxCabinets (c .n)) 2
 
 -- 3 (fault plan): "N below 3m+1"
-unfoldable pub badFaults : Settings → Row
+unfoldable pub badFaults : Settings → Check
 badFaults c = refuseIf (ltb (c .n) (3 * c .m + 1)) 3
 
 -- 4 (rule): "unknown rule or estimator"
-unfoldable pub badMethod : Settings → Row
+unfoldable pub badMethod : Settings → Check
 badMethod c = refuseIf (ltb cca (c .rule) || ltb midpoint (c .estimator)) 4
 
 -- 5 (window): "δ above 1,000,000"
-unfoldable pub badWindow : Settings → Row
+unfoldable pub badWindow : Settings → Check
 badWindow c = refuseIf (ltb maxWindow (c .window)) 5
 
 -- 6 (length): "not 8 + 5E bytes"; for the writer "6 when an array is not E long"
-unfoldable pub badLength : ℕ → ℕ → Row
+unfoldable pub badLength : ℕ → ℕ → Check
 badLength given wanted = refuseIf (not (eqb given wanted)) 6
 
 -- 7 (tray): "answer buffer too short"; for the reader "7 when either array is shorter than E", for the writer "7 when its buffer is short"
-unfoldable pub noRoom : ℕ → ℕ → Row
+unfoldable pub noRoom : ℕ → ℕ → Check
 noRoom given wanted = refuseIf (ltb given wanted) 7
 
 -- 8 (mark): "a mark not 0 or 1"
-unfoldable pub badMark : (ℕ → ℕ) → ℕ → Row
+unfoldable pub badMark : (ℕ → ℕ) → ℕ → Check
 badMark mark E = atEntry (lowest (λ e. ltb 1 (mark e)) E) 8
 
--- 9 (ghost): "missing, bytes not zero". "All marks are checked before any 9"
-unfoldable pub badMissing : (ℕ → ℕ) → (ℕ → ℕ) → ℕ → Row
-badMissing mark bits E = atEntry (lowest (λ e. eqb (mark e) 0 && not (eqb (bits e) 0)) E) 9
+-- 9 (ghost): "missing, bytes not zero"
+abbrev pub notZero : ℕ → ℕ → Bool
+notZero mark bits = eqb mark 0 && not (eqb bits 0)
+
+unfoldable pub badMissing : (ℕ → ℕ) → (ℕ → ℕ) → ℕ → Check
+badMissing mark bits E = atEntry (lowest (λ e. notZero (mark e) (bits e)) E) 9
 
 -- 10 (too many faults): "no reading accepted"
-unfoldable pub tooManyFaults : ℕ → Row
+unfoldable pub tooManyFaults : ℕ → Check
 tooManyFaults accepted = refuseIf (eqb accepted 0) 10
 
 -- 11 (plan): "starting κ above 1,000,000,000, or above 32 rounds; for a step as said above"
-unfoldable pub badPlan : Bool → Row
+unfoldable pub badPlan : Bool → Check
 badPlan fails = refuseIf fails 11
 
 -- 12 (target): "window after 32 rounds above target"
-unfoldable pub targetMissed : ℕ → ℕ → Row
+unfoldable pub targetMissed : ℕ → ℕ → Check
 targetMissed last target = refuseIf (ltb target last) 12
 
--- rows 2 to 5, of any settings
-unfoldable pub settingsChecks : Settings → List Row
+-- checks 2 to 5, of any settings
+unfoldable pub settingsChecks : Settings → List Check
 settingsChecks c = badCabinets c ∷ badFaults c ∷ badMethod c ∷ badWindow c ∷ []
 
--- rows 1 to 6, of a sheet's sizes and length
-unfoldable pub sheetChecks : List ℕ → List Row
+-- checks 1 to 6, of a sheet's sizes and length
+unfoldable pub sheetChecks : List ℕ → List Check
 sheetChecks s = (tooShort s ∷ settingsChecks (settingsAt s)) ++ (badLength (length s) (sheetLength (settingsAt s)) ∷ [])
 
--- rows 8 and 9, of a sheet's entries
-unfoldable pub entryChecks : List ℕ → List Row
-entryChecks s =
-    badMark (markAt s) (entryCount (settingsAt s))
-    ∷ badMissing (markAt s) (bitsAt s (entryCount (settingsAt s))) (entryCount (settingsAt s))
-    ∷ []
+-- checks 8 and 9, of two parallel arrays of E entries: the mark of each, and the bits of its reading. "All marks are checked before any 9"
+abbrev pub arrayChecks : (ℕ → ℕ) → (ℕ → ℕ) → ℕ → List Check
+arrayChecks mark bits E = badMark mark E ∷ badMissing mark bits E ∷ []
 
--- the reader: "refusing under 1 to 9"
-unfoldable pub readChecks : List ℕ → List ℕ → List ℤ → List Row
+-- of a sheet's entries
+unfoldable pub entryChecks : List ℕ → List Check
+entryChecks s = arrayChecks (markAt s) (bitsAt s (entryCount (settingsAt s))) (entryCount (settingsAt s))
+
+-- the reader, lent arrays of these lengths: "refusing under 1 to 9"
+unfoldable pub readChecks : List ℕ → ℕ → ℕ → List Check
 readChecks s marks readings =
-    sheetChecks s
-    ++ (noRoom (length marks) (entryCount (settingsAt s)) ∷ noRoom (length readings) (entryCount (settingsAt s)) ∷ entryChecks s)
+    sheetChecks s ++ (noRoom marks (entryCount (settingsAt s)) ∷ noRoom readings (entryCount (settingsAt s)) ∷ entryChecks s)
 
--- the writer: "refuses under 2 to 9"
-unfoldable pub writeChecks : Settings → List ℕ → List ℤ → List ℕ → List Row
+-- the writer, lent a buffer of this length: "refuses under 2 to 9"
+unfoldable pub writeChecks : Settings → List ℕ → List ℤ → ℕ → List Check
 writeChecks c marks readings buffer =
     settingsChecks c
     ++ (badLength (length marks) (entryCount c)
     ∷ badLength (length readings) (entryCount c)
-    ∷ noRoom (length buffer) (sheetLength c)
-    ∷ badMark (λ e. getD marks e 0) (entryCount c)
-    ∷ badMissing (λ e. getD marks e 0) (λ e. ofZ w32 (getD readings e (pos 0))) (entryCount c)
-    ∷ [])
+    ∷ noRoom buffer (sheetLength c)
+    ∷ arrayChecks (byte marks) (bitsIn readings) (entryCount c))
 
 -- the row accessor: "A sheet that checks 1 to 6, 8 or 9 refuse"
-unfoldable pub rowChecks : List ℕ → List Row
+unfoldable pub rowChecks : List ℕ → List Check
 rowChecks s = sheetChecks s ++ entryChecks s
 
--- settling: rows 1 to 10
-unfoldable pub settleChecks : List ℕ → List ℕ → List Row
+-- settling, lent an answer buffer of this length: checks 1 to 10
+unfoldable pub settleChecks : List ℕ → ℕ → List Check
 settleChecks s answer =
     sheetChecks s
-    ++ (noRoom (length answer) (answerLength (settingsAt s .n)) ∷ (entryChecks s ++ (tooManyFaults (roundAt s .count) ∷ [])))
+    ++ (noRoom answer (answerLength (settingsAt s .n)) ∷ (entryChecks s ++ (tooManyFaults (roundAt s .count) ∷ [])))
 
--- the planner: rows 2 to 5 and 11
-unfoldable pub planChecks : Settings → ℕ → ℕ → List Row
-planChecks c κ k = settingsChecks c ++ (badPlan (ltb maxAccuracy κ || ltb maxRounds k) ∷ [])
+-- checks 2 to 5, and then 11
+abbrev pub planningChecks : Settings → Bool → List Check
+planningChecks c fails = settingsChecks c ++ (badPlan fails ∷ [])
+
+-- the planner: checks 2 to 5 and 11
+unfoldable pub planChecks : Settings → ℕ → ℕ → List Check
+planChecks c κ k = planningChecks c (ltb maxAccuracy κ || ltb maxRounds k)
 
 -- "A step is refused under 2 to 5, and under 11 when 32 rounds or more are done or the plan's accuracy is above 1,100,000,000"
-unfoldable pub stepChecks : Plan → List Row
-stepChecks p = settingsChecks (p .settings) ++ (badPlan (leb maxRounds (p .rounds) || ltb maxStepAccuracy (p .accuracy)) ∷ [])
+unfoldable pub stepChecks : Plan → List Check
+stepChecks p = planningChecks (p .settings) (leb maxRounds (p .rounds) || ltb maxStepAccuracy (p .accuracy))
 
--- the count for a target: rows 2 to 5, 11 and 12
-unfoldable pub targetChecks : Settings → ℕ → ℕ → List Row
+-- the count for a target: checks 2 to 5, 11 and 12
+unfoldable pub targetChecks : Settings → ℕ → ℕ → List Check
 targetChecks c κ target =
     settingsChecks c ++ (badPlan (ltb maxAccuracy κ) ∷ targetMissed (windowAfter maxRounds c κ) target ∷ [])

@@ -4,15 +4,17 @@
 --   entryCount (E)           the number of entries
 --   markAt, bitsAt, entryAt  an entry's mark, the four bytes of its reading, the entry itself
 --   sheetLength              8 + 5E
---   rowPart                  the part of the sheet that is one cabinet's row of readings
+--   rowStart, rowLength      where one cabinet's row of readings starts, and its bytes
+--   rowPart                  the part of the sheet that is the row
 --   bytes4, readingBytes     a number, and a list of readings, as bytes
+--   bitsIn                   the bits of an entry's reading in a list of readings
 --   sheetBytes               the sheet that settings, marks and readings make
 use mathlib.Core.Bool.{cond}
 use mathlib.Core.List.{List, [], _∷_, _++_}
 use Prim.Native.Nat.{ℕ, _+_, _*_, _/_, _%_}
 use lib.Dec.{eqb}
 use lib.ListN.{getD, take, drop}
-use lib.IntN.{ℤ}
+use lib.IntN.{ℤ, pos}
 use mir.Syntax.{w32}
 use mir.Val.{toZ, ofZ}
 use Rattle.model.specs.declared.Settings.{Settings}
@@ -72,12 +74,21 @@ entryAt s E e = cond (eqb (markAt s e) 1) (present (toZ w32 (bitsAt s E e))) mis
 unfoldable pub rowEntries : Settings → ℕ
 rowEntries c = cond (eqb (c .rule) cca) (c .n) 1
 
+abbrev pub rowStart : Settings → ℕ → ℕ
+rowStart c r = headerSize + entryCount c + 4 * (r * rowEntries c)
+
+abbrev pub rowLength : Settings → ℕ
+rowLength c = 4 * rowEntries c
+
 unfoldable pub rowPart : List ℕ → Settings → ℕ → List ℕ
-rowPart s c r = take (4 * rowEntries c) (drop (headerSize + entryCount c + 4 * (r * rowEntries c)) s)
+rowPart s c r = take (rowLength c) (drop (rowStart c r) s)
 
 -- a number of 32 bits as four bytes
 unfoldable pub bytes4 : ℕ → List ℕ
 bytes4 x = (x % 256) ∷ (x / 256 % 256) ∷ (x / 65536 % 256) ∷ (x / 16777216 % 256) ∷ []
+
+abbrev pub bitsIn : List ℤ → ℕ → ℕ
+bitsIn readings e = ofZ w32 (getD readings e (pos 0))
 
 unfoldable pub readingBytes : List ℤ → List ℕ
 readingBytes [] = []

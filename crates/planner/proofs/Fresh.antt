@@ -7,15 +7,15 @@ use Rattle.model.specs.declared.Settings.{Settings}
 use Rattle.model.specs.Planner.{Plan, planFrom, after}
 use Rattle.model.specs.Refusals.{firstOf, planChecks}
 use Rattle.model.specs.Calls.{Verdict, granted, plan, Target}
-use Rattle.planning.proofs.Steps.{plan-granted-row}
+use Rattle.planning.proofs.Steps.{plan-granted-check}
 
 module _ (c : Settings) (κ : ℕ) {p : Plan} (e : granted p ≡ plan c κ 0) where
   fresh : p ≡ planFrom c κ
   unfolding after
-  fresh = plan-granted-row c κ 0 e .1
+  fresh = plan-granted-check c κ 0 e .1
 
   pub fresh-passes : firstOf (planChecks (p .settings) (p .accuracy) 0) ≡ none
-  fresh-passes = rw fresh (plan-granted-row c κ 0 e .0)
+  fresh-passes = rw fresh (plan-granted-check c κ 0 e .0)
 
   pub fresh-rounds : p .rounds ≡ 0
   fresh-rounds = ap (λ (q : Plan). q .rounds) fresh

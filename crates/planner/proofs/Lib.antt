@@ -1,4 +1,4 @@
 mod Shares
-mod Rows
+mod Checks
 mod Turns
 mod Fresh

@@ -1,6 +1,6 @@
 -- What the structs and enums of this crate say in document 01's terms.
 --   planOf                  a plan
---   verdictOf, countedOf    a plan or a refusal; a count of rounds or a refusal
+--   plannedOf, countedOf    a plan or a refusal; a count of rounds or a refusal
 use Prim.Native.Nat.{ℕ}
 use Rattle.model.specs.Planner as planner
 use Rattle.model.specs.Calls.{Verdict, granted, refused}
@@ -11,10 +11,10 @@ use Rattle.planner.specs.declared.Counted.{Counted}
 abbrev pub planOf : Plan → planner.Plan
 planOf p = record { settings = p .settings; accuracy = p .accuracy; rounds = p .rounds }
 
--- granted is the plan, with its window, accuracy and rounds; refused is the row's number and place
-abbrev pub verdictOf : Planned → Verdict planner.Plan
-verdictOf (Planned.Granted p) = granted (planOf p)
-verdictOf (Planned.Refused r) = refused r
+-- granted is the plan, with its window, accuracy and rounds; refused is the refusal's number and place
+abbrev pub plannedOf : Planned → Verdict planner.Plan
+plannedOf (Planned.Granted p) = granted (planOf p)
+plannedOf (Planned.Refused r) = refused r
 
 -- granted is the count of rounds
 abbrev pub countedOf : Counted → Verdict ℕ

@@ -1,15 +1,14 @@
 // Document 01, "The planner": the window and the accuracy after some rounds, and the rounds that reach a target.
 ghost use mathlib.Core.Path.{_≡_};
 ghost use mathlib.Core.Bool.{cond, _&&_, _||_};
-ghost use mathlib.Core.List.{[], _∷_, _++_};
 ghost use mathlib.Core.Option.{none};
 ghost use Prim.Native.Nat.{_*_, _≤_, _<_};
 ghost use lib.Dec.{eqb, leb, ltb};
 ghost use Rattle.model.specs.Planner.{ceilDiv, nextWindow, withWindow, planFrom, advance, after};
-ghost use Rattle.model.specs.Refusals.{orNext, badPlan, firstOf, settingsChecks, planChecks};
+ghost use Rattle.model.specs.Refusals.{orNext, badPlan, firstOf, settingsChecks, planningChecks, planChecks};
 ghost use Rattle.model.specs.Calls.{plan, step, Target};
-ghost use Rattle.ensemble.specs.Answers.{rowOf};
-ghost use Rattle.planner.specs.Answers.{planOf, verdictOf, countedOf};
+ghost use Rattle.ensemble.specs.Answers.{checkOf};
+ghost use Rattle.planner.specs.Answers.{planOf, plannedOf, countedOf};
 use ensemble::Screened;
 use model::Refusal;
 use model::Settings;
@@ -47,7 +46,7 @@ fn bad_step(rounds: u32, accuracy: u32) -> bool
 
 // Check 11.
 fn check_plan(fails: bool) -> Screened
-    ensures { λ r. ⌜ rowOf r ≡ badPlan fails ⌝ }
+    ensures { λ r. ⌜ checkOf r ≡ badPlan fails ⌝ }
 {
     if fails {
         Screened::Refused(Refusal {
@@ -60,10 +59,10 @@ fn check_plan(fails: bool) -> Screened
 }
 
 // The first refusal stands.
-fn first_of(row: Screened, next: Screened) -> Screened
-    ensures { λ r. ⌜ rowOf r ≡ orNext (rowOf row) (rowOf next) ⌝ }
+fn first_of(check: Screened, next: Screened) -> Screened
+    ensures { λ r. ⌜ checkOf r ≡ orNext (checkOf check) (checkOf next) ⌝ }
 {
-    match row {
+    match check {
         Screened::Passed => next,
         Screened::Refused(refusal) => Screened::Refused(refusal),
     }
@@ -71,7 +70,7 @@ fn first_of(row: Screened, next: Screened) -> Screened
 
 // Checks 2 to 5, and then 11.
 fn check_all(settings: Settings, fails: bool) -> Screened
-    ensures { λ r. ⌜ rowOf r ≡ firstOf (settingsChecks settings ++ (badPlan fails ∷ [])) ⌝ }
+    ensures { λ r. ⌜ checkOf r ≡ firstOf (planningChecks settings fails) ⌝ }
 {
     let of_settings = ensemble::screen(settings);
     let of_plan = check_plan(fails);
@@ -124,7 +123,7 @@ fn advance(current: Plan) -> Plan
 impl Plan {
     // The plan one round on.
     pub fn step(self) -> Planned
-        ensures { λ r. ⌜ verdictOf r ≡ step (planOf self) ⌝ }
+        ensures { λ r. ⌜ plannedOf r ≡ step (planOf self) ⌝ }
     {
         let settings = self.settings;
         match check_all(settings, bad_step(self.rounds, self.accuracy)) {
@@ -151,7 +150,7 @@ fn run(start: Plan, rounds: u32) -> Plan
 
 // The plan some rounds on. A fresh plan is the one for 0 rounds.
 pub fn plan_for(settings: Settings, accuracy: u32, rounds: u32) -> Planned
-    ensures { λ r. ⌜ verdictOf r ≡ plan settings accuracy rounds ⌝ }
+    ensures { λ r. ⌜ plannedOf r ≡ plan settings accuracy rounds ⌝ }
 {
     match check_all(settings, bad_start(accuracy, rounds)) {
         Screened::Refused(refusal) => Planned::Refused(refusal),

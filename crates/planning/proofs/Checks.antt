@@ -1,4 +1,4 @@
--- What it means that no row of a call refuses, as facts of numbers.
+-- What it means that no check of a call refuses, as facts of numbers.
 -- Assumes nothing.
 use mathlib.Core.Bool.{Bool, false, _||_}
 use mathlib.Core.List.{[], _∷_, _++_}
@@ -11,10 +11,10 @@ use Rattle.arithmetic.proofs.Bools.{or-false, or-left, or-right}
 use Rattle.model.specs.declared.Settings.{Settings}
 use Rattle.model.specs.Planner.{Plan}
 use Rattle.model.specs.Refusals.{firstOf, settingsChecks, planChecks, stepChecks, badPlan}
-use Rattle.refusals.proofs.Rows.{first-snoc, none-at, none-left, none-right, when-none}
+use Rattle.refusals.proofs.Checks.{first-snoc, none-at, none-left, none-right, when-none}
 use Rattle.refusals.proofs.Limits.{Limits, limits, limits-pass}
 
--- rows 2 to 5, and then 11
+-- checks 2 to 5, and then 11
 module _ (c : Settings) (fails : Bool) where
   none-eleven : firstOf (settingsChecks c ++ (badPlan fails ∷ [])) ≡ none → Limits c × (fails ≡ false)
   unfolding badPlan

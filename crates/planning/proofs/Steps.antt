@@ -8,13 +8,13 @@ use native.Mathlib.Omega.{arith}
 use Rattle.model.specs.declared.Settings.{Settings}
 use Rattle.model.specs.declared.Refusal.{Refusal}
 use Rattle.model.specs.Planner.{Plan, planFrom, advance, after}
-use Rattle.model.specs.Refusals.{Row, firstOf, planChecks, stepChecks}
+use Rattle.model.specs.Refusals.{Check, firstOf, planChecks, stepChecks}
 use Rattle.model.specs.Calls.{granted, refused, verdict, plan, step}
 use Rattle.planning.specs.Stepping.{thenStep, steps}
 use Rattle.refusals.proofs.Limits.{Limits}
 use Rattle.planning.proofs.Checks.{MayStep, none-may-start, may-step-none}
 use Rattle.planning.proofs.Rounds.{rounds-after}
-use Rattle.planning.proofs.Verdicts.{granted-row, refused-row}
+use Rattle.planning.proofs.Verdicts.{granted-check, refused-check}
 use Rattle.planning.proofs.Windows.{passes-after, accuracy-after-le}
 
 -- up to 32 the number of rounds decides nothing
@@ -39,32 +39,32 @@ start-step-passes c κ k e l =
 
 -- ---- what the calls give
 
--- each is its first row's refusal, or grants
-pub plan-by-row : (c : Settings) (κ k : ℕ) {row : Row} → firstOf (planChecks c κ k) ≡ row
-    → plan c κ k ≡ verdict row (after k (planFrom c κ))
+-- each is its first check's refusal, or grants
+pub plan-by-check : (c : Settings) (κ k : ℕ) {check : Check} → firstOf (planChecks c κ k) ≡ check
+    → plan c κ k ≡ verdict check (after k (planFrom c κ))
 unfolding plan
-plan-by-row c κ k e = ap (λ (row : Row). verdict row (after k (planFrom c κ))) e
+plan-by-check c κ k e = ap (λ (check : Check). verdict check (after k (planFrom c κ))) e
 
-pub step-by-row : (p : Plan) {row : Row} → firstOf (stepChecks p) ≡ row → step p ≡ verdict row (advance p)
+pub step-by-check : (p : Plan) {check : Check} → firstOf (stepChecks p) ≡ check → step p ≡ verdict check (advance p)
 unfolding step
-step-by-row p e = ap (λ (row : Row). verdict row (advance p)) e
+step-by-check p e = ap (λ (check : Check). verdict check (advance p)) e
 
 -- no step of a start that is granted refuses within 32 rounds
 pub start-step-granted : (c : Settings) (κ k : ℕ) → firstOf (planChecks c κ 0) ≡ none → k < 32
     → step (after k (planFrom c κ)) ≡ granted (after (suc k) (planFrom c κ))
 unfolding after
-start-step-granted c κ k e l = step-by-row (after k (planFrom c κ)) (start-step-passes c κ k e l)
+start-step-granted c κ k e l = step-by-check (after k (planFrom c κ)) (start-step-passes c κ k e l)
 
 -- what a call gives tells which
-pub plan-granted-row : (c : Settings) (κ k : ℕ) {p : Plan} → granted p ≡ plan c κ k
+pub plan-granted-check : (c : Settings) (κ k : ℕ) {p : Plan} → granted p ≡ plan c κ k
     → (firstOf (planChecks c κ k) ≡ none) × (p ≡ after k (planFrom c κ))
 unfolding plan
-plan-granted-row c κ k e = granted-row (after k (planFrom c κ)) (firstOf (planChecks c κ k)) e
+plan-granted-check c κ k e = granted-check (after k (planFrom c κ)) (firstOf (planChecks c κ k)) e
 
-pub plan-refused-row : (c : Settings) (κ k : ℕ) {r : Refusal} → refused r ≡ plan c κ k
+pub plan-refused-check : (c : Settings) (κ k : ℕ) {r : Refusal} → refused r ≡ plan c κ k
     → firstOf (planChecks c κ k) ≡ some r
 unfolding plan
-plan-refused-row c κ k e = refused-row (after k (planFrom c κ)) (firstOf (planChecks c κ k)) e
+plan-refused-check c κ k e = refused-check (after k (planFrom c κ)) (firstOf (planChecks c κ k)) e
 
 -- ---- going k rounds at once is k steps
 
@@ -73,11 +73,11 @@ pub plan-suc : (c : Settings) (κ k : ℕ) → k < 32 → plan c κ (suc k) ≡ 
 unfolding after
 plan-suc c κ k l = go (firstOf (planChecks c κ 0)) refl
   where
-    at : (j : ℕ) {row : Row} → j ≤ 32 → firstOf (planChecks c κ 0) ≡ row
-        → plan c κ j ≡ verdict row (after j (planFrom c κ))
-    at j h e = plan-by-row c κ j (ap firstOf (plan-checks-rounds c κ j h) ∙ e)
+    at : (j : ℕ) {check : Check} → j ≤ 32 → firstOf (planChecks c κ 0) ≡ check
+        → plan c κ j ≡ verdict check (after j (planFrom c κ))
+    at j h e = plan-by-check c κ j (ap firstOf (plan-checks-rounds c κ j h) ∙ e)
 
-    go : (row : Row) → firstOf (planChecks c κ 0) ≡ row → plan c κ (suc k) ≡ thenStep (plan c κ k)
+    go : (check : Check) → firstOf (planChecks c κ 0) ≡ check → plan c κ (suc k) ≡ thenStep (plan c κ k)
     go none e =
         at (suc k) l e
         ∙ sym (start-step-granted c κ k e l)

@@ -12,9 +12,9 @@ use native.Mathlib.Nat.{le-trans}
 use Rattle.model.specs.declared.Settings.{Settings}
 use Rattle.model.specs.declared.Refusal.{Refusal}
 use Rattle.model.specs.Planner.{planFrom, windowAfter}
-use Rattle.model.specs.Refusals.{Row, orNext, refusal, firstOf, settingsChecks, planChecks, targetChecks, targetMissed}
+use Rattle.model.specs.Refusals.{Check, orNext, refusal, firstOf, settingsChecks, planChecks, targetChecks, targetMissed}
 use Rattle.model.specs.Calls.{granted, refused, Target}
-use Rattle.refusals.proofs.Rows.{first-snoc}
+use Rattle.refusals.proofs.Checks.{first-snoc}
 use Rattle.planning.proofs.Checks.{none-may-start}
 use Rattle.planning.proofs.Windows.{window-after-mono}
 
@@ -23,29 +23,29 @@ or-none true = refl
 or-none false = refl
 
 module _ (c : Settings) (κ target : ℕ) where
-  -- the rows of a start for 0 rounds, and then row 12
+  -- the checks of a start for 0 rounds, and then check 12
   pub target-checks : planChecks c κ 0 ++ (targetMissed (windowAfter 32 c κ) target ∷ []) ≡ targetChecks c κ target
   unfolding planChecks targetChecks
   target-checks = append-assoc (settingsChecks c) _ _ ∙ (rw (or-none (ltb 1000000000 κ)))
 
-  by-row : {row : Row} → firstOf (planChecks c κ 0) ≡ row
-      → firstOf (targetChecks c κ target) ≡ orNext row (targetMissed (windowAfter 32 c κ) target)
-  by-row e =
+  by-check : {check : Check} → firstOf (planChecks c κ 0) ≡ check
+      → firstOf (targetChecks c κ target) ≡ orNext check (targetMissed (windowAfter 32 c κ) target)
+  by-check e =
       ap firstOf (sym target-checks)
       ∙ first-snoc (planChecks c κ 0) _
-      ∙ ap (λ (row : Row). orNext row (targetMissed (windowAfter 32 c κ) target)) e
+      ∙ ap (λ (check : Check). orNext check (targetMissed (windowAfter 32 c κ) target)) e
 
   pub start-refuses-target : {r : Refusal} → firstOf (planChecks c κ 0) ≡ some r → Target c κ target (refused r)
-  start-refuses-target e = by-row e
+  start-refuses-target e = by-check e
 
   module _ (e : firstOf (planChecks c κ 0) ≡ none) where
     pub target-missed : target < windowAfter 32 c κ → Target c κ target (refused (refusal 12 0))
     unfolding targetMissed
-    target-missed l = by-row e ∙ (rw (lt-ltb target (windowAfter 32 c κ) l))
+    target-missed l = by-check e ∙ (rw (lt-ltb target (windowAfter 32 c κ) l))
 
     pub target-reached : (k : ℕ) → k ≤ 32 → windowAfter k c κ ≤ target → Target c κ target (granted k)
     unfolding targetMissed
     target-reached k l h =
         let s = none-may-start c κ 0 e in
         let last = le-trans (window-after-mono k 32 (planFrom c κ) (s .passes) l) h in
-        (by-row e ∙ (rw (le-ltb target (windowAfter 32 c κ) last)), record { most = l; fits = h })
+        (by-check e ∙ (rw (le-ltb target (windowAfter 32 c κ) last)), record { most = l; fits = h })

@@ -12,7 +12,7 @@ use Rattle.arithmetic.proofs.Bools.{or-left, or-right}
 use Rattle.model.specs.declared.Settings.{Settings}
 use Rattle.model.specs.RoundSheet.{entryCount}
 use Rattle.model.specs.Refusals.{firstOf, settingsChecks, badCabinets, badFaults, badMethod, badWindow}
-use Rattle.refusals.proofs.Rows.{none-at, when-none}
+use Rattle.refusals.proofs.Checks.{none-at, when-none}
 
 -- settings within document 01's limits
 pub record Limits (c : Settings) : Type 0 where

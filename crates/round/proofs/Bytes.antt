@@ -11,11 +11,11 @@ use Rattle.arithmetic.specs.Writing.{table, overwrite}
 use Rattle.arithmetic.specs.Naturals.{down}
 use Rattle.arithmetic.proofs.Writing.{overwrite-nil, overwrite-snoc, length-table}
 use Rattle.model.specs.RoundSheet.{bytes4, readingBytes}
-use Rattle.model.specs.AnswerSheet.{answerHeader, answerBytes}
+use Rattle.model.specs.AnswerSheet.{headerBytes, answerHeader, answerBytes}
 use Rattle.sheets.specs.Storing.{putWord}
 use Rattle.sheets.proofs.Readings.{length-bytes4}
 use Rattle.sheets.proofs.Storing.{put-word-next, tail-written}
-use Rattle.round.specs.Rounds.{headerBytes, markIn, usedIn, roundIn}
+use Rattle.round.specs.Rounds.{markIn, usedIn, roundIn}
 
 pub length-header : (n count e v : ℕ) → length (headerBytes n count e v) ≡ 10
 unfolding bytes4

@@ -32,11 +32,11 @@ use mathlib.Core.Option.{none}
 use Rattle.arithmetic.proofs.Bools.{and-intro}
 use Rattle.model.specs.Refusals.{refusal, firstOf, sheetChecks, tooManyFaults}
 use Rattle.model.specs.AnswerSheet.{answerBytes}
-use Rattle.model.specs.Calls.{granted, refused}
+use Rattle.model.specs.Calls.{granted, refused, settleAfter}
 use Rattle.refusals.proofs.Limits.{Limits, limits}
 use Rattle.sheets.proofs.Checks.{settings-passed, sheet-length-passed}
 use Rattle.reception.specs.Standing.{Received, fitting, Filled}
-use Rattle.round.specs.Rounds.{markIn, usedIn, roundIn, settledAfter}
+use Rattle.round.specs.Rounds.{markIn, usedIn, roundIn}
 
 -- the mark by what is kept of a reading
 mark-kept : (b : Bool) (v : ℕ) → (b ≡ true → ltb v 4294967296 ≡ true) → _≡_ {A = ℕ} (cond (ltb (keptValue b v) 4294967296) 1 (cond (ltb 4294967296 (keptValue b v)) 2 0)) (cond (ltb v 4294967296) (cond b 1 2) 0)
@@ -163,7 +163,7 @@ module _ (s : List ℕ) (pass : firstOf (sheetChecks s) ≡ none) where
             apart : (k : ℕ) → Prim.Native.Nat.suc k ≡ 0 → ⊥
             apart k q = omega arith
 
-    pub none-settled : (old : List ℕ) → a .count ≡ 0 → record { verdict = refused (refusal 10 0); buffer = old } ≡ settledAfter s old
+    pub none-settled : (old : List ℕ) → a .count ≡ 0 → record { verdict = refused (refusal 10 0); buffer = old } ≡ settleAfter (tooManyFaults (roundAt s .count)) s old
     unfolding tooManyFaults
     none-settled old z = rw (eq-eqb (roundAt s .count) 0 (count-none z))
 
@@ -176,7 +176,7 @@ module _ (s : List ℕ) (pass : firstOf (sheetChecks s) ≡ none) where
         positive : (k : ℕ) → (k ≡ 0 → ⊥) → 0 < k
         positive k f = pos-of-ne-zero f
 
-    pub some-settled : (old : List ℕ) → (a .count ≡ 0 → ⊥) → record { verdict = granted (10 + 5 * settingsAt s .n); buffer = overwrite (answerBytes (length kept) (roundIn (a .count) (a .estimate) (a .value) kept)) old } ≡ settledAfter s old
+    pub some-settled : (old : List ℕ) → (a .count ≡ 0 → ⊥) → record { verdict = granted (10 + 5 * settingsAt s .n); buffer = overwrite (answerBytes (length kept) (roundIn (a .count) (a .estimate) (a .value) kept)) old } ≡ settleAfter (tooManyFaults (roundAt s .count)) s old
     unfolding tooManyFaults
     some-settled old d =
         rw (ne-eqb (roundAt s .count) 0 (λ z. d (ap (λ (x : Estimated). x .count) (agreed-some (count-some d)) ∙ counted-here ∙ z)), kept-long-here d)
@@ -187,10 +187,10 @@ module _ (s : List ℕ) (c : Settings) (e : c ≡ settingsAt s) (pass : firstOf 
   moved : Settles s (settingsAt s) values₀ values kept filled a
   moved = subst (λ (d : Settings). Settles s d values₀ values kept filled a) e h
 
-  pub refuses : (old : List ℕ) → a .count ≡ 0 → record { verdict = refused (refusal 10 0); buffer = old } ≡ settledAfter s old
+  pub refuses : (old : List ℕ) → a .count ≡ 0 → record { verdict = refused (refusal 10 0); buffer = old } ≡ settleAfter (tooManyFaults (roundAt s .count)) s old
   refuses = none-settled s pass values₀ values kept filled a moved
 
-  pub settles : (old : List ℕ) → (a .count ≡ 0 → ⊥) → record { verdict = granted (10 + 5 * c .n); buffer = overwrite (answerBytes (length kept) (roundIn (a .count) (a .estimate) (a .value) kept)) old } ≡ settledAfter s old
+  pub settles : (old : List ℕ) → (a .count ≡ 0 → ⊥) → record { verdict = granted (10 + 5 * c .n); buffer = overwrite (answerBytes (length kept) (roundIn (a .count) (a .estimate) (a .value) kept)) old } ≡ settleAfter (tooManyFaults (roundAt s .count)) s old
   settles old d = rw e (some-settled s pass values₀ values kept filled a moved old d)
 
   -- the size that writing the answer asks for

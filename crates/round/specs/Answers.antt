@@ -6,10 +6,10 @@ use Rattle.round.specs.declared.Settled.{Settled}
 use Rattle.round.specs.declared.Settled.the-variants.{Granted, Refused}
 
 -- the answer sheet's length, or the first refusal
-abbrev pub verdictOf : Settled → Verdict ℕ
-verdictOf (Granted size) = granted size
-verdictOf (Refused r) = refused r
+abbrev pub settledOf : Settled → Verdict ℕ
+settledOf (Granted size) = granted size
+settledOf (Refused r) = refused r
 
 -- the answer, with the buffer as it is left
-abbrev pub settledAs : Settled → List ℕ → Outcome
-settledAs r buffer = record { verdict = verdictOf r; buffer = buffer }
+abbrev pub settlingOf : Settled → List ℕ → Outcome
+settlingOf r buffer = record { verdict = settledOf r; buffer = buffer }

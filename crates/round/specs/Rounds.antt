@@ -3,16 +3,12 @@
 --   markIn, usedIn    the mark of a cabinet, and the value used for it
 --   roundIn           the round
 use mathlib.Core.Bool.{cond}
-use mathlib.Core.List.{List, [], _∷_, _++_}
+use mathlib.Core.List.{List}
 use Prim.Native.Nat.{ℕ}
 use lib.Dec.{ltb}
 use lib.IntN.{ℤ}
 use Rattle.arithmetic.specs.Naturals.{down}
-use Rattle.model.specs.RoundSheet.{bytes4, settingsAt}
-use Rattle.model.specs.AnswerSheet.{answerLength, answerBytes}
-use Rattle.model.specs.Refusals.{tooManyFaults}
-use Rattle.model.specs.Calls.{Outcome, writtenAfter}
-use Rattle.model.specs.Steps.{Round, roundAt}
+use Rattle.model.specs.Steps.{Round}
 use Rattle.estimates.specs.Values.{valueAt, presentAt}
 
 -- "0 missing or known faulty, 1 accepted, 2 present and not accepted"
@@ -31,12 +27,3 @@ roundIn count e v kept =
       mark = markIn kept;
       used = usedIn kept e;
     }
-
--- bytes 0 to 9, from bits
-abbrev pub headerBytes : ℕ → ℕ → ℕ → ℕ → List ℕ
-headerBytes n count estimate value = (n ∷ count ∷ []) ++ (bytes4 estimate ++ bytes4 value)
-
--- what settling gives for a sheet that passes checks 1 to 9: refusal 10, or the answer sheet
-abbrev pub settledAfter : List ℕ → List ℕ → Outcome
-settledAfter s old =
-    writtenAfter (tooManyFaults (roundAt s .count)) (answerLength (settingsAt s .n)) (answerBytes (settingsAt s .n) (roundAt s)) old

@@ -10,11 +10,12 @@ ghost use mir.Val.{ofZ};
 ghost use Rattle.arithmetic.specs.Writing.{table, overwrite};
 ghost use Rattle.arithmetic.specs.Naturals.{down};
 ghost use Rattle.model.specs.RoundSheet.{readingBytes, settingsAt};
-ghost use Rattle.model.specs.AnswerSheet.{answerBytes};
-ghost use Rattle.model.specs.Refusals.{firstOf, sheetChecks};
-ghost use Rattle.model.specs.Calls.{settle};
-ghost use Rattle.round.specs.Answers.{settledAs};
-ghost use Rattle.round.specs.Rounds.{markIn, usedIn, roundIn, headerBytes, settledAfter};
+ghost use Rattle.model.specs.AnswerSheet.{headerBytes, answerBytes};
+ghost use Rattle.model.specs.Refusals.{firstOf, sheetChecks, tooManyFaults};
+ghost use Rattle.model.specs.Calls.{settleAfter, settle};
+ghost use Rattle.model.specs.Steps.{roundAt};
+ghost use Rattle.round.specs.Answers.{settlingOf};
+ghost use Rattle.round.specs.Rounds.{markIn, usedIn, roundIn};
 use ensemble::Screened;
 use estimates::Estimated;
 use estimates::LIMIT;
@@ -112,7 +113,9 @@ fn put_answer(settled: Estimated, kept: &[u64], answer: &mut [u8])
 fn settle_in(sheet: &[u8], settings: Settings, values: &mut [u64], answer: &mut [u8]) -> Settled
     requires { ⌜ (firstOf (sheetChecks (now sheet)) ≡ none) × (settings ≡ settingsAt (now sheet)) × (10 + 5 * settings .n ≤ length (now answer)) ⌝ }
     requires { ⌜ length (now values) ≡ settings .n ⌝ }
-    ensures { λ r. ⌜ settledAs r (now (answer .exit)) ≡ settledAfter (now (sheet .entry)) (now (answer .entry)) ⌝ }
+    ensures { λ r.
+        ⌜ settlingOf r (now (answer .exit))
+        ≡ settleAfter (tooManyFaults (roundAt (now (sheet .entry)) .count)) (now (sheet .entry)) (now (answer .entry)) ⌝ }
 {
     reception::receive(sheet, settings, &mut *values);
     let need = settings.n - settings.m;
@@ -135,7 +138,9 @@ fn settle_in(sheet: &[u8], settings: Settings, values: &mut [u64], answer: &mut 
 // Settles a sheet that passes checks 1 to 9.
 fn settle_valid(sheet: &[u8], settings: Settings, answer: &mut [u8]) -> Settled
     requires { ⌜ (firstOf (sheetChecks (now sheet)) ≡ none) × (settings ≡ settingsAt (now sheet)) × (10 + 5 * settings .n ≤ length (now answer)) ⌝ }
-    ensures { λ r. ⌜ settledAs r (now (answer .exit)) ≡ settledAfter (now (sheet .entry)) (now (answer .entry)) ⌝ }
+    ensures { λ r.
+        ⌜ settlingOf r (now (answer .exit))
+        ≡ settleAfter (tooManyFaults (roundAt (now (sheet .entry)) .count)) (now (sheet .entry)) (now (answer .entry)) ⌝ }
 {
     let n = settings.n as usize;
     let mut values = [LIMIT; 64];
@@ -144,7 +149,7 @@ fn settle_valid(sheet: &[u8], settings: Settings, answer: &mut [u8]) -> Settled
 
 // Settles a round sheet: the answer sheet in the lent buffer, or the first refusal of checks 1 to 10, which changes nothing.
 pub fn settle(sheet: &[u8], answer: &mut [u8]) -> Settled
-    ensures { λ r. ⌜ settledAs r (now (answer .exit)) ≡ settle (now (sheet .entry)) (now (answer .entry)) ⌝ }
+    ensures { λ r. ⌜ settlingOf r (now (answer .exit)) ≡ settle (now (sheet .entry)) (now (answer .entry)) ⌝ }
 {
     match inspection::inspect(sheet) {
         Opened::Refused(r) => Settled::Refused(r),

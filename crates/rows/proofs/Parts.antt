@@ -10,7 +10,7 @@ use borrow.Author.Tests.{lt-ltb, le-ltb, ltb-true, ltb-false, le-leb, lt-leb}
 use lib.Dec.{eqb, ltb, leb}
 use lib.ListN.{length, take, drop}
 use Rattle.model.specs.declared.Settings.{Settings}
-use Rattle.model.specs.RoundSheet.{cca, entryCount, rowEntries, rowPart}
+use Rattle.model.specs.RoundSheet.{cca, rowEntries, rowStart, rowLength, rowPart}
 use Rattle.model.specs.Calls.{row}
 use Rattle.sheets.proofs.Inspection.{Validated}
 use Rattle.sheets.proofs.Shown.{row-within, row-part, row-empty}
@@ -38,7 +38,7 @@ module _ (s : List ℕ) (c : Settings) (r : ℕ) where
     unfolding partAt
     past-end h = rw (lt-ltb r (c .n) here, lt-leb (rowEnd c r) (length s) h)
 
-    pub row-lies : rowEnd c r ≤ length s → take (4 * rowEntries c) (drop (8 + entryCount c + 4 * (r * rowEntries c)) s) ≡ partAt s c r
+    pub row-lies : rowEnd c r ≤ length s → take (rowLength c) (drop (rowStart c r) s) ≡ partAt s c r
     unfolding partAt rowPart
     row-lies h = rw (lt-ltb r (c .n) here, le-leb (rowEnd c r) (length s) h)
 

@@ -4,8 +4,8 @@ use Prim.Native.Nat.{ℕ}
 use lib.IntN.{ℤ}
 use Rattle.model.specs.Calls.{Read}
 use Rattle.inspection.specs.declared.Opened.{Opened}
-use Rattle.inspection.specs.Answers.{openedAs}
+use Rattle.inspection.specs.Answers.{openedOf}
 
 -- the reader's answer, with the two lent arrays as it leaves them
-abbrev pub readAs : Opened → List ℕ → List ℤ → Read
-readAs r marks readings = record { verdict = openedAs r; marks = marks; readings = readings }
+abbrev pub readOf : Opened → List ℕ → List ℤ → Read
+readOf r marks readings = record { verdict = openedOf r; marks = marks; readings = readings }

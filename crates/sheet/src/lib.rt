@@ -6,10 +6,10 @@ ghost use mir.Syntax.{w32};
 ghost use mir.Val.{toZ};
 ghost use Rattle.arithmetic.specs.Writing.{table, overwrite};
 ghost use Rattle.model.specs.RoundSheet.{settingsAt, bitsAt};
+ghost use Rattle.model.specs.Refusals.{firstOf, readChecks};
 ghost use Rattle.model.specs.Calls.{verdict, row, read};
-ghost use Rattle.sheets.specs.Entries.{readRows};
-ghost use Rattle.inspection.specs.Answers.{openedAs};
-ghost use Rattle.sheet.specs.Answers.{readAs};
+ghost use Rattle.inspection.specs.Answers.{openedOf};
+ghost use Rattle.sheet.specs.Answers.{readOf};
 use ensemble::Screened;
 use ensemble::Tick;
 use inspection::Opened;
@@ -47,8 +47,8 @@ fn decode(sheet: &[u8], entries: usize, readings: &mut [i32])
 // Checks 1 to 9 of the reader, lent arrays of these lengths.
 fn open(sheet: &[u8], marks: usize, readings: usize) -> Opened
     ensures { λ r.
-        ⌜ openedAs r
-        ≡ verdict (readRows (now (sheet .entry)) marks readings) (settingsAt (now (sheet .entry))) ⌝ }
+        ⌜ openedOf r
+        ≡ verdict (firstOf (readChecks (now (sheet .entry)) marks readings)) (settingsAt (now (sheet .entry))) ⌝ }
 {
     match inspection::inspect(sheet) {
         Opened::Refused(r) => Opened::Refused(r),
@@ -78,7 +78,7 @@ fn open(sheet: &[u8], marks: usize, readings: usize) -> Opened
 // of checks 1 to 9, which fills nothing.
 pub fn read(sheet: &[u8], marks: &mut [u8], readings: &mut [i32]) -> Opened
     ensures { λ r.
-        ⌜ readAs r (now (marks .exit)) (now (readings .exit))
+        ⌜ readOf r (now (marks .exit)) (now (readings .exit))
         ≡ read (now (sheet .entry)) (now (marks .entry)) (now (readings .entry)) ⌝ }
 {
     match open(sheet, marks.len(), readings.len()) {

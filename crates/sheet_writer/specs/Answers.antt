@@ -6,10 +6,10 @@ use Rattle.sheet_writer.specs.declared.Filled.{Filled}
 use Rattle.sheet_writer.specs.declared.Filled.the-variants.{Granted, Refused}
 
 -- the length of the sheet written, or the first refusal
-abbrev pub filledAs : Filled → Verdict ℕ
-filledAs (Granted size) = granted size
-filledAs (Refused r) = refused r
+abbrev pub filledOf : Filled → Verdict ℕ
+filledOf (Granted size) = granted size
+filledOf (Refused r) = refused r
 
 -- the writer's answer, with the buffer as it leaves it
-abbrev pub writtenAs : Filled → List ℕ → Outcome
-writtenAs r buffer = record { verdict = filledAs r; buffer = buffer }
+abbrev pub writtenOf : Filled → List ℕ → Outcome
+writtenOf r buffer = record { verdict = filledOf r; buffer = buffer }

@@ -2,18 +2,17 @@
 ghost use mathlib.Core.List.{_++_};
 ghost use mathlib.Core.Path.{_≡_};
 ghost use Prim.Native.Nat.{_+_, _*_, _≤_};
-ghost use lib.IntN.{pos};
-ghost use lib.ListN.{length, getD};
+ghost use lib.ListN.{length};
 ghost use mir.Syntax.{w32};
 ghost use mir.Val.{ofZ};
 ghost use Rattle.arithmetic.specs.Counting.{lowest};
 ghost use Rattle.arithmetic.specs.Writing.{overwrite};
-ghost use Rattle.ensemble.specs.Answers.{rowOf};
-ghost use Rattle.model.specs.RoundSheet.{byte, readingBytes, sizeBytes};
+ghost use Rattle.ensemble.specs.Answers.{checkOf};
+ghost use Rattle.model.specs.RoundSheet.{byte, bitsIn, readingBytes, sizeBytes};
+ghost use Rattle.model.specs.Refusals.{firstOf, notZero, arrayChecks, writeChecks};
 ghost use Rattle.model.specs.Calls.{write};
-ghost use Rattle.entries.specs.Answers.{foundAs};
-ghost use Rattle.sheets.specs.Entries.{notZero, arrayRows, writeRows};
-ghost use Rattle.sheet_writer.specs.Answers.{writtenAs};
+ghost use Rattle.entries.specs.Answers.{foundOf};
+ghost use Rattle.sheet_writer.specs.Answers.{writtenOf};
 use ensemble::Screened;
 use ensemble::Tick;
 use entries::Found;
@@ -37,8 +36,8 @@ fn not_zero(mark: u8, reading: i32) -> bool
 fn bad_missing(marks: &[u8], readings: &[i32]) -> Found
     requires { ⌜ length (now readings) ≡ length (now marks) ⌝ }
     ensures { λ r.
-        ⌜ foundAs r
-        ≡ lowest (λ e. notZero (byte (now (marks .entry)) e) (ofZ w32 (getD (now (readings .entry)) e (pos 0))))
+        ⌜ foundOf r
+        ≡ lowest (λ e. notZero (byte (now (marks .entry)) e) (bitsIn (now (readings .entry)) e))
         (length (now (marks .entry))) ⌝ }
 {
     let mut e: usize = 0;
@@ -54,7 +53,9 @@ fn bad_missing(marks: &[u8], readings: &[i32]) -> Found
 // Checks 8 and 9 of as many marks as readings.
 fn check_arrays(marks: &[u8], readings: &[i32]) -> Screened
     requires { ⌜ (length (now readings) ≡ length (now marks)) × (length (now marks) ≤ 4096) ⌝ }
-    ensures { λ r. ⌜ rowOf r ≡ arrayRows (now (marks .entry)) (now (readings .entry)) (length (now (marks .entry))) ⌝ }
+    ensures { λ r.
+        ⌜ checkOf r
+        ≡ firstOf (arrayChecks (byte (now (marks .entry))) (bitsIn (now (readings .entry))) (length (now (marks .entry)))) ⌝ }
 {
     match entries::bad_mark(marks) {
         Found::At(e) => Screened::Refused(Refusal {
@@ -75,7 +76,7 @@ fn check_arrays(marks: &[u8], readings: &[i32]) -> Screened
 
 // Checks 2 to 9 of the writer, lent a buffer of that length.
 fn check(settings: Settings, marks: &[u8], readings: &[i32], room: usize) -> Screened
-    ensures { λ r. ⌜ rowOf r ≡ writeRows settings (now (marks .entry)) (now (readings .entry)) room ⌝ }
+    ensures { λ r. ⌜ checkOf r ≡ firstOf (writeChecks settings (now (marks .entry)) (now (readings .entry)) room) ⌝ }
 {
     match ensemble::screen(settings) {
         Screened::Refused(r) => Screened::Refused(r),
@@ -144,7 +145,7 @@ fn put_entries(marks: &[u8], readings: &[i32], buffer: &mut [u8])
 // length, or the first refusal of checks 2 to 9, which fills nothing.
 pub fn write(settings: Settings, marks: &[u8], readings: &[i32], buffer: &mut [u8]) -> Filled
     ensures { λ r.
-        ⌜ writtenAs r (now (buffer .exit))
+        ⌜ writtenOf r (now (buffer .exit))
         ≡ write settings (now (marks .entry)) (now (readings .entry)) (now (buffer .entry)) ⌝ }
 {
     match check(settings, marks, readings, buffer.len()) {

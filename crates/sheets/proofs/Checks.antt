@@ -13,7 +13,7 @@ use Rattle.arithmetic.specs.Counting.{lowest}
 use Rattle.arithmetic.proofs.Counting.{lowest-none, lowest-missed}
 use Rattle.model.specs.RoundSheet.{settingsAt, entryCount, sheetLength, markAt, bitsAt}
 use Rattle.model.specs.Refusals.{firstOf, settingsChecks, sheetChecks, entryChecks, tooShort, badLength, noRoom, badMark, badMissing}
-use Rattle.refusals.proofs.Rows.{first-append, next-none-right, none-at, none-left, when-none, entry-none}
+use Rattle.refusals.proofs.Checks.{first-append, next-none-right, none-at, none-left, when-none, entry-none}
 
 -- ---- 6: a length
 

@@ -14,68 +14,67 @@ use Rattle.arithmetic.specs.Counting.{lowest}
 use Rattle.arithmetic.specs.Writing.{overwrite}
 use Rattle.model.specs.declared.Settings.{Settings}
 use Rattle.model.specs.declared.Refusal.{Refusal}
-use Rattle.model.specs.RoundSheet.{byte, entryCount, sheetLength, readingBytes, sizeBytes, sheetBytes}
-use Rattle.model.specs.Refusals.{refusal, orNext, firstOf, settingsChecks, badLength, noRoom, badMark, badMissing}
+use Rattle.model.specs.RoundSheet.{byte, bitsIn, entryCount, sheetLength, readingBytes, sizeBytes, sheetBytes}
+use Rattle.model.specs.Refusals.{refusal, orNext, firstOf, settingsChecks, arrayChecks, writeChecks, badLength, noRoom, badMark, badMissing}
 use Rattle.model.specs.Calls.{granted, write, Outcome}
-use Rattle.sheets.specs.Entries.{notZero, arrayRows, writeRows}
-use Rattle.refusals.proofs.Rows.{next-none-left, next-none-right}
+use Rattle.model.specs.Refusals.{notZero}
+use Rattle.refusals.proofs.Checks.{next-none-left, next-none-right}
 use Rattle.refusals.proofs.Limits.{limits, entries-most}
 use Rattle.sheets.proofs.Checks.{length-pass, length-passed, room-pass, room-passed}
-use Rattle.sheets.proofs.Outcomes.{write-rows, write-grants}
+use Rattle.sheets.proofs.Outcomes.{write-grants}
+use Rattle.sheets.proofs.Orders.{write-checks}
 
 -- ---- checks 8 and 9, by what the searches find
 
 module _ (marks : List ℕ) (readings : List ℤ) (E : ℕ) where
   pub array-mark-refused :
-      (e : ℕ) → lowest (λ i. ltb 1 (byte marks i)) E ≡ some e → some (refusal 8 e) ≡ arrayRows marks readings E
-  unfolding arrayRows badMark
+      (e : ℕ) → lowest (λ i. ltb 1 (byte marks i)) E ≡ some e → some (refusal 8 e) ≡ firstOf (arrayChecks (byte marks) (bitsIn readings) E)
+  unfolding firstOf badMark
   array-mark-refused e h = rw h
 
   module _ (none-bad : lowest (λ i. ltb 1 (byte marks i)) E ≡ none) where
     pub array-missing-refused :
-        (e : ℕ) → lowest (λ i. notZero (byte marks i) (ofZ w32 (getD readings i (pos 0)))) E ≡ some e
-        → some (refusal 9 e) ≡ arrayRows marks readings E
-    unfolding arrayRows badMark badMissing
+        (e : ℕ) → lowest (λ i. notZero (byte marks i) (bitsIn readings i)) E ≡ some e
+        → some (refusal 9 e) ≡ firstOf (arrayChecks (byte marks) (bitsIn readings) E)
+    unfolding firstOf badMark badMissing
     array-missing-refused e h = rw (none-bad, h)
 
     pub arrays-pass :
-        lowest (λ i. notZero (byte marks i) (ofZ w32 (getD readings i (pos 0)))) E ≡ none
-        → none ≡ arrayRows marks readings E
-    unfolding arrayRows badMark badMissing
+        lowest (λ i. notZero (byte marks i) (bitsIn readings i)) E ≡ none
+        → none ≡ firstOf (arrayChecks (byte marks) (bitsIn readings) E)
+    unfolding firstOf badMark badMissing
     arrays-pass h = rw (none-bad, h)
 
 -- ---- checks 2 to 9
 
 module _ (c : Settings) (marks : List ℕ) (readings : List ℤ) (room : ℕ) where
-  pub writing-refused : (r : Refusal) → firstOf (settingsChecks c) ≡ some r → some r ≡ writeRows c marks readings room
-  unfolding writeRows
-  writing-refused r h = rw h
+  pub writing-refused : (r : Refusal) → firstOf (settingsChecks c) ≡ some r → some r ≡ firstOf (writeChecks c marks readings room)
+  writing-refused r h = rw (write-checks c marks readings room, h)
 
   module _ (pass : firstOf (settingsChecks c) ≡ none) (E : ℕ) (same : E ≡ entryCount c) where
-    rows-after-settings :
-        writeRows c marks readings room ≡ orNext (badLength (length marks) E)
-        (orNext (badLength (length readings) E) (orNext (noRoom room (8 + 5 * E)) (arrayRows marks readings E)))
-    unfolding writeRows
-    rows-after-settings = rw (pass, same)
+    checks-after-settings :
+        firstOf (writeChecks c marks readings room) ≡ orNext (badLength (length marks) E)
+        (orNext (badLength (length readings) E) (orNext (noRoom room (8 + 5 * E)) (firstOf (arrayChecks (byte marks) (bitsIn readings) E))))
+    checks-after-settings = rw (write-checks c marks readings room, pass, same)
 
-    pub marks-length-refused : (length marks ≡ E → ⊥) → some (refusal 6 0) ≡ writeRows c marks readings room
+    pub marks-length-refused : (length marks ≡ E → ⊥) → some (refusal 6 0) ≡ firstOf (writeChecks c marks readings room)
     unfolding badLength
-    marks-length-refused h = rw (rows-after-settings, ne-eqb (length marks) E h)
+    marks-length-refused h = rw (checks-after-settings, ne-eqb (length marks) E h)
 
     module _ (long : length marks ≡ E) where
-      pub readings-length-refused : (length readings ≡ E → ⊥) → some (refusal 6 0) ≡ writeRows c marks readings room
+      pub readings-length-refused : (length readings ≡ E → ⊥) → some (refusal 6 0) ≡ firstOf (writeChecks c marks readings room)
       unfolding badLength
-      readings-length-refused h = rw (rows-after-settings, eq-eqb (length marks) E long, ne-eqb (length readings) E h)
+      readings-length-refused h = rw (checks-after-settings, eq-eqb (length marks) E long, ne-eqb (length readings) E h)
 
       module _ (also : length readings ≡ E) where
-        pub room-refused : room < 8 + 5 * E → some (refusal 7 0) ≡ writeRows c marks readings room
+        pub room-refused : room < 8 + 5 * E → some (refusal 7 0) ≡ firstOf (writeChecks c marks readings room)
         unfolding noRoom
         room-refused h =
-            rw (rows-after-settings, length-pass (length marks) E long, length-pass (length readings) E also, lt-ltb room (8 + 5 * E) h)
+            rw (checks-after-settings, length-pass (length marks) E long, length-pass (length readings) E also, lt-ltb room (8 + 5 * E) h)
 
-        pub arrays-decide : 8 + 5 * E ≤ room → arrayRows marks readings (length marks) ≡ writeRows c marks readings room
+        pub arrays-decide : 8 + 5 * E ≤ room → firstOf (arrayChecks (byte marks) (bitsIn readings) (length marks)) ≡ firstOf (writeChecks c marks readings room)
         arrays-decide h =
-            rw (rows-after-settings, length-pass (length marks) E long, length-pass (length readings) E also, room-pass room (8 + 5 * E) h, long)
+            rw (checks-after-settings, length-pass (length marks) E long, length-pass (length readings) E also, room-pass room (8 + 5 * E) h, long)
 
   -- what it means that no check refuses
   pub record Writable : Type 0 where
@@ -85,8 +84,7 @@ module _ (c : Settings) (marks : List ℕ) (readings : List ℤ) (room : ℕ) wh
     pub enough : sheetLength c ≤ room
     pub few : entryCount c ≤ 4096
 
-  pub writable : writeRows c marks readings room ≡ none → Writable
-  unfolding writeRows
+  pub writable : firstOf (writeChecks c marks readings room) ≡ none → Writable
   writable h =
       record {
         settings = pass;
@@ -97,30 +95,30 @@ module _ (c : Settings) (marks : List ℕ) (readings : List ℤ) (room : ℕ) wh
       }
     where
       pass : firstOf (settingsChecks c) ≡ none
-      pass = next-none-left (firstOf (settingsChecks c)) _ h
+      pass = next-none-left (firstOf (settingsChecks c)) _ (sym (write-checks c marks readings room) ∙ h)
 
       one :
           orNext (badLength (length marks) (entryCount c)) (orNext (badLength (length readings) (entryCount c))
-          (orNext (noRoom room (sheetLength c)) (arrayRows marks readings (entryCount c)))) ≡ none
-      one = next-none-right (firstOf (settingsChecks c)) _ h
+          (orNext (noRoom room (sheetLength c)) (firstOf (arrayChecks (byte marks) (bitsIn readings) (entryCount c))))) ≡ none
+      one = next-none-right (firstOf (settingsChecks c)) _ (sym (write-checks c marks readings room) ∙ h)
 
       two :
           orNext (badLength (length readings) (entryCount c))
-          (orNext (noRoom room (sheetLength c)) (arrayRows marks readings (entryCount c))) ≡ none
+          (orNext (noRoom room (sheetLength c)) (firstOf (arrayChecks (byte marks) (bitsIn readings) (entryCount c)))) ≡ none
       two = next-none-right (badLength (length marks) (entryCount c)) _ one
 
-      three : orNext (noRoom room (sheetLength c)) (arrayRows marks readings (entryCount c)) ≡ none
+      three : orNext (noRoom room (sheetLength c)) (firstOf (arrayChecks (byte marks) (bitsIn readings) (entryCount c))) ≡ none
       three = next-none-right (badLength (length readings) (entryCount c)) _ two
 
 -- the buffer filled is what the writer leaves
 pub writer-fills :
     (c : Settings) (marks : List ℕ) (readings : List ℤ) (buffer filled : List ℕ)
-    → writeRows c marks readings (length buffer) ≡ none → length marks ≡ entryCount c
+    → firstOf (writeChecks c marks readings (length buffer)) ≡ none → length marks ≡ entryCount c
     → filled ≡ overwrite (sizeBytes c ++ (marks ++ readingBytes readings)) buffer
     → _≡_ {A = Outcome} (record { verdict = granted (8 + 5 * length marks); buffer = filled })
     (write c marks readings buffer)
 unfolding sheetBytes
-writer-fills c marks readings buffer filled rows long f =
+writer-fills c marks readings buffer filled checks long f =
     sym
-    (write-grants c marks readings buffer (write-rows c marks readings buffer ∙ rows)
+    (write-grants c marks readings buffer checks
     ∙ (λ j. record { verdict = granted (8 + 5 * sym long j); buffer = sym f j }))

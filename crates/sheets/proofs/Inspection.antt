@@ -9,9 +9,9 @@ use lib.ListN.{length}
 use Rattle.model.specs.declared.Settings.{Settings}
 use Rattle.model.specs.declared.Refusal.{Refusal}
 use Rattle.model.specs.RoundSheet.{settingsAt, entryCount, sheetLength, markAt, bitsAt}
-use Rattle.model.specs.Refusals.{refusal, orNext, firstOf, settingsChecks, sheetChecks, tooShort, badLength, badMark, badMissing, rowChecks, entryChecks}
+use Rattle.model.specs.Refusals.{refusal, orNext, firstOf, settingsChecks, sheetChecks, tooShort, badLength, arrayChecks, rowChecks, entryChecks}
 use Rattle.model.specs.Calls.{granted, refused, verdict}
-use Rattle.refusals.proofs.Rows.{first-append, next-none, none-left, none-right}
+use Rattle.refusals.proofs.Checks.{first-append, none-left, none-right}
 use Rattle.refusals.proofs.Limits.{Limits, limits, entries-most}
 use Rattle.sheets.proofs.Checks.{settings-passed, sheet-length-passed}
 use Rattle.sheets.proofs.Outcomes.{granted-none, granted-same}
@@ -24,27 +24,27 @@ module _ (s : List ℕ) where
   short-refused h = rw (lt-ltb (length s) 8 h)
 
   module _ (c : Settings) (same : c ≡ settingsAt s) (long : 8 ≤ length s) where
-    rows-after-header :
+    checks-after-header :
         firstOf (sheetChecks s) ≡ orNext (firstOf (settingsChecks c))
         (firstOf (badLength (length s) (sheetLength c) ∷ []))
     unfolding sheetChecks tooShort firstOf
-    rows-after-header =
+    checks-after-header =
         rw (le-ltb (length s) 8 long, same) (first-append (settingsChecks (settingsAt s)) (badLength (length s) (sheetLength (settingsAt s)) ∷ []))
 
     pub settings-refused :
         (r : Refusal) → firstOf (settingsChecks c) ≡ some r
         → refused r ≡ verdict (firstOf (sheetChecks s)) (settingsAt s)
-    settings-refused r h = rw (rows-after-header, h)
+    settings-refused r h = rw (checks-after-header, h)
 
     module _ (pass : firstOf (settingsChecks c) ≡ none) where
       pub length-refused :
           (length s ≡ sheetLength c → ⊥) → refused (refusal 6 0) ≡ verdict (firstOf (sheetChecks s)) (settingsAt s)
       unfolding badLength firstOf
-      length-refused h = rw (rows-after-header, pass, ne-eqb (length s) (sheetLength c) h)
+      length-refused h = rw (checks-after-header, pass, ne-eqb (length s) (sheetLength c) h)
 
       pub inspection-passes : length s ≡ sheetLength c → granted c ≡ verdict (firstOf (sheetChecks s)) (settingsAt s)
       unfolding badLength firstOf
-      inspection-passes h = rw (rows-after-header, pass, eq-eqb (length s) (sheetLength c) h) (ap granted same)
+      inspection-passes h = rw (checks-after-header, pass, eq-eqb (length s) (sheetLength c) h) (ap granted same)
 
 -- what it means that checks 1 to 6 grant settings
 pub record Inspected (s : List ℕ) (c : Settings) : Type 0 where
@@ -82,43 +82,40 @@ module _ (s : List ℕ) where
   first-refused r h = rw (first-append, h)
 
   -- checks 8 and 9 of as many entries as the settings say
-  pub entry-rows :
+  pub entry-checks :
       (E : ℕ) → E ≡ entryCount (settingsAt s)
-      → firstOf (entryChecks s) ≡ orNext (badMark (markAt s) E) (badMissing (markAt s) (bitsAt s E) E)
-  unfolding entryChecks firstOf
-  entry-rows E same =
-      rw same
-      (ap (orNext (badMark (markAt s) (entryCount (settingsAt s))))
-      (next-none (badMissing (markAt s) (bitsAt s (entryCount (settingsAt s))) (entryCount (settingsAt s)))))
+      → firstOf (entryChecks s) ≡ firstOf (arrayChecks (markAt s) (bitsAt s E) E)
+  unfolding entryChecks
+  entry-checks E same = ap (λ (k : ℕ). firstOf (arrayChecks (markAt s) (bitsAt s k) k)) (sym same)
 
   module _ (pass : firstOf (sheetChecks s) ≡ none) where
-    rows-after-sizes : firstOf (rowChecks s) ≡ firstOf (entryChecks s)
+    checks-after-sizes : firstOf (rowChecks s) ≡ firstOf (entryChecks s)
     unfolding rowChecks
-    rows-after-sizes = rw (first-append, pass)
+    checks-after-sizes = rw (first-append, pass)
 
     pub entries-refused :
         (r : Refusal) → firstOf (entryChecks s) ≡ some r → refused r ≡ verdict (firstOf (rowChecks s)) (settingsAt s)
-    entries-refused r h = rw (rows-after-sizes, h)
+    entries-refused r h = rw (checks-after-sizes, h)
 
     pub validation-passes :
         (c : Settings) → c ≡ settingsAt s → firstOf (entryChecks s) ≡ none
         → granted c ≡ verdict (firstOf (rowChecks s)) (settingsAt s)
-    validation-passes c e h = rw (rows-after-sizes, h) (ap granted e)
+    validation-passes c e h = rw (checks-after-sizes, h) (ap granted e)
 
 -- what it means that these checks grant settings
 pub record Validated (s : List ℕ) (c : Settings) : Type 0 where
   pub sizes : Inspected s c
-  pub rows : firstOf (rowChecks s) ≡ none
+  pub checks : firstOf (rowChecks s) ≡ none
   pub entries : firstOf (entryChecks s) ≡ none
 
 pub validated : (s : List ℕ) (c : Settings) → verdict (firstOf (rowChecks s)) (settingsAt s) ≡ granted c → Validated s c
 unfolding rowChecks
 validated s c h =
     record {
-      sizes = inspected s c (rw (none-left (sheetChecks s) (entryChecks s) rows) (ap granted (granted-same (firstOf (rowChecks s)) (settingsAt s) c h)));
-      rows = rows;
-      entries = none-right (sheetChecks s) (entryChecks s) rows;
+      sizes = inspected s c (rw (none-left (sheetChecks s) (entryChecks s) checks) (ap granted (granted-same (firstOf (rowChecks s)) (settingsAt s) c h)));
+      checks = checks;
+      entries = none-right (sheetChecks s) (entryChecks s) checks;
     }
   where
-    rows : firstOf (rowChecks s) ≡ none
-    rows = granted-none (firstOf (rowChecks s)) (settingsAt s) c h
+    checks : firstOf (rowChecks s) ≡ none
+    checks = granted-none (firstOf (rowChecks s)) (settingsAt s) c h

@@ -1,6 +1,7 @@
 pub mod Checks
 pub mod Searching
 pub mod Outcomes
+pub mod Orders
 pub mod Inspection
 pub mod Shown
 pub mod Opening

@@ -14,8 +14,8 @@ use Rattle.arithmetic.specs.Writing.{table}
 use Rattle.arithmetic.proofs.Writing.{length-table, getD-table}
 use Rattle.arithmetic.proofs.Counting.{lowest-ext, lowest-found}
 use Rattle.model.specs.RoundSheet.{byte, word, markAt, bitsAt}
-use Rattle.model.specs.Refusals.{refusal, orNext, badMark, badMissing}
-use Rattle.sheets.specs.Entries.{notZero}
+use Rattle.model.specs.Refusals.{refusal, firstOf, arrayChecks, badMark, badMissing}
+use Rattle.model.specs.Refusals.{notZero}
 use Rattle.sheets.proofs.Words.{word-ext}
 
 -- a number read in what is left of a list
@@ -96,8 +96,8 @@ module _ (s : List ℕ) (E : ℕ) (long : length s ≡ 8 + 5 * E) where
   -- checks 8 and 9, by what the searches find
   pub parts-mark-refused :
       (e : ℕ) → lowest (λ i. ltb 1 (byte (marksPart s E) i)) (length (marksPart s E)) ≡ some e
-      → some (refusal 8 e) ≡ orNext (badMark (markAt s) E) (badMissing (markAt s) (bitsAt s E) E)
-  unfolding badMark
+      → some (refusal 8 e) ≡ firstOf (arrayChecks (markAt s) (bitsAt s E) E)
+  unfolding firstOf badMark
   parts-mark-refused e h = rw (sym search-marks ∙ h)
 
   module _ (none-bad : lowest (λ i. ltb 1 (byte (marksPart s E) i)) (length (marksPart s E)) ≡ none) where
@@ -105,13 +105,13 @@ module _ (s : List ℕ) (E : ℕ) (long : length s ≡ 8 + 5 * E) where
         (e : ℕ)
         → lowest (λ i. notZero (byte (marksPart s E) i) (word (readingsPart s E) (4 * i))) (length (marksPart s E))
         ≡ some e
-        → some (refusal 9 e) ≡ orNext (badMark (markAt s) E) (badMissing (markAt s) (bitsAt s E) E)
-    unfolding badMark badMissing
+        → some (refusal 9 e) ≡ firstOf (arrayChecks (markAt s) (bitsAt s E) E)
+    unfolding firstOf badMark badMissing
     parts-missing-refused e h = rw (sym search-marks ∙ none-bad, sym search-missing ∙ h)
 
     pub parts-pass :
         lowest (λ i. notZero (byte (marksPart s E) i) (word (readingsPart s E) (4 * i))) (length (marksPart s E))
         ≡ none
-        → none ≡ orNext (badMark (markAt s) E) (badMissing (markAt s) (bitsAt s E) E)
-    unfolding badMark badMissing
+        → none ≡ firstOf (arrayChecks (markAt s) (bitsAt s E) E)
+    unfolding firstOf badMark badMissing
     parts-pass h = rw (sym search-marks ∙ none-bad, sym search-missing ∙ h)

@@ -16,9 +16,9 @@ use Rattle.model.specs.declared.Settings.{Settings}
 use Rattle.model.specs.RoundSheet.{byte, settingsAt, entryCount, sheetLength, markAt, bitsAt, sheetBytes}
 use Rattle.model.specs.Refusals.{firstOf, settingsChecks, sheetChecks, entryChecks, readChecks, writeChecks, noRoom}
 use Rattle.model.specs.Calls.{granted, verdict, Read, marksOf, ticksOf, read, Outcome, write}
-use Rattle.sheets.specs.Entries.{readRows, writeRows}
-use Rattle.refusals.proofs.Rows.{first-append, next-none-left, next-none-right, none-at}
-use Rattle.sheets.proofs.Outcomes.{granted-none, granted-same, read-rows, read-grants, write-rows, write-grants}
+use Rattle.refusals.proofs.Checks.{first-append, next-none-left, next-none-right, none-at}
+use Rattle.sheets.proofs.Outcomes.{granted-none, granted-same, read-grants, write-grants}
+use Rattle.sheets.proofs.Orders.{read-checks, write-checks}
 use Rattle.sheets.proofs.Checks.{length-pass, length-passed, room-pass, marks-pass, marks-passed, missing-pass, missing-passed, sheet-length-passed}
 use Rattle.sheets.proofs.Written.{WellFormed, settings-back, length-back, marks-back, readings-back, sheet-passes, entries-pass}
 use Rattle.sheets.proofs.Reread.{sheet-again, sheet-well-formed}
@@ -29,33 +29,29 @@ module _ (s marks : List ℕ) (readings : List ℤ) where
   pub read-passes :
       firstOf (sheetChecks s) ≡ none → entryCount (settingsAt s) ≤ length marks
       → entryCount (settingsAt s) ≤ length readings → firstOf (entryChecks s) ≡ none
-      → firstOf (readChecks s marks readings) ≡ none
-  unfolding readRows
+      → firstOf (readChecks s (length marks) (length readings)) ≡ none
   read-passes a b d e =
-      read-rows s marks readings
+      read-checks s (length marks) (length readings)
       ∙ rw (a, room-pass (length marks) (entryCount (settingsAt s)) b, room-pass (length readings) (entryCount (settingsAt s)) d, e)
 
-  pub read-sheet-passed : firstOf (readChecks s marks readings) ≡ none → firstOf (sheetChecks s) ≡ none
-  unfolding readRows
-  read-sheet-passed h = next-none-left (firstOf (sheetChecks s)) _ (sym (read-rows s marks readings) ∙ h)
+  pub read-sheet-passed : firstOf (readChecks s (length marks) (length readings)) ≡ none → firstOf (sheetChecks s) ≡ none
+  read-sheet-passed h = next-none-left (firstOf (sheetChecks s)) _ (sym (read-checks s (length marks) (length readings)) ∙ h)
 
-  pub read-entries-passed : firstOf (readChecks s marks readings) ≡ none → firstOf (entryChecks s) ≡ none
-  unfolding readRows
+  pub read-entries-passed : firstOf (readChecks s (length marks) (length readings)) ≡ none → firstOf (entryChecks s) ≡ none
   read-entries-passed h =
       next-none-right (noRoom (length readings) (entryCount (settingsAt s))) (firstOf (entryChecks s))
       (next-none-right (noRoom (length marks) (entryCount (settingsAt s))) _
-      (next-none-right (firstOf (sheetChecks s)) _ (sym (read-rows s marks readings) ∙ h)))
+      (next-none-right (firstOf (sheetChecks s)) _ (sym (read-checks s (length marks) (length readings)) ∙ h)))
 
 -- ---- the writer's checks
 
 module _ (c : Settings) (marks : List ℕ) (readings : List ℤ) (buffer : List ℕ) where
-  write-settings-passed : firstOf (writeChecks c marks readings buffer) ≡ none → firstOf (settingsChecks c) ≡ none
-  unfolding writeRows
-  write-settings-passed h = next-none-left (firstOf (settingsChecks c)) _ (sym (write-rows c marks readings buffer) ∙ h)
+  write-settings-passed : firstOf (writeChecks c marks readings (length buffer)) ≡ none → firstOf (settingsChecks c) ≡ none
+  write-settings-passed h = next-none-left (firstOf (settingsChecks c)) _ (sym (write-checks c marks readings (length buffer)) ∙ h)
 
   pub write-passes :
       WellFormed c marks readings → sheetLength c ≤ length buffer
-      → firstOf (writeChecks c marks readings buffer) ≡ none
+      → firstOf (writeChecks c marks readings (length buffer)) ≡ none
   unfolding writeChecks firstOf
   write-passes w room =
       rw (
@@ -70,21 +66,21 @@ module _ (c : Settings) (marks : List ℕ) (readings : List ℤ) (buffer : List 
       )
 
   pub write-passed :
-      firstOf (writeChecks c marks readings buffer) ≡ none
+      firstOf (writeChecks c marks readings (length buffer)) ≡ none
       → ((e : ℕ) → e < entryCount c → SFits w32 (getD readings e (pos 0))) → WellFormed c marks readings
   unfolding writeChecks settingsChecks
   write-passed h fits =
       record {
         settingsPass = write-settings-passed h;
-        marksLong = length-passed (length marks) (entryCount c) (none-at (writeChecks c marks readings buffer) h 4);
-        readingsLong = length-passed (length readings) (entryCount c) (none-at (writeChecks c marks readings buffer) h 5);
-        marksPass = marks-passed (λ e. getD marks e 0) (entryCount c) (none-at (writeChecks c marks readings buffer) h 7);
+        marksLong = length-passed (length marks) (entryCount c) (none-at (writeChecks c marks readings (length buffer)) h 4);
+        readingsLong = length-passed (length readings) (entryCount c) (none-at (writeChecks c marks readings (length buffer)) h 5);
+        marksPass = marks-passed (λ e. getD marks e 0) (entryCount c) (none-at (writeChecks c marks readings (length buffer)) h 7);
         readingsFit = fits;
         missingZero = λ e l m.
             sym (toZ-ofZ (fits e l))
             ∙ ap (toZ w32)
             (missing-passed (λ i. getD marks i 0) (entryCount c) (λ i. ofZ w32 (getD readings i (pos 0)))
-            (none-at (writeChecks c marks readings buffer) h 8) e l m);
+            (none-at (writeChecks c marks readings (length buffer)) h 8) e l m);
       }
 
 -- the writer fills a buffer of just the sheet's length with the sheet
@@ -104,13 +100,13 @@ module _
     (c : Settings) (marks : List ℕ) (readings : List ℤ) (buffer : List ℕ) (size : ℕ)
     (fits : (e : ℕ) → e < entryCount c → SFits w32 (getD readings e (pos 0)))
     (g : write c marks readings buffer .verdict ≡ granted size) where
-  passed : firstOf (writeChecks c marks readings buffer) ≡ none
+  passed : firstOf (writeChecks c marks readings (length buffer)) ≡ none
   unfolding write
-  passed = granted-none (firstOf (writeChecks c marks readings buffer)) (sheetLength c) size g
+  passed = granted-none (firstOf (writeChecks c marks readings (length buffer))) (sheetLength c) size g
 
   same-size : sheetLength c ≡ size
   unfolding write
-  same-size = granted-same (firstOf (writeChecks c marks readings buffer)) (sheetLength c) size g
+  same-size = granted-same (firstOf (writeChecks c marks readings (length buffer))) (sheetLength c) size g
 
   well-formed : WellFormed c marks readings
   well-formed = write-passed c marks readings buffer passed fits
@@ -147,13 +143,13 @@ module _
 module _
     (s : List ℕ) (lentMarks : List ℕ) (lentReadings : List ℤ) (c : Settings) (small : (i : ℕ) → byte s i < 256)
     (g : read s lentMarks lentReadings .verdict ≡ granted c) where
-  read-none : firstOf (readChecks s lentMarks lentReadings) ≡ none
+  read-none : firstOf (readChecks s (length lentMarks) (length lentReadings)) ≡ none
   unfolding read
-  read-none = granted-none (firstOf (readChecks s lentMarks lentReadings)) (settingsAt s) c g
+  read-none = granted-none (firstOf (readChecks s (length lentMarks) (length lentReadings))) (settingsAt s) c g
 
   same-settings : settingsAt s ≡ c
   unfolding read
-  same-settings = granted-same (firstOf (readChecks s lentMarks lentReadings)) (settingsAt s) c g
+  same-settings = granted-same (firstOf (readChecks s (length lentMarks) (length lentReadings))) (settingsAt s) c g
 
   well-formed-back : WellFormed (settingsAt s) (marksOf s) (ticksOf s)
   well-formed-back =

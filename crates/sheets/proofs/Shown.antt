@@ -31,7 +31,7 @@ module _ (s : List ℕ) (c : Settings) (v : Validated s c) (r : ℕ) where
   pub row-part : r < c .n → rowPart s c r ≡ row s r
   row-part h =
       ap (λ (d : Settings). rowPart s d r) (sym (v .sizes .settings))
-      ∙ sym (row-shown s r (v .rows) (lt-ltb r (settingsAt s .n) (subst⁻¹ (λ (d : Settings). r < d .n) (v .sizes .settings) h)))
+      ∙ sym (row-shown s r (v .checks) (lt-ltb r (settingsAt s .n) (subst⁻¹ (λ (d : Settings). r < d .n) (v .sizes .settings) h)))
 
   pub row-empty : c .n ≤ r → [] ≡ row s r
   row-empty h = sym (row-past s r (le-ltb r (settingsAt s .n) (subst⁻¹ (λ (d : Settings). d .n ≤ r) (v .sizes .settings) h)))

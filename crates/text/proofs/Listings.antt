@@ -4,7 +4,7 @@ use mathlib.Core.List.{List}
 use mathlib.Core.Option.{none, some}
 use mathlib.Core.Path.{_≡_}
 use Prim.Native.Nat.{ℕ, _<_}
-use lib.ListN.{take}
+use lib.ListN.{length, take}
 use mir.Syntax.{w32}
 use mir.Val.{SFits}
 use Rattle.model.specs.declared.Refusal.{Refusal}
@@ -21,12 +21,12 @@ module _ (input buffer : List ℕ) where
   abbrev sheet : List ℕ
   sheet = take maxInput input
 
-  pub listing-refused : (r : Refusal) → firstOf (settleChecks sheet listingBuffer) ≡ some r
+  pub listing-refused : (r : Refusal) → firstOf (settleChecks sheet (length listingBuffer)) ≡ some r
       → refusalWritten (r .number) (r .place) buffer ≡ textIn refusalCapacity (listing input) buffer
   unfolding refusalWritten listing
   listing-refused r refused = rw refused
 
-  pub listing-settled : firstOf (settleChecks sheet listingBuffer) ≡ none → SFits w32 (roundAt sheet .estimate)
+  pub listing-settled : firstOf (settleChecks sheet (length listingBuffer)) ≡ none → SFits w32 (roundAt sheet .estimate)
       → SFits w32 (roundAt sheet .value) → ((r : ℕ) → r < settingsAt sheet .n → SFits w32 (roundAt sheet .used r))
       → roundWritten (settle sheet listingBuffer .buffer) buffer ≡ textIn roundCapacity (listing input) buffer
   unfolding listing settle

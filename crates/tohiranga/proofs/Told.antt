@@ -7,40 +7,38 @@ use mathlib.Core.Path.{_≡_, ap, subst}
 use Prim.Native.Nat.{ℕ, _+_, _*_, _≤_}
 use native.Mathlib.Omega.{arith}
 use lib.Dec.{leb, ltb, eqb}
-use lib.IntN.{ℤ, pos}
-use lib.ListN.{length, getD}
-use mir.Syntax.{w32}
-use mir.Val.{ofZ}
+use lib.IntN.{ℤ}
+use lib.ListN.{length}
 use Rattle.arithmetic.specs.Counting.{lowest}
 use Rattle.model.specs.declared.Refusal.{Refusal}
 use Rattle.model.specs.declared.Settings.{Settings}
-use Rattle.model.specs.RoundSheet.{settingsAt, entryCount, sheetLength, markAt, bitsAt}
+use Rattle.model.specs.RoundSheet.{byte, settingsAt, entryCount, sheetLength, markAt, bitsAt, bitsIn}
 use Rattle.model.specs.AnswerSheet.{answerLength}
 use Rattle.model.specs.Steps.{roundAt}
 use Rattle.model.specs.Planner.{Plan, planFrom, advance, after, windowAfter}
-use Rattle.model.specs.Refusals.{Row, refuseIf, atEntry, firstOf, tooShort, badCabinets, badFaults, badMethod, badWindow, badLength, noRoom, badMark, badMissing, tooManyFaults, badPlan, targetMissed, settingsChecks, sheetChecks, entryChecks, readChecks, writeChecks, settleChecks, planChecks, stepChecks, targetChecks}
+use Rattle.model.specs.Refusals.{Check, refuseIf, atEntry, firstOf, tooShort, badCabinets, badFaults, badMethod, badWindow, badLength, noRoom, badMark, badMissing, tooManyFaults, badPlan, targetMissed, settingsChecks, sheetChecks, entryChecks, readChecks, writeChecks, settleChecks, planChecks, stepChecks, targetChecks}
 use Rattle.model.specs.Calls.{verdict, granted, refused, read, write, settle, plan, step, Target}
-use Rattle.refusals.proofs.Rows.{none-left}
+use Rattle.refusals.proofs.Checks.{none-left}
 use Rattle.sheets.proofs.Outcomes.{granted-none, granted-same, refused-some}
 use Rattle.sheets.proofs.Inspection.{inspected}
 use Rattle.tohiranga.specs.Answers.{packedRefusal}
 
 -- a row's number, 1 where it does not refuse
-abbrev numberOf : Row → ℕ
+abbrev numberOf : Check → ℕ
 numberOf none = 1
 numberOf (some r) = r .number
 
-record Numbered (rows : List Row) : Type 0 where
-  numbered : 1 ≤ numberOf (firstOf rows)
+record Numbered (checks : List Check) : Type 0 where
+  numbered : 1 ≤ numberOf (firstOf checks)
 
 none-numbered : Numbered []
 unfolding firstOf
 none-numbered = record { numbered = omega arith }
 
-more : (row : Row) (rows : List Row) → 1 ≤ numberOf row → Numbered rows → Numbered (row ∷ rows)
+more : (check : Check) (checks : List Check) → 1 ≤ numberOf check → Numbered checks → Numbered (check ∷ checks)
 unfolding firstOf
-more none rows h rest = record { numbered = rest .numbered }
-more (some r) rows h rest = record { numbered = h }
+more none checks h rest = record { numbered = rest .numbered }
+more (some r) checks h rest = record { numbered = h }
 
 by-test : (fails : Bool) (number : ℕ) → 1 ≤ number → 1 ≤ numberOf (refuseIf fails number)
 by-test true number h = h
@@ -102,55 +100,55 @@ row-12 last target = by-test (ltb target last) 12 (omega arith)
 
 -- ---- The rows of each call
 
-settings-numbered : (c : Settings) (rows : List Row) → Numbered rows → Numbered (settingsChecks c ++ rows)
+settings-numbered : (c : Settings) (checks : List Check) → Numbered checks → Numbered (settingsChecks c ++ checks)
 unfolding settingsChecks
-settings-numbered c rows rest =
+settings-numbered c checks rest =
     more (badCabinets c) _ (row-2 c)
-    (more (badFaults c) _ (row-3 c) (more (badMethod c) _ (row-4 c) (more (badWindow c) rows (row-5 c) rest)))
+    (more (badFaults c) _ (row-3 c) (more (badMethod c) _ (row-4 c) (more (badWindow c) checks (row-5 c) rest)))
 
-sheet-numbered : (s : List ℕ) (rows : List Row) → Numbered rows → Numbered (sheetChecks s ++ rows)
+sheet-numbered : (s : List ℕ) (checks : List Check) → Numbered checks → Numbered (sheetChecks s ++ checks)
 unfolding sheetChecks settingsChecks
-sheet-numbered s rows rest =
+sheet-numbered s checks rest =
     let c = settingsAt s in
     more (tooShort s) _ (row-1 s)
-    (settings-numbered c (badLength (length s) (sheetLength c) ∷ rows)
-    (more (badLength (length s) (sheetLength c)) rows (row-6 (length s) (sheetLength c)) rest))
+    (settings-numbered c (badLength (length s) (sheetLength c) ∷ checks)
+    (more (badLength (length s) (sheetLength c)) checks (row-6 (length s) (sheetLength c)) rest))
 
-entry-numbered : (s : List ℕ) (rows : List Row) → Numbered rows → Numbered (entryChecks s ++ rows)
+entry-numbered : (s : List ℕ) (checks : List Check) → Numbered checks → Numbered (entryChecks s ++ checks)
 unfolding entryChecks
-entry-numbered s rows rest =
+entry-numbered s checks rest =
     let E = entryCount (settingsAt s) in
     more (badMark (markAt s) E) _ (row-8 (markAt s) E)
-    (more (badMissing (markAt s) (bitsAt s E) E) rows (row-9 (markAt s) (bitsAt s E) E) rest)
+    (more (badMissing (markAt s) (bitsAt s E) E) checks (row-9 (markAt s) (bitsAt s E) E) rest)
 
-settle-numbered : (s answer : List ℕ) → Numbered (settleChecks s answer)
+settle-numbered : (s : List ℕ) (answer : ℕ) → Numbered (settleChecks s answer)
 unfolding settleChecks
 settle-numbered s answer =
     sheet-numbered s _
-    (more (noRoom (length answer) (answerLength (settingsAt s .n))) _ (row-7 (length answer) (answerLength (settingsAt s .n)))
+    (more (noRoom answer (answerLength (settingsAt s .n))) _ (row-7 answer (answerLength (settingsAt s .n)))
     (entry-numbered s _ (more (tooManyFaults (roundAt s .count)) [] (row-10 (roundAt s .count)) none-numbered)))
 
 plan-numbered : (c : Settings) (fails : Bool) → Numbered (settingsChecks c ++ (badPlan fails ∷ []))
 plan-numbered c fails = settings-numbered c _ (more (badPlan fails) [] (row-11 fails) none-numbered)
 
-read-numbered : (s marks : List ℕ) (readings : List ℤ) → Numbered (readChecks s marks readings)
+read-numbered : (s : List ℕ) (marks readings : ℕ) → Numbered (readChecks s marks readings)
 unfolding readChecks entryChecks
 read-numbered s marks readings =
     let E = entryCount (settingsAt s) in
     sheet-numbered s _
-    (more (noRoom (length marks) E) _ (row-7 (length marks) E)
-    (more (noRoom (length readings) E) _ (row-7 (length readings) E) (entry-numbered s [] none-numbered)))
+    (more (noRoom marks E) _ (row-7 marks E)
+    (more (noRoom readings E) _ (row-7 readings E) (entry-numbered s [] none-numbered)))
 
-write-numbered : (c : Settings) (marks : List ℕ) (readings : List ℤ) (buffer : List ℕ) → Numbered (writeChecks c marks readings buffer)
+write-numbered : (c : Settings) (marks : List ℕ) (readings : List ℤ) (buffer : ℕ) → Numbered (writeChecks c marks readings buffer)
 unfolding writeChecks
 write-numbered c marks readings buffer =
     let E = entryCount c in
-    let mark : (ℕ → ℕ) = λ e. getD marks e 0 in
-    let bits : (ℕ → ℕ) = λ e. ofZ w32 (getD readings e (pos 0)) in
+    let mark : (ℕ → ℕ) = byte marks in
+    let bits : (ℕ → ℕ) = bitsIn readings in
     settings-numbered c _
     (more (badLength (length marks) E) _ (row-6 (length marks) E)
     (more (badLength (length readings) E) _ (row-6 (length readings) E)
-    (more (noRoom (length buffer) (sheetLength c)) _ (row-7 (length buffer) (sheetLength c))
+    (more (noRoom buffer (sheetLength c)) _ (row-7 buffer (sheetLength c))
     (more (badMark mark E) _ (row-8 mark E) (more (badMissing mark bits E) [] (row-9 mark bits E) none-numbered)))))
 
 target-numbered : (c : Settings) (κ target : ℕ) → Numbered (targetChecks c κ target)
@@ -163,27 +161,27 @@ target-numbered c κ target =
 
 -- ---- What is packed
 
-above : (rows : List Row) (r : Refusal) → Numbered rows → firstOf rows ≡ some r → 4294967296 ≤ packedRefusal r
-above rows r h same =
-    let number : 1 ≤ r .number = subst (λ (x : Row). 1 ≤ numberOf x) same (h .numbered) in
+above : (checks : List Check) (r : Refusal) → Numbered checks → firstOf checks ≡ some r → 4294967296 ≤ packedRefusal r
+above checks r h same =
+    let number : 1 ≤ r .number = subst (λ (x : Check). 1 ≤ numberOf x) same (h .numbered) in
     omega arith
 
 -- a refused sheet is answered by 2^32 or above
 pub settle-refused-above : (s answer : List ℕ) (r : Refusal) → settle s answer .verdict ≡ refused r → 4294967296 ≤ packedRefusal r
 unfolding settle
 settle-refused-above s answer r h =
-    above (settleChecks s answer) r (settle-numbered s answer)
-    (refused-some (firstOf (settleChecks s answer)) (answerLength (settingsAt s .n)) r h)
+    above (settleChecks s (length answer)) r (settle-numbered s (length answer))
+    (refused-some (firstOf (settleChecks s (length answer))) (answerLength (settingsAt s .n)) r h)
 
 -- a settled sheet by a length of at most 330
 pub settle-granted-below : (s answer : List ℕ) (size : ℕ) → settle s answer .verdict ≡ granted size → size ≤ 330
 unfolding settle settleChecks
 settle-granted-below s answer size h =
-    let row = firstOf (settleChecks s answer) in
-    let passes = granted-none row (answerLength (settingsAt s .n)) size h in
-    let same = granted-same row (answerLength (settingsAt s .n)) size h in
+    let check = firstOf (settleChecks s (length answer)) in
+    let passes = granted-none check (answerLength (settingsAt s .n)) size h in
+    let same = granted-same check (answerLength (settingsAt s .n)) size h in
     let sizes = none-left (sheetChecks s) _ passes in
-    let within = inspected s (settingsAt s) (ap (λ (x : Row). verdict x (settingsAt s)) sizes) .within .cabinets in
+    let within = inspected s (settingsAt s) (ap (λ (x : Check). verdict x (settingsAt s)) sizes) .within .cabinets in
     omega arith
 
 -- the other calls' refusals by 2^32 or above too
@@ -191,15 +189,15 @@ pub read-refused-above : (s marks : List ℕ) (readings : List ℤ) (r : Refusal
     → read s marks readings .verdict ≡ refused r → 4294967296 ≤ packedRefusal r
 unfolding read
 read-refused-above s marks readings r h =
-    above (readChecks s marks readings) r (read-numbered s marks readings)
-    (refused-some (firstOf (readChecks s marks readings)) (settingsAt s) r h)
+    above (readChecks s (length marks) (length readings)) r (read-numbered s (length marks) (length readings))
+    (refused-some (firstOf (readChecks s (length marks) (length readings))) (settingsAt s) r h)
 
 pub write-refused-above : (c : Settings) (marks : List ℕ) (readings : List ℤ) (buffer : List ℕ) (r : Refusal)
     → write c marks readings buffer .verdict ≡ refused r → 4294967296 ≤ packedRefusal r
 unfolding write
 write-refused-above c marks readings buffer r h =
-    above (writeChecks c marks readings buffer) r (write-numbered c marks readings buffer)
-    (refused-some (firstOf (writeChecks c marks readings buffer)) (sheetLength c) r h)
+    above (writeChecks c marks readings (length buffer)) r (write-numbered c marks readings (length buffer))
+    (refused-some (firstOf (writeChecks c marks readings (length buffer))) (sheetLength c) r h)
 
 pub target-refused-above : (c : Settings) (κ target : ℕ) (r : Refusal) → Target c κ target (refused r) → 4294967296 ≤ packedRefusal r
 target-refused-above c κ target r h = above (targetChecks c κ target) r (target-numbered c κ target) h

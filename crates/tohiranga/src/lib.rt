@@ -3,7 +3,7 @@ ghost use mathlib.Core.Path.{_≡_};
 ghost use Prim.Native.Nat.{_+_, _/_, _%_, _≤_};
 ghost use lib.ListN.{length};
 ghost use Rattle.model.specs.Calls.{settle, read, write, row, plan, step};
-ghost use Rattle.planner.specs.Answers.{verdictOf};
+ghost use Rattle.planner.specs.Answers.{plannedOf};
 ghost use Rattle.tohiranga.specs.Answers.{packedRefusal, packed, settingsOf, sizesOf, planOf, noSizes, openingOf, planningOf, partIn, TargetPacked};
 use inspection::Opened;
 use model::Refusal;
@@ -146,7 +146,7 @@ pub extern "C" fn tohiranga_write(
 }
 
 fn hand_over(planned: Planned) -> Planning
-    ensures { λ r. ⌜ r ≡ planningOf (verdictOf planned) ⌝ }
+    ensures { λ r. ⌜ r ≡ planningOf (plannedOf planned) ⌝ }
 {
     match planned {
         Planned::Granted(given) => {

@@ -2,7 +2,7 @@
 -- Assumes nothing.
 use borrow.Author.Needs.{needs}
 use mathlib.Core.Path.{sym, ap, _∙_}
-use Rattle.ensemble.specs.Answers.{rowOf}
+use Rattle.ensemble.specs.Answers.{checkOf}
 use Rattle.answer_sheet.proofs.Rows.{sheet-refuses, cabinet-refuses, cabinet-passes}
 use Rattle.answer_sheet.proofs.check_cabinet.Statement.{statement}
 use Rattle.answer_sheet.proofs.check_cabinet.Tie as tie
@@ -27,7 +27,7 @@ returns c =
     let at-first = c .before in
     let at-check = at-first .before .before in
     let a = at-check .before .before .args in
-    sheet-refuses (a .answer .now) (a .cabinet) (sym (ap rowOf (at-first .first .given .1)) ∙ at-check .check .ensures)
+    sheet-refuses (a .answer .now) (a .cabinet) (sym (ap checkOf (at-first .first .given .1)) ∙ at-check .check .ensures)
 
 returns-2 : tie.Need-returns-2
 returns-2 c =
@@ -35,7 +35,7 @@ returns-2 c =
     let at-told = at-byte .before in
     let at-check = at-told .before .before in
     let a = at-check .before .before .args in
-    cabinet-refuses (a .answer .now) (a .cabinet) (sym (ap rowOf (at-told .enum-told .given .1)) ∙ at-check .check .ensures)
+    cabinet-refuses (a .answer .now) (a .cabinet) (sym (ap checkOf (at-told .enum-told .given .1)) ∙ at-check .check .ensures)
     (at-byte .byte-at .result) (at-byte .byte-at .ensures) (c .if1 .taken)
 
 returns-3 : tie.Need-returns-3
@@ -44,7 +44,7 @@ returns-3 c =
     let at-told = at-byte .before in
     let at-check = at-told .before .before in
     let a = at-check .before .before .args in
-    cabinet-passes (a .answer .now) (a .cabinet) (sym (ap rowOf (at-told .enum-told .given .1)) ∙ at-check .check .ensures)
+    cabinet-passes (a .answer .now) (a .cabinet) (sym (ap checkOf (at-told .enum-told .given .1)) ∙ at-check .check .ensures)
     (at-byte .byte-at .result) (at-byte .byte-at .ensures) (c .if1 .left)
 
 pub check-cabinet-spec : {M : Type 1} → statement M

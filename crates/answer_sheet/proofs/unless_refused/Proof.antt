@@ -2,7 +2,7 @@
 -- Assumes nothing.
 use borrow.Author.Needs.{needs}
 use mathlib.Core.Path.{sym, ap}
-use Rattle.ensemble.specs.Answers.{rowOf}
+use Rattle.ensemble.specs.Answers.{checkOf}
 use Rattle.ensemble.specs.declared.Screened.{Screened}
 use Rattle.model.specs.Calls.{verdict}
 use Rattle.answer_sheet.proofs.unless_refused.Statement.{statement}
@@ -17,12 +17,12 @@ enum-known-screened c = search needs
 returns : tie.Need-returns
 returns c =
     let number = c .before .before .args .number in
-    sym (ap (λ (x : Screened). verdict (rowOf x) number) (c .enum-told .given .1))
+    sym (ap (λ (x : Screened). verdict (checkOf x) number) (c .enum-told .given .1))
 
 returns-2 : tie.Need-returns-2
 returns-2 c =
     let number = c .before .before .before .args .number in
-    sym (ap (λ (x : Screened). verdict (rowOf x) number) (c .before .screened .given .1))
+    sym (ap (λ (x : Screened). verdict (checkOf x) number) (c .before .screened .given .1))
 
 pub unless-refused-spec : {M : Type 1} → statement M
 unless-refused-spec = tie.close (tie.spec enum-told enum-known-screened returns returns-2)

@@ -2,8 +2,8 @@
 -- Assumes nothing.
 use borrow.Author.Needs.{needs}
 use mathlib.Core.Path.{sym, ap, _∙_}
-use Rattle.planner.specs.Answers.{verdictOf}
-use Rattle.planning.proofs.Steps.{plan-granted-row, plan-refused-row}
+use Rattle.planner.specs.Answers.{plannedOf}
+use Rattle.planning.proofs.Steps.{plan-granted-check, plan-refused-check}
 use Rattle.degradation.proofs.Stating.{stated-refused, stated-bounds}
 use Rattle.degradation.proofs.limits_for.Statement.{statement}
 use Rattle.degradation.proofs.limits_for.Tie as tie
@@ -20,16 +20,16 @@ enum-told c = search needs
 bound-requires : tie.Need-bound-requires
 bound-requires c κs =
     let a = c .before .before .before .args in
-    plan-granted-row (a .settings) (a .accuracy) 0
-    (sym (ap verdictOf (c .enum-told .given .1)) ∙ c .before .before .plan-for .ensures)
+    plan-granted-check (a .settings) (a .accuracy) 0
+    (sym (ap plannedOf (c .enum-told .given .1)) ∙ c .before .before .plan-for .ensures)
     .0
 
 returns : tie.Need-returns
 returns c =
     let a = c .before .before .before .before .args in
     stated-refused (a .settings) (a .accuracy) (a .t)
-    (plan-refused-row (a .settings) (a .accuracy) 0
-    (sym (ap verdictOf (c .before .refusal .given .1)) ∙ c .before .before .before .plan-for .ensures))
+    (plan-refused-check (a .settings) (a .accuracy) 0
+    (sym (ap plannedOf (c .before .refusal .given .1)) ∙ c .before .before .before .plan-for .ensures))
 
 returns-2 : tie.Need-returns-2
 returns-2 c =

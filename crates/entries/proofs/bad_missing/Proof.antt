@@ -5,7 +5,7 @@ use borrow.Author.Needs.{needs}
 use mathlib.Core.Option.{none}
 use mathlib.Core.Path.{sym}
 use lib.ListN.{length}
-use Rattle.entries.specs.Answers.{foundAs}
+use Rattle.entries.specs.Answers.{foundOf}
 use Rattle.entries.proofs.Bounds.{none-missing}
 use Rattle.entries.proofs.Fitting.{missing-unfit, fit-long, missing-fit}
 use Rattle.entries.proofs.bad_missing.Statement.{statement}
@@ -36,7 +36,7 @@ search-missing-requires c κs =
 returns-3 : tie.Need-returns-3
 returns-3 c =
     let a = c .before .before .before .before .before .before .before .args in
-    missing-fit (a .marks .now) (a .readings .now) (c .before .before .before .before .misfit .ensures) (c .before .before .before .if1 .left) (foundAs (c .search-missing .result)) (c .search-missing .ensures)
+    missing-fit (a .marks .now) (a .readings .now) (c .before .before .before .before .misfit .ensures) (c .before .before .before .if1 .left) (foundOf (c .search-missing .result)) (c .search-missing .ensures)
 
 pub bad-missing-spec : {M : Type 1} → statement M
 bad-missing-spec =

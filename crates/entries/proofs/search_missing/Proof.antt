@@ -7,7 +7,7 @@ use native.Mathlib.Omega.{arith}
 use lib.ListN.{length}
 use Rattle.arithmetic.specs.Counting.{lowest}
 use Rattle.model.specs.RoundSheet.{byte, word}
-use Rattle.sheets.specs.Entries.{notZero}
+use Rattle.model.specs.Refusals.{notZero}
 use Rattle.sheets.proofs.Searching.{search-none, search-more, search-found, search-ended}
 use Rattle.entries.proofs.search_missing.Statement.{statement}
 use Rattle.entries.proofs.search_missing.Tie as tie

@@ -4,32 +4,35 @@
 use borrow.Author.Needs.{needs}
 use mathlib.Core.Path.{_≡_, sym, ap, _∙_}
 use native.Mathlib.Omega.{arith}
+use mathlib.Core.List.{_∷_}
+use lib.ListN.{length}
 use Prim.Native.Nat.{_≤_}
-use Rattle.model.specs.RoundSheet.{markAt, bitsAt}
-use Rattle.model.specs.Refusals.{orNext, firstOf, badMark, badMissing}
-use Rattle.entries.specs.Answers.{foundAs}
-use Rattle.inspection.specs.Checks.{bodyChecks}
+use Rattle.model.specs.RoundSheet.{markAt, bitsAt, entryCount, sheetLength}
+use Rattle.model.specs.Refusals.{firstOf, arrayChecks, badLength}
+use Rattle.entries.specs.Answers.{foundOf}
 use Rattle.sheets.proofs.Parts.{mark-in-range, missing-in-range, parts-mark-refused, parts-missing-refused, parts-pass}
-use Rattle.inspection.proofs.Body.{entries-most, body-length-refused, body-rows, parts-missing}
+use Rattle.inspection.proofs.Body.{byte-entries-most, body-length-refused, body-checks, parts-missing}
 use Rattle.inspection.proofs.check_entries.Statement.{statement}
 use Rattle.inspection.proofs.check_entries.Tie as tie
 
 -- sizes of a byte make few entries
 few : (c : tie.After-entry-count) → c .entry-count .result ≤ 65025
-few c = rw (c .entry-count .ensures) (entries-most (c .before .before .args .settings) (omega arith))
+few c = rw (c .entry-count .ensures) (byte-entries-most (c .before .before .args .settings) (omega arith))
 
 -- the sheet has its length, so that checks 8 and 9 are left
-rows :
+checks :
     (c : tie.Else1)
-    → firstOf (bodyChecks (c .before .before .before .args .settings) (c .before .before .before .args .sheet .now))
-    ≡ orNext (badMark (markAt (c .before .before .before .args .sheet .now)) (c .before .entry-count .result))
-    (badMissing (markAt (c .before .before .before .args .sheet .now))
+    → firstOf (badLength (length (c .before .before .before .args .sheet .now)) (sheetLength (c .before .before .before .args .settings))
+    ∷ arrayChecks (markAt (c .before .before .before .args .sheet .now))
+    (bitsAt (c .before .before .before .args .sheet .now) (entryCount (c .before .before .before .args .settings)))
+    (entryCount (c .before .before .before .args .settings)))
+    ≡ firstOf (arrayChecks (markAt (c .before .before .before .args .sheet .now))
     (bitsAt (c .before .before .before .args .sheet .now) (c .before .entry-count .result))
     (c .before .entry-count .result))
-rows c =
+checks c =
     let a = c .before .before .before .args in
     let entry-count = c .before .entry-count in
-    body-rows (a .sheet .now) (a .settings) (entry-count .result) (entry-count .ensures) (c .if1 .left)
+    body-checks (a .sheet .now) (a .settings) (entry-count .result) (entry-count .ensures) (c .if1 .left)
 
 entry-count-requires : tie.Need-entry-count-requires
 entry-count-requires c κs = search needs
@@ -69,7 +72,7 @@ cast-t17 c =
     let sized = c .before .before .before .before .before in
     let bad-mark = c .before .before .before .bad-mark in
     let small = mark-in-range (c .before .before .before .before .before .before .before .before .args .sheet .now) (sized .before .entry-count .result) (sized .if1 .left) (c .before .e .given .0 .0)
-    (sym (bad-mark .ensures) ∙ ap foundAs (c .before .e .given .1)) in
+    (sym (bad-mark .ensures) ∙ ap foundOf (c .before .e .given .1)) in
     omega (arith, few (sized .before))
 
 enum-told : tie.Need-enum-told
@@ -95,7 +98,7 @@ cast-t25 c =
     let sized = c .before .before .before .before .before .before .before .before .before in
     let bad-missing = c .before .before .before .bad-missing in
     let small = missing-in-range (c .before .before .before .before .before .before .before .before .before .before .before .before .args .sheet .now) (sized .before .entry-count .result) (sized .if1 .left) (c .before .e2 .given .0 .0)
-    (sym (parts-missing (c .before .before .before .before .before .before .before .before .before .before .before .before .args .sheet .now) (sized .before .entry-count .result) (sized .if1 .left)) ∙ sym (bad-missing .ensures) ∙ ap foundAs (c .before .e2 .given .1)) in
+    (sym (parts-missing (c .before .before .before .before .before .before .before .before .before .before .before .before .args .sheet .now) (sized .before .entry-count .result) (sized .if1 .left)) ∙ sym (bad-missing .ensures) ∙ ap foundOf (c .before .e2 .given .1)) in
     omega (arith, few (sized .before))
 
 enum-told-2 : tie.Need-enum-told-2
@@ -106,8 +109,8 @@ returns-2 c =
     let sized = c .before .before .before .before .before in
     let bad-mark = c .before .before .before .bad-mark in
     parts-mark-refused (c .before .before .before .before .before .before .before .before .args .sheet .now) (sized .before .entry-count .result) (sized .if1 .left) (c .before .e .given .0 .0)
-    (sym (bad-mark .ensures) ∙ ap foundAs (c .before .e .given .1))
-    ∙ sym (rows sized)
+    (sym (bad-mark .ensures) ∙ ap foundOf (c .before .e .given .1))
+    ∙ sym (checks sized)
 
 returns-3 : tie.Need-returns-3
 returns-3 c =
@@ -116,10 +119,10 @@ returns-3 c =
     let enum-told = c .before .before .before .before .before .enum-told in
     let bad-missing = c .before .before .before .bad-missing in
     parts-missing-refused (c .before .before .before .before .before .before .before .before .before .before .before .before .args .sheet .now) (sized .before .entry-count .result) (sized .if1 .left)
-    (sym (bad-mark .ensures) ∙ ap foundAs (enum-told .given .1))
+    (sym (bad-mark .ensures) ∙ ap foundOf (enum-told .given .1))
     (c .before .e2 .given .0 .0)
-    (sym (parts-missing (c .before .before .before .before .before .before .before .before .before .before .before .before .args .sheet .now) (sized .before .entry-count .result) (sized .if1 .left)) ∙ sym (bad-missing .ensures) ∙ ap foundAs (c .before .e2 .given .1))
-    ∙ sym (rows sized)
+    (sym (parts-missing (c .before .before .before .before .before .before .before .before .before .before .before .before .args .sheet .now) (sized .before .entry-count .result) (sized .if1 .left)) ∙ sym (bad-missing .ensures) ∙ ap foundOf (c .before .e2 .given .1))
+    ∙ sym (checks sized)
 
 returns-4 : tie.Need-returns-4
 returns-4 c =
@@ -128,9 +131,9 @@ returns-4 c =
     let enum-told = c .before .before .before .before .enum-told in
     let bad-missing = c .before .before .bad-missing in
     parts-pass (c .before .before .before .before .before .before .before .before .before .before .before .args .sheet .now) (sized .before .entry-count .result) (sized .if1 .left)
-    (sym (bad-mark .ensures) ∙ ap foundAs (enum-told .given .1))
-    (sym (parts-missing (c .before .before .before .before .before .before .before .before .before .before .before .args .sheet .now) (sized .before .entry-count .result) (sized .if1 .left)) ∙ sym (bad-missing .ensures) ∙ ap foundAs (c .enum-told2 .given .1))
-    ∙ sym (rows sized)
+    (sym (bad-mark .ensures) ∙ ap foundOf (enum-told .given .1))
+    (sym (parts-missing (c .before .before .before .before .before .before .before .before .before .before .before .args .sheet .now) (sized .before .entry-count .result) (sized .if1 .left)) ∙ sym (bad-missing .ensures) ∙ ap foundOf (c .enum-told2 .given .1))
+    ∙ sym (checks sized)
 
 pub check-entries-spec : {M : Type 1} → statement M
 check-entries-spec =

@@ -5,7 +5,7 @@ use mathlib.Core.Option.{none}
 use mathlib.Core.Path.{_≡_, sym, ap, _∙_}
 use Prim.Native.Nat.{ℕ, _+_, _*_}
 use native.Mathlib.Omega.{arith}
-use Rattle.ensemble.specs.Answers.{rowOf}
+use Rattle.ensemble.specs.Answers.{checkOf}
 use Rattle.model.specs.Refusals.{firstOf, settingsChecks}
 use Rattle.refusals.proofs.Limits.{limits, entries-most}
 use Rattle.sheets.proofs.Inspection.{short-refused, settings-refused, length-refused, inspection-passes}
@@ -16,7 +16,7 @@ use Rattle.inspection.proofs.inspect.Tie as tie
 passed : (c : tie.After-entry-count) → firstOf (settingsChecks (c .before .before .before .before .sizes .result)) ≡ none
 passed c =
     let screen = c .before .before .before .screen in
-    sym (screen .ensures) ∙ ap rowOf (c .before .enum-told .given .1)
+    sym (screen .ensures) ∙ ap checkOf (c .before .enum-told .given .1)
 
 returns : tie.Need-returns
 returns c = short-refused (c .before .before .args .sheet .now) (c .if1 .taken)
@@ -55,7 +55,7 @@ returns-2 c =
     (c .before .before .before .before .sizes .ensures)
     (c .before .before .before .before .before .if1 .left)
     (c .before .first .given .0 .0)
-    (sym (c .before .before .before .screen .ensures) ∙ ap rowOf (c .before .first .given .1))
+    (sym (c .before .before .before .screen .ensures) ∙ ap checkOf (c .before .first .given .1))
 
 returns-3 : tie.Need-returns-3
 returns-3 c =

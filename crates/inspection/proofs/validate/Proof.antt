@@ -2,10 +2,10 @@
 -- Assumes nothing.
 use borrow.Author.Needs.{needs}
 use mathlib.Core.Path.{_≡_, sym, ap, _∙_}
-use Rattle.ensemble.specs.Answers.{rowOf}
+use Rattle.ensemble.specs.Answers.{checkOf}
 use Rattle.model.specs.RoundSheet.{settingsAt}
 use Rattle.model.specs.Refusals.{firstOf, sheetChecks, entryChecks}
-use Rattle.inspection.specs.Answers.{openedAs}
+use Rattle.inspection.specs.Answers.{openedOf}
 use Rattle.sheets.proofs.Outcomes.{refused-some}
 use Rattle.sheets.proofs.Inspection.{Inspected, inspected, first-refused, entries-refused, validation-passes}
 use Rattle.inspection.proofs.Body.{body-entries}
@@ -22,12 +22,12 @@ seen c =
     let settings = c .before .before .settings in
     let inspect = c .before .before .before .before .inspect in
     inspected (a .sheet .now) (settings .given .0 .0)
-    (sym (inspect .ensures) ∙ ap openedAs (settings .given .1))
+    (sym (inspect .ensures) ∙ ap openedOf (settings .given .1))
 
 -- what `check_entries` answered, of the sheet's own entries
 checked :
     (c : tie.After-check-entries)
-    → rowOf (c .check-entries .result) ≡ firstOf (entryChecks (c .before .before .before .before .before .before .args .sheet .now))
+    → checkOf (c .check-entries .result) ≡ firstOf (entryChecks (c .before .before .before .before .before .before .args .sheet .now))
 checked c =
     c .check-entries .ensures
     ∙ body-entries (c .before .before .before .before .before .before .args .sheet .now) (c .before .before .settings .given .0 .0) (seen c)
@@ -56,13 +56,13 @@ returns c =
     let inspect = c .before .before .before .inspect in
     first-refused (a .sheet .now) (c .before .r .given .0 .0)
     (refused-some (firstOf (sheetChecks (a .sheet .now))) (settingsAt (a .sheet .now)) (c .before .r .given .0 .0)
-    (sym (inspect .ensures) ∙ ap openedAs (c .before .r .given .1)))
+    (sym (inspect .ensures) ∙ ap openedOf (c .before .r .given .1)))
 
 returns-2 : tie.Need-returns-2
 returns-2 c =
     let a = c .before .before .before .before .before .before .before .before .before .args in
     entries-refused (a .sheet .now) (seen (c .before .before .before) .passes) (c .before .r2 .given .0 .0)
-    (sym (checked (c .before .before .before)) ∙ ap rowOf (c .before .r2 .given .1))
+    (sym (checked (c .before .before .before)) ∙ ap checkOf (c .before .r2 .given .1))
 
 returns-3 : tie.Need-returns-3
 returns-3 c =
@@ -70,7 +70,7 @@ returns-3 c =
     let settings = c .before .before .before .before .settings in
     validation-passes (a .sheet .now) (seen (c .before .before) .passes) (settings .given .0 .0)
     (sym (seen (c .before .before) .settings))
-    (sym (checked (c .before .before)) ∙ ap rowOf (c .enum-told .given .1))
+    (sym (checked (c .before .before)) ∙ ap checkOf (c .enum-told .given .1))
 
 pub validate-spec : {M : Type 1} → statement M
 validate-spec =

@@ -10,7 +10,7 @@ use Rattle.model.specs.declared.Refusal.{Refusal}
 use Rattle.model.specs.Calls.{settle}
 use Rattle.round.specs.declared.Settled.{Settled}
 use Rattle.round.specs.declared.Settled.the-variants.{Granted, Refused}
-use Rattle.round.specs.Answers.{settledAs}
+use Rattle.round.specs.Answers.{settlingOf}
 use Rattle.text.specs.Text.{Text, roundWritten, refusalWritten}
 use Rattle.listing.specs.Listed.{listed}
 use Rattle.listing.proofs.Outcomes.{read-length, refusal-listed, round-listed}
@@ -36,8 +36,8 @@ module _ (c : tie.After-settle) where
   abbrev left : List ℕ
   left = c .settle .last .1 .0
 
-  settled : (v : Settled) → c .settle .result ≡ v → settledAs v left ≡ settle (take end input) (start .args .answer .now)
-  settled v e = sym (ap (λ (u : Settled). settledAs u left) e) ∙ c .settle .ensures
+  settled : (v : Settled) → c .settle .result ≡ v → settlingOf v left ≡ settle (take end input) (start .args .answer .now)
+  settled v e = sym (ap (λ (u : Settled). settlingOf u left) e) ∙ c .settle .ensures
 
   round-text : (n : ℕ) → c .settle .result ≡ Granted n → roundWritten left buffer ≡ listed input buffer
   round-text n e =

@@ -1,9 +1,9 @@
--- `planner::check_all` meets its contract: the rows of the settings come first, and then row 11.
+-- `planner::check_all` meets its contract: the checks of the settings come first, and then check 11.
 -- Assumes nothing.
 use borrow.Author.Needs.{needs}
 use mathlib.Core.Path.{sym, ap₂, _∙_}
 use Rattle.model.specs.Refusals.{orNext, badPlan, settingsChecks}
-use Rattle.refusals.proofs.Rows.{first-snoc}
+use Rattle.refusals.proofs.Checks.{first-snoc}
 use Rattle.planner.proofs.check_all.Statement.{statement}
 use Rattle.planner.proofs.check_all.Tie as tie
 

@@ -3,9 +3,9 @@
 use borrow.Author.Needs.{needs}
 use mathlib.Core.Path.{_≡_, sym, ap, _∙_}
 use Rattle.model.specs.Calls.{granted, plan}
-use Rattle.planning.proofs.Steps.{plan-refused-row}
+use Rattle.planning.proofs.Steps.{plan-refused-check}
 use Rattle.planning.proofs.Targets.{start-refuses-target}
-use Rattle.planner.specs.Answers.{planOf, verdictOf, countedOf}
+use Rattle.planner.specs.Answers.{planOf, plannedOf, countedOf}
 use Rattle.planner.proofs.Fresh.{fresh-passes, fresh-rounds, fresh-target}
 use Rattle.planner.proofs.rounds_for.Statement.{statement}
 use Rattle.planner.proofs.rounds_for.Tie as tie
@@ -14,7 +14,7 @@ use Rattle.planner.proofs.rounds_for.Tie as tie
 fresh : (c : tie.After-known-told2)
     → granted (planOf (c .before .start .given .0 .0))
     ≡ plan (c .before .before .before .before .args .settings) (c .before .before .before .before .args .accuracy) 0
-fresh c = sym (ap verdictOf (c .before .start .given .1)) ∙ c .before .before .before .plan-for .ensures
+fresh c = sym (ap plannedOf (c .before .start .given .1)) ∙ c .before .before .before .plan-for .ensures
 
 plan-for-requires : tie.Need-plan-for-requires
 plan-for-requires c κs = search needs
@@ -34,8 +34,8 @@ returns : tie.Need-returns
 returns c =
     let a = c .before .before .before .before .args in
     start-refuses-target (a .settings) (a .accuracy) (a .target)
-    (plan-refused-row (a .settings) (a .accuracy) 0
-    (sym (ap verdictOf (c .before .refusal .given .1)) ∙ c .before .before .before .plan-for .ensures))
+    (plan-refused-check (a .settings) (a .accuracy) 0
+    (sym (ap plannedOf (c .before .refusal .given .1)) ∙ c .before .before .before .plan-for .ensures))
 
 returns-2 : tie.Need-returns-2
 returns-2 c =

@@ -5,7 +5,7 @@ use mathlib.Core.Path.{ap}
 use native.Mathlib.Omega.{arith}
 use Prim.Native.Nat.{ℕ, _+_, _*_, _≤_}
 use lib.Dec.{leb, ltb, eqb}
-use Rattle.inspection.proofs.Body.{entries-most}
+use Rattle.inspection.proofs.Body.{byte-entries-most}
 use Rattle.reception.specs.Standing.{fitting}
 use borrow.Author.Needs.{needs}
 use Rattle.reception.proofs.fits.Statement.{statement}
@@ -25,7 +25,7 @@ entry-count-requires c κs = search needs
 
 -- sizes of a byte make few entries
 entries : (c : tie.After-entry-count) → c .entry-count .result ≤ 65025
-entries c = rw (c .entry-count .ensures) (entries-most (c .before .before .before .args .settings) (omega arith))
+entries c = rw (c .entry-count .ensures) (byte-entries-most (c .before .before .before .args .settings) (omega arith))
 
 mul-result-2 : tie.Need-mul-result-2
 mul-result-2 c = omega (arith, entries c)

@@ -1,12 +1,12 @@
--- `round::settle` meets its contract: at each answer the inspections that led there say which row refuses first, or that only row 10 is left.
+-- `round::settle` meets its contract: at each answer the inspections that led there say which check refuses first, or that only check 10 is left.
 -- Assumes nothing.
 use mathlib.Core.Path.{_≡_, sym, ap, _∙_}
 use native.Mathlib.Omega.{arith}
 use Rattle.model.specs.RoundSheet.{settingsAt}
 use Rattle.model.specs.Refusals.{firstOf, sheetChecks}
 use Rattle.model.specs.Calls.{granted, verdict}
-use Rattle.ensemble.specs.Answers.{rowOf}
-use Rattle.inspection.specs.Answers.{openedAs}
+use Rattle.ensemble.specs.Answers.{checkOf}
+use Rattle.inspection.specs.Answers.{openedOf}
 use Rattle.round.proofs.Checking.{inspection-refuses, opened-passes, opened-settings, room-refuses, entries-refuse, passes-settle}
 use borrow.Author.Needs.{needs}
 use Rattle.round.proofs.settle.Statement.{statement}
@@ -17,7 +17,7 @@ opened :
     (c : tie.After-settings)
     → granted (c .settings .given .0 .0)
     ≡ verdict (firstOf (sheetChecks (c .before .before .before .before .before .args .sheet .now))) (settingsAt (c .before .before .before .before .before .args .sheet .now))
-opened c = sym (ap openedAs (c .settings .given .1)) ∙ c .before .before .inspect .ensures
+opened c = sym (ap openedOf (c .settings .given .1)) ∙ c .before .before .inspect .ensures
 
 inspect-requires : tie.Need-inspect-requires
 inspect-requires c κs = search needs
@@ -61,13 +61,13 @@ settle-valid-requires c κs = (
 returns-2 : tie.Need-returns-2
 returns-2 c =
     inspection-refuses (c .before .before .before .before .before .before .args .sheet .now) (c .before .before .before .before .before .before .args .answer .now) (c .before .r .given .0 .0)
-    (sym (ap openedAs (c .before .r .given .1)) ∙ c .before .before .before .inspect .ensures)
+    (sym (ap openedOf (c .before .r .given .1)) ∙ c .before .before .before .inspect .ensures)
 
 returns-3 : tie.Need-returns-3
 returns-3 c =
     entries-refuse (c .before .before .before .before .before .before .before .before .before .before .before .before .args .sheet .now) (c .before .before .before .before .before .before .before .before .before .before .before .before .args .answer .now) (c .before .before .before .before .before .before .before .settings .given .0 .0) (opened (c .before .before .before .before .before .before .before))
     (c .before .before .before .before .if1 .left) (c .before .r2 .given .0 .0)
-    (sym (ap rowOf (c .before .r2 .given .1)) ∙ c .before .before .before .check-entries .ensures)
+    (sym (ap checkOf (c .before .r2 .given .1)) ∙ c .before .before .before .check-entries .ensures)
 
 same-length : tie.Need-same-length
 same-length c = search needs
@@ -77,7 +77,7 @@ returns-4 c =
     c .before .before .settle-valid .ensures
     ∙ passes-settle (c .before .before .before .before .before .before .before .before .before .before .before .before .before .before .before .args .sheet .now) (c .before .before .before .before .before .before .before .before .before .before .before .before .before .before .before .args .answer .now) (c .before .before .before .before .before .before .before .before .before .before .settings .given .0 .0) (opened (c .before .before .before .before .before .before .before .before .before .before))
     (c .before .before .before .before .before .before .before .if1 .left)
-    (sym (ap rowOf (c .before .before .before .before .enum-told .given .1)) ∙ c .before .before .before .before .before .before .check-entries .ensures)
+    (sym (ap checkOf (c .before .before .before .before .enum-told .given .1)) ∙ c .before .before .before .before .before .before .check-entries .ensures)
 
 pub settle-spec : {M : Type 1} → statement M
 settle-spec =

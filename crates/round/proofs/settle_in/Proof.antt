@@ -5,7 +5,7 @@ use mathlib.Core.List.{List}
 use mathlib.Core.Path.{ap, _∙_}
 use native.Mathlib.Omega.{arith}
 use Prim.Native.Nat.{ℕ, _+_, _*_}
-use Rattle.round.specs.Answers.{settledAs}
+use Rattle.round.specs.Answers.{settlingOf}
 use Rattle.round.specs.declared.Settled.the-variants.{Granted}
 use Rattle.round.proofs.Settling.{Settles, refuses, settles, kept-long, few-faults}
 use borrow.Author.Needs.{needs}
@@ -83,7 +83,7 @@ returns-2 c =
     let s = c .before .before .before .before .before .before .before .before .before .before .before .before .before .before .before .before .before .before .before .before in
     let r = c .before .before .before .before .before .before .before .before .before .before .before .before .before .before .before .receive in
     let a = c .before .before .before .before .before .before .before .before .before .before .agree in
-    ap (λ (l : List ℕ). settledAs (Granted (10 + 5 * s .args .settings .n)) l) (c .before .before .before .put-answer .ensures)
+    ap (λ (l : List ℕ). settlingOf (Granted (10 + 5 * s .args .settings .n)) l) (c .before .before .before .put-answer .ensures)
     ∙ settles (s .args .sheet .now) (s .args .settings) (s .pre .0 .1) (s .pre .0 .0) (s .args .values .now) (r .last .1 .1 .0) (a .last .0) (r .result) (a .result)
     (left (c .before .before .before .before .before .before .before .before .before .before)) (s .args .answer .now) (c .before .before .before .before .before .before .if1 .left)
 

@@ -5,7 +5,7 @@ use borrow.Author.Needs.{needs}
 use mathlib.Core.Path.{_≡_}
 use native.Mathlib.Omega.{arith}
 use Prim.Native.Nat.{ℕ, _+_, _*_, _-_, _≤_}
-use Rattle.inspection.proofs.Body.{entries-most}
+use Rattle.inspection.proofs.Body.{byte-entries-most}
 use Rattle.rows.proofs.Parts.{row-entries-most, row-most, past-last, past-end, row-lies}
 use Rattle.rows.proofs.row_part.Statement.{statement}
 use Rattle.rows.proofs.row_part.Tie as tie
@@ -15,7 +15,7 @@ small : (c : tie.After-entry-count) → c .before .before .before .before .befor
 small c = omega arith
 
 entries : (c : tie.After-entry-count) → c .entry-count .result ≤ 65025
-entries c = rw (c .entry-count .ensures) (entries-most (c .before .before .before .before .before .args .settings) (small c))
+entries c = rw (c .entry-count .ensures) (byte-entries-most (c .before .before .before .before .before .args .settings) (small c))
 
 width : (c : tie.After-entry-count) → c .before .row-entries .result ≤ 255
 width c = rw (c .before .row-entries .ensures) (row-entries-most (c .before .before .before .before .before .args .settings) (small c))

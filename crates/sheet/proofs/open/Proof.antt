@@ -2,14 +2,14 @@
 -- Assumes nothing.
 use borrow.Author.Needs.{needs}
 use mathlib.Core.Path.{_≡_, sym, ap, _∙_}
-use Rattle.ensemble.specs.Answers.{rowOf}
+use Rattle.ensemble.specs.Answers.{checkOf}
 use Rattle.model.specs.RoundSheet.{settingsAt}
 use Rattle.model.specs.Refusals.{firstOf, sheetChecks, entryChecks}
-use Rattle.inspection.specs.Answers.{openedAs}
+use Rattle.inspection.specs.Answers.{openedOf}
 use Rattle.inspection.proofs.Body.{body-entries}
 use Rattle.sheets.proofs.Outcomes.{refused-some}
 use Rattle.sheets.proofs.Inspection.{Inspected, inspected}
-use Rattle.sheets.proofs.Opening.{opening-refused, short-marks, short-readings, opening-entries-refused, opening-passes}
+use Rattle.sheets.proofs.Opening.{reading-refused, short-marks, short-readings, opening-entries-refused, opening-passes}
 use Rattle.sheet.proofs.open.Statement.{statement}
 use Rattle.sheet.proofs.open.Tie as tie
 
@@ -23,12 +23,12 @@ seen c =
     let settings = c .before .before .settings in
     let inspect = c .before .before .before .before .inspect in
     inspected (a .sheet .now) (settings .given .0 .0)
-    (sym (inspect .ensures) ∙ ap openedAs (settings .given .1))
+    (sym (inspect .ensures) ∙ ap openedOf (settings .given .1))
 
 -- what `check_entries` answered, of the sheet's own entries
 checked :
     (c : tie.After-check-entries)
-    → rowOf (c .check-entries .result)
+    → checkOf (c .check-entries .result)
     ≡ firstOf (entryChecks (c .before .before .before .before .before .before .before .before .before .args .sheet .now))
 checked c =
     c .check-entries .ensures
@@ -75,9 +75,9 @@ returns-3 : tie.Need-returns-3
 returns-3 c =
     let a = c .before .before .before .before .before .args in
     let inspect = c .before .before .before .inspect in
-    opening-refused (a .sheet .now) (a .marks) (a .readings) (c .before .r .given .0 .0)
+    reading-refused (a .sheet .now) (a .marks) (a .readings) (c .before .r .given .0 .0)
     (refused-some (firstOf (sheetChecks (a .sheet .now))) (settingsAt (a .sheet .now)) (c .before .r .given .0 .0)
-    (sym (inspect .ensures) ∙ ap openedAs (c .before .r .given .1)))
+    (sym (inspect .ensures) ∙ ap openedOf (c .before .r .given .1)))
 
 returns-4 : tie.Need-returns-4
 returns-4 c =
@@ -88,7 +88,7 @@ returns-4 c =
     (seen (c .before .before .before .before .before .before))
     (entry-count .result) (entry-count .ensures) (c .before .before .before .before .before .if1 .left) (c .before .before .before .before .if2 .left)
     (c .before .r2 .given .0 .0)
-    (sym (checked (c .before .before .before)) ∙ ap rowOf (c .before .r2 .given .1))
+    (sym (checked (c .before .before .before)) ∙ ap checkOf (c .before .r2 .given .1))
 
 returns-5 : tie.Need-returns-5
 returns-5 c =
@@ -98,7 +98,7 @@ returns-5 c =
     opening-passes (a .sheet .now) (a .marks) (a .readings) (settings .given .0 .0)
     (seen (c .before .before .before .before .before))
     (entry-count .result) (entry-count .ensures) (c .before .before .before .before .if1 .left) (c .before .before .before .if2 .left)
-    (sym (checked (c .before .before)) ∙ ap rowOf (c .enum-told .given .1))
+    (sym (checked (c .before .before)) ∙ ap checkOf (c .enum-told .given .1))
 
 pub open-spec : {M : Type 1} → statement M
 open-spec =

@@ -8,9 +8,9 @@ use native.Mathlib.Omega.{arith}
 use lib.ListN.{length}
 use Rattle.arithmetic.specs.Writing.{overwrite}
 use Rattle.model.specs.RoundSheet.{settingsAt, entryCount}
-use Rattle.inspection.specs.Answers.{openedAs}
-use Rattle.sheets.specs.Entries.{readRows}
-use Rattle.sheets.proofs.Outcomes.{refused-some, read-rows, read-refuses}
+use Rattle.inspection.specs.Answers.{openedOf}
+use Rattle.model.specs.Refusals.{firstOf, readChecks}
+use Rattle.sheets.proofs.Outcomes.{refused-some, read-refuses}
 use Rattle.sheets.proofs.Opening.{Openable, openable, reader-fills}
 use Rattle.sheets.proofs.Parts.{marksPart, length-marksPart, marksPart-table}
 use Rattle.sheets.proofs.Storing.{copy-overwrites}
@@ -29,7 +29,7 @@ seen c =
     let settings = c .before .before .settings in
     let opened = c .before .before .before .before .open in
     openable (a .sheet .now) (length (a .marks .now)) (length (a .readings .now)) (settings .given .0 .0)
-    (sym (opened .ensures) ∙ ap openedAs (settings .given .1))
+    (sym (opened .ensures) ∙ ap openedOf (settings .given .1))
 
 sheet-long :
     (c : tie.After-entry-count)
@@ -110,11 +110,10 @@ returns c =
     let opened = c .before .before .before .open in
     sym
     (read-refuses (a .sheet .now) (a .marks .now) (a .readings .now) (c .before .r .given .0 .0)
-    (read-rows (a .sheet .now) (a .marks .now) (a .readings .now)
-    ∙ refused-some
-    (readRows (a .sheet .now) (length (a .marks .now)) (length (a .readings .now)))
+    (refused-some
+    (firstOf (readChecks (a .sheet .now) (length (a .marks .now)) (length (a .readings .now))))
     (settingsAt (a .sheet .now)) (c .before .r .given .0 .0)
-    (sym (opened .ensures) ∙ ap openedAs (c .before .r .given .1))))
+    (sym (opened .ensures) ∙ ap openedOf (c .before .r .given .1))))
 
 same-length : tie.Need-same-length
 same-length c = search needs

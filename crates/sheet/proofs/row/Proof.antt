@@ -4,7 +4,7 @@ use borrow.Author.Needs.{needs}
 use mathlib.Core.Path.{sym, ap, _∙_}
 use Rattle.model.specs.RoundSheet.{settingsAt}
 use Rattle.model.specs.Refusals.{firstOf, rowChecks}
-use Rattle.inspection.specs.Answers.{openedAs}
+use Rattle.inspection.specs.Answers.{openedOf}
 use Rattle.sheets.proofs.Outcomes.{refused-some, row-refused}
 use Rattle.sheets.proofs.Inspection.{validated}
 use Rattle.rows.proofs.Parts.{part-shown}
@@ -28,7 +28,7 @@ returns c =
     sym
     (row-refused (c .before .before .before .before .before .args .sheet .now) (c .before .before .before .before .before .args .r) (c .before .enum-told .given .0 .0)
     (refused-some (firstOf (rowChecks (c .before .before .before .before .before .args .sheet .now))) (settingsAt (c .before .before .before .before .before .args .sheet .now)) (c .before .enum-told .given .0 .0)
-    (sym (c .before .before .before .validate .ensures) ∙ ap openedAs (c .before .enum-told .given .1))))
+    (sym (c .before .before .before .validate .ensures) ∙ ap openedOf (c .before .enum-told .given .1))))
 
 row-part-requires : tie.Need-row-part-requires
 row-part-requires c κs = search needs
@@ -37,7 +37,7 @@ returns-2 : tie.Need-returns-2
 returns-2 c =
     c .row-part .ensures
     ∙ part-shown (c .before .before .before .before .before .before .args .sheet .now) (c .before .before .settings .given .0 .0)
-    (validated (c .before .before .before .before .before .before .args .sheet .now) (c .before .before .settings .given .0 .0) (sym (c .before .before .before .before .validate .ensures) ∙ ap openedAs (c .before .before .settings .given .1)))
+    (validated (c .before .before .before .before .before .before .args .sheet .now) (c .before .before .settings .given .0 .0) (sym (c .before .before .before .before .validate .ensures) ∙ ap openedOf (c .before .before .settings .given .1)))
     (c .before .before .before .before .before .before .args .r)
 
 pub row-spec : {M : Type 1} → statement M

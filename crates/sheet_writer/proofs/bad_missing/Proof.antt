@@ -9,8 +9,8 @@ use lib.ListN.{length, getD}
 use mir.Syntax.{w32}
 use mir.Val.{ofZ}
 use Rattle.arithmetic.specs.Counting.{lowest}
-use Rattle.model.specs.RoundSheet.{byte}
-use Rattle.sheets.specs.Entries.{notZero}
+use Rattle.model.specs.RoundSheet.{byte, bitsIn}
+use Rattle.model.specs.Refusals.{notZero}
 use Rattle.sheets.proofs.Readings.{bits-again}
 use Rattle.sheets.proofs.Searching.{search-none, search-more, search-found, search-ended}
 use Rattle.sheet_writer.proofs.bad_missing.Statement.{statement}
@@ -18,7 +18,7 @@ use Rattle.sheet_writer.proofs.bad_missing.Tie as tie
 
 abbrev Inv-entries : tie.InvT-entries
 Inv-entries marks readings e₀ e =
-    (e ≤ length marks) × (lowest (λ i. notZero (byte marks i) (ofZ w32 (getD readings i (pos 0)))) e ≡ none)
+    (e ≤ length marks) × (lowest (λ i. notZero (byte marks i) (bitsIn readings i)) e ≡ none)
 
 abbrev μ-entries : tie.MeasureT-entries
 μ-entries marks readings e₀ e = length marks - e
@@ -27,7 +27,7 @@ entries-holds : tie.Need-entries-holds Inv-entries μ-entries
 entries-holds c = (
   omega arith,
   search-none
-      (λ i. notZero (byte (c .before .args .marks .now) i) (ofZ w32 (getD (c .before .args .readings .now) i (pos 0)))),
+      (λ i. notZero (byte (c .before .args .marks .now) i) (bitsIn (c .before .args .readings .now) i)),
 )
 
 shared-slice-read-not-zero : tie.Need-shared-slice-read-not-zero Inv-entries μ-entries
@@ -48,7 +48,7 @@ returns c =
     let entries = c .before .before .before .before .before .entries in
     let not-zero-arg = c .before .before .not-zero-arg in
     sym
-    (search-found (λ i. notZero (byte (a .marks .now) i) (ofZ w32 (getD (a .readings .now) i (pos 0))))
+    (search-found (λ i. notZero (byte (a .marks .now) i) (bitsIn (a .readings .now) i))
     (length (a .marks .now)) (entries .e) (omega arith) (entries .inv .1)
     (ap (λ (z : ℤ). notZero (byte (a .marks .now) (entries .e)) (ofZ w32 z))
     (sym (bits-again (getD (a .readings .now) (entries .e) (pos 0)) (not-zero-arg .given)))
@@ -66,7 +66,7 @@ entries-again c =
     let entries = c .before .before .before .before .before .entries in
     let not-zero-arg = c .before .before .not-zero-arg in (
       omega arith,
-      search-more (λ i. notZero (byte (a .marks .now) i) (ofZ w32 (getD (a .readings .now) i (pos 0)))) (entries .e)
+      search-more (λ i. notZero (byte (a .marks .now) i) (bitsIn (a .readings .now) i)) (entries .e)
           (entries .inv .1) (ap (λ (z : ℤ). notZero (byte (a .marks .now) (entries .e)) (ofZ w32 z))
           (sym (bits-again (getD (a .readings .now) (entries .e) (pos 0)) (not-zero-arg .given)))
           ∙ sym (c .before .not-zero .ensures) ∙ c .if1 .left),
@@ -76,7 +76,7 @@ returns-2 : tie.Need-returns-2 Inv-entries μ-entries
 returns-2 c =
     let a = c .before .before .before .args in
     sym
-    (search-ended (λ i. notZero (byte (a .marks .now) i) (ofZ w32 (getD (a .readings .now) i (pos 0))))
+    (search-ended (λ i. notZero (byte (a .marks .now) i) (bitsIn (a .readings .now) i))
     (length (a .marks .now)) (c .before .entries .e) (c .before .entries .inv .0) (c .entries-test .left)
     (c .before .entries .inv .1))
 

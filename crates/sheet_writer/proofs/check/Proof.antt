@@ -4,7 +4,7 @@ use borrow.Author.Needs.{needs}
 use mathlib.Core.Option.{none}
 use mathlib.Core.Path.{_≡_, sym, ap, _∙_}
 use native.Mathlib.Omega.{arith}
-use Rattle.ensemble.specs.Answers.{rowOf}
+use Rattle.ensemble.specs.Answers.{checkOf}
 use Rattle.model.specs.Refusals.{firstOf, settingsChecks}
 use Rattle.refusals.proofs.Limits.{limits, entries-most}
 use Rattle.sheets.proofs.Filling.{writing-refused, marks-length-refused, readings-length-refused, room-refused, arrays-decide}
@@ -17,7 +17,7 @@ passed :
     → firstOf (settingsChecks (c .before .before .before .before .before .args .settings)) ≡ none
 passed c =
     let screen = c .before .before .before .screen in
-    sym (screen .ensures) ∙ ap rowOf (c .before .enum-told .given .1)
+    sym (screen .ensures) ∙ ap checkOf (c .before .enum-told .given .1)
 
 screen-requires : tie.Need-screen-requires
 screen-requires c κs = search needs
@@ -71,7 +71,7 @@ returns-4 c =
     let a = c .before .before .before .before .before .args in
     let screen = c .before .before .before .screen in
     writing-refused (a .settings) (a .marks .now) (a .readings .now) (a .room) (c .before .r .given .0 .0)
-    (sym (screen .ensures) ∙ ap rowOf (c .before .r .given .1))
+    (sym (screen .ensures) ∙ ap checkOf (c .before .r .given .1))
 
 returns-5 : tie.Need-returns-5
 returns-5 c =

@@ -9,9 +9,9 @@ use lib.ListN.{length, getD}
 use mir.Syntax.{w32}
 use mir.Val.{ofZ}
 use Rattle.arithmetic.proofs.Counting.{lowest-found}
-use Rattle.model.specs.RoundSheet.{byte}
-use Rattle.entries.specs.Answers.{foundAs}
-use Rattle.sheets.specs.Entries.{notZero}
+use Rattle.model.specs.RoundSheet.{byte, bitsIn}
+use Rattle.entries.specs.Answers.{foundOf}
+use Rattle.model.specs.Refusals.{notZero}
 use Rattle.sheets.proofs.Filling.{array-mark-refused, array-missing-refused, arrays-pass}
 use Rattle.sheet_writer.proofs.check_arrays.Statement.{statement}
 use Rattle.sheet_writer.proofs.check_arrays.Tie as tie
@@ -27,7 +27,7 @@ cast-t7 c =
     let a = c .before .before .before .before .before .args in
     let bad-mark = c .before .before .before .bad-mark in
     let small = lowest-found (λ i. ltb 1 (byte (a .marks .now) i)) (length (a .marks .now))
-    (c .before .e .given .0 .0) (sym (bad-mark .ensures) ∙ ap foundAs (c .before .e .given .1)) .inRange in
+    (c .before .e .given .0 .0) (sym (bad-mark .ensures) ∙ ap foundOf (c .before .e .given .1)) .inRange in
     omega arith
 
 enum-told : tie.Need-enum-told
@@ -43,9 +43,9 @@ cast-t11 : tie.Need-cast-t11
 cast-t11 c =
     let a = c .before .before .before .before .before .before .before .before .args in
     let bad-missing = c .before .before .before .bad-missing in
-    let small = lowest-found (λ i. notZero (byte (a .marks .now) i) (ofZ w32 (getD (a .readings .now) i (pos 0))))
+    let small = lowest-found (λ i. notZero (byte (a .marks .now) i) (bitsIn (a .readings .now) i))
     (length (a .marks .now)) (c .before .e2 .given .0 .0)
-    (sym (bad-missing .ensures) ∙ ap foundAs (c .before .e2 .given .1)) .inRange in
+    (sym (bad-missing .ensures) ∙ ap foundOf (c .before .e2 .given .1)) .inRange in
     omega arith
 
 enum-told-2 : tie.Need-enum-told-2
@@ -56,7 +56,7 @@ returns c =
     let a = c .before .before .before .before .before .args in
     let bad-mark = c .before .before .before .bad-mark in
     array-mark-refused (a .marks .now) (a .readings .now) (length (a .marks .now)) (c .before .e .given .0 .0)
-    (sym (bad-mark .ensures) ∙ ap foundAs (c .before .e .given .1))
+    (sym (bad-mark .ensures) ∙ ap foundOf (c .before .e .given .1))
 
 returns-2 : tie.Need-returns-2
 returns-2 c =
@@ -65,8 +65,8 @@ returns-2 c =
     let enum-told = c .before .before .before .before .enum-told in
     let bad-missing = c .before .before .before .bad-missing in
     array-missing-refused (a .marks .now) (a .readings .now) (length (a .marks .now))
-    (sym (bad-mark .ensures) ∙ ap foundAs (enum-told .given .1))
-    (c .before .e2 .given .0 .0) (sym (bad-missing .ensures) ∙ ap foundAs (c .before .e2 .given .1))
+    (sym (bad-mark .ensures) ∙ ap foundOf (enum-told .given .1))
+    (c .before .e2 .given .0 .0) (sym (bad-missing .ensures) ∙ ap foundOf (c .before .e2 .given .1))
 
 returns-3 : tie.Need-returns-3
 returns-3 c =
@@ -75,8 +75,8 @@ returns-3 c =
     let enum-told = c .before .before .before .enum-told in
     let bad-missing = c .before .before .bad-missing in
     arrays-pass (a .marks .now) (a .readings .now) (length (a .marks .now))
-    (sym (bad-mark .ensures) ∙ ap foundAs (enum-told .given .1))
-    (sym (bad-missing .ensures) ∙ ap foundAs (c .enum-told2 .given .1))
+    (sym (bad-mark .ensures) ∙ ap foundOf (enum-told .given .1))
+    (sym (bad-missing .ensures) ∙ ap foundOf (c .enum-told2 .given .1))
 
 pub check-arrays-spec : {M : Type 1} → statement M
 check-arrays-spec =

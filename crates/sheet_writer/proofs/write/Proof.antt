@@ -7,10 +7,10 @@ use mathlib.Core.Path.{_≡_, sym, ap, _∙_}
 use Prim.Native.Nat.{_-_}
 use native.Mathlib.Omega.{arith}
 use lib.ListN.{length, take, drop}
-use Rattle.ensemble.specs.Answers.{rowOf}
+use Rattle.ensemble.specs.Answers.{checkOf}
 use Rattle.model.specs.RoundSheet.{readingBytes, sizeBytes}
-use Rattle.sheets.specs.Entries.{writeRows}
-use Rattle.sheets.proofs.Outcomes.{write-rows, write-refuses}
+use Rattle.model.specs.Refusals.{firstOf, writeChecks}
+use Rattle.sheets.proofs.Outcomes.{write-refuses}
 use Rattle.sheets.proofs.Written.{length-sizeBytes}
 use Rattle.sheets.proofs.Storing.{length-tail, tail-written}
 use Rattle.sheets.proofs.Filling.{Writable, writable, writer-fills}
@@ -18,15 +18,15 @@ use Rattle.sheet_writer.proofs.write.Statement.{statement}
 use Rattle.sheet_writer.proofs.write.Tie as tie
 
 -- no check refused
-rows :
+checks :
     (c : tie.After-enum-told)
-    → writeRows (c .before .before .before .before .before .args .settings)
+    → firstOf (writeChecks (c .before .before .before .before .before .args .settings)
     (c .before .before .before .before .before .args .marks .now)
     (c .before .before .before .before .before .args .readings .now)
-    (length (c .before .before .before .before .before .args .buffer .now)) ≡ none
-rows c =
+    (length (c .before .before .before .before .before .args .buffer .now))) ≡ none
+checks c =
     let check = c .before .before .check in
-    sym (check .ensures) ∙ ap rowOf (c .enum-told .given .1)
+    sym (check .ensures) ∙ ap checkOf (c .enum-told .given .1)
 
 seen :
     (c : tie.After-enum-told)
@@ -36,7 +36,7 @@ seen :
     (length (c .before .before .before .before .before .args .buffer .now))
 seen c =
     let a = c .before .before .before .before .before .args in
-    writable (a .settings) (a .marks .now) (a .readings .now) (length (a .buffer .now)) (rows c)
+    writable (a .settings) (a .marks .now) (a .readings .now) (length (a .buffer .now)) (checks c)
 
 check-requires : tie.Need-check-requires
 check-requires c κs = search needs
@@ -114,9 +114,7 @@ returns c =
     let check = c .before .before .before .check in
     sym
     (write-refuses (a .settings) (a .marks .now) (a .readings .now) (a .buffer .now) (c .before .r .given .0 .0)
-    (write-rows (a .settings) (a .marks .now) (a .readings .now) (a .buffer .now)
-    ∙ sym (check .ensures)
-    ∙ ap rowOf (c .before .r .given .1)))
+    (sym (check .ensures) ∙ ap checkOf (c .before .r .given .1)))
 
 same-length : tie.Need-same-length
 same-length c = search needs
@@ -131,7 +129,7 @@ returns-2 c =
     (take 8 (put-sizes .last .1 .0)
     ++ (put-entries .last .1 .1 .0
     ++ drop (length (put-sizes .last .1 .0) - 8) (drop 8 (put-sizes .last .1 .0))))
-    (rows (c .before .before .before .before .before .before .before .before))
+    (checks (c .before .before .before .before .before .before .before .before))
     (seen (c .before .before .before .before .before .before .before .before) .marksLong)
     (tail-written (sizeBytes (a .settings)) ((a .marks .now) ++ readingBytes (a .readings .now)) (a .buffer .now)
     (put-sizes .last .1 .0) (put-entries .last .1 .1 .0) 8

@@ -28,14 +28,14 @@ refused-requires c κs = search needs
 returns : tie.Need-returns
 returns c =
     let given = c .before .before .before .before .planned .given in
-    planning-granted (given .0 .0 .rounds) (c .before .sizes-of .result) (planner.verdictOf (c .before .before .before .before .before .before .args .planned)) (planner.planOf (given .0 .0))
-    refl (c .before .sizes-of .ensures) (sym (ap planner.verdictOf (given .1)))
+    planning-granted (given .0 .0 .rounds) (c .before .sizes-of .result) (planner.plannedOf (c .before .before .before .before .before .before .args .planned)) (planner.planOf (given .0 .0))
+    refl (c .before .sizes-of .ensures) (sym (ap planner.plannedOf (given .1)))
 
 returns-2 : tie.Need-returns-2
 returns-2 c =
     let given = c .before .before .before .planned2 .given in
-    planning-refused (c .refused .result) (c .before .no-sizes .result) (planner.verdictOf (c .before .before .before .before .before .args .planned)) (given .0 .0)
-    (c .refused .ensures) (c .before .no-sizes .ensures) (sym (ap planner.verdictOf (given .1)))
+    planning-refused (c .refused .result) (c .before .no-sizes .result) (planner.plannedOf (c .before .before .before .before .before .args .planned)) (given .0 .0)
+    (c .refused .ensures) (c .before .no-sizes .ensures) (sym (ap planner.plannedOf (given .1)))
 
 pub hand-over-spec : {M : Type 1} → statement M
 hand-over-spec =

@@ -3,7 +3,7 @@
 use borrow.Author.Needs.{needs}
 use mathlib.Core.Path.{sym, ap, _∙_}
 use Rattle.model.specs.Calls.{read}
-use Rattle.inspection.specs.Answers.{openedAs}
+use Rattle.inspection.specs.Answers.{openedOf}
 use Rattle.tohiranga.proofs.Handing.{opening-granted, opening-refused}
 use Rattle.tohiranga.proofs.tohiranga_read.Statement.{statement}
 use Rattle.tohiranga.proofs.tohiranga_read.Tie as tie
@@ -42,7 +42,7 @@ returns c =
     let given = c .before .before .before .settings .given in (
       opening-granted (c .before .entry-count .result) (c .sizes-of .result) (read (a .sheet .now) (a .marks .now) (a .readings .now) .verdict) (given .0 .0)
           (c .before .entry-count .ensures) (c .sizes-of .ensures)
-          (sym (ap openedAs (given .1)) ∙ ap (λ w. w .verdict) (call .ensures)),
+          (sym (ap openedOf (given .1)) ∙ ap (λ w. w .verdict) (call .ensures)),
       (ap (λ w. w .marks) (call .ensures), ap (λ w. w .readings) (call .ensures)),
     )
 
@@ -59,7 +59,7 @@ returns-2 c =
     let given = c .before .before .before .refusal .given in (
       opening-refused (c .refused .result) (c .before .no-sizes .result) (read (a .sheet .now) (a .marks .now) (a .readings .now) .verdict) (given .0 .0)
           (c .refused .ensures) (c .before .no-sizes .ensures)
-          (sym (ap openedAs (given .1)) ∙ ap (λ w. w .verdict) (call .ensures)),
+          (sym (ap openedOf (given .1)) ∙ ap (λ w. w .verdict) (call .ensures)),
       (ap (λ w. w .marks) (call .ensures), ap (λ w. w .readings) (call .ensures)),
     )
 

@@ -6,7 +6,7 @@ use mathlib.Core.Path.{sym, ap, _∙_}
 use native.Mathlib.Omega.{arith}
 use Rattle.model.specs.RoundSheet.{settingsAt}
 use Rattle.model.specs.Refusals.{firstOf, rowChecks}
-use Rattle.inspection.specs.Answers.{openedAs}
+use Rattle.inspection.specs.Answers.{openedOf}
 use Rattle.sheets.proofs.Outcomes.{refused-some, row-refused}
 use Rattle.sheets.proofs.Inspection.{Validated, validated}
 use Rattle.sheets.proofs.Shown.{row-empty}
@@ -18,7 +18,7 @@ use Rattle.tohiranga.proofs.tohiranga_row.Tie as tie
 seen : (c : tie.After-entry-count) → Validated (c .before .before .before .before .before .before .before .before .before .args .sheet .now) (c .before .before .before .before .before .settings .given .0 .0)
 seen c =
     validated (c .before .before .before .before .before .before .before .before .before .args .sheet .now) (c .before .before .before .before .before .settings .given .0 .0)
-    (sym (c .before .before .before .before .before .before .before .validate .ensures) ∙ ap openedAs (c .before .before .before .before .before .settings .given .1))
+    (sym (c .before .before .before .before .before .before .before .validate .ensures) ∙ ap openedOf (c .before .before .before .before .before .settings .given .1))
 
 validate-requires : tie.Need-validate-requires
 validate-requires c κs = search needs
@@ -36,7 +36,7 @@ returns c =
       sym
           (row-refused (a .sheet .now) (a .cabinet) (given .0 .0)
           (refused-some (firstOf (rowChecks (a .sheet .now))) (settingsAt (a .sheet .now)) (given .0 .0)
-          (sym (c .before .before .validate .ensures) ∙ ap openedAs (given .1)))),
+          (sym (c .before .before .validate .ensures) ∙ ap openedOf (given .1)))),
       omega arith,
     )
 
@@ -48,7 +48,7 @@ returns-2 c =
     let a = c .before .before .before .before .before .before .before .args in
     let given = c .before .before .before .settings .given in (
       row-empty (a .sheet .now) (given .0 .0)
-          (validated (a .sheet .now) (given .0 .0) (sym (c .before .before .before .before .before .validate .ensures) ∙ ap openedAs (given .1)))
+          (validated (a .sheet .now) (given .0 .0) (sym (c .before .before .before .before .before .validate .ensures) ∙ ap openedOf (given .1)))
           (a .cabinet) (c .if1 .taken),
       omega arith,
     )

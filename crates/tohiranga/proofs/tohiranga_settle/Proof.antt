@@ -2,7 +2,7 @@
 -- Assumes nothing.
 use borrow.Author.Needs.{needs}
 use mathlib.Core.Path.{sym, ap, _∙_}
-use Rattle.round.specs.Answers.{verdictOf}
+use Rattle.round.specs.Answers.{settledOf}
 use Rattle.tohiranga.specs.Answers.{packed}
 use Rattle.tohiranga.proofs.tohiranga_settle.Statement.{statement}
 use Rattle.tohiranga.proofs.tohiranga_settle.Tie as tie
@@ -25,7 +25,7 @@ same-length c = search needs
 returns : tie.Need-returns
 returns c =
     let call = c .before .before .before .before .before .settle in
-    let size = sym (ap (λ r. packed (verdictOf r)) (c .before .size .given .1)) in
+    let size = sym (ap (λ r. packed (settledOf r)) (c .before .size .given .1)) in
     (size ∙ ap (λ w. packed (w .verdict)) (call .ensures), ap (λ w. w .buffer) (call .ensures))
 
 same-length-2 : tie.Need-same-length-2
@@ -34,7 +34,7 @@ same-length-2 c = search needs
 returns-2 : tie.Need-returns-2
 returns-2 c =
     let call = c .before .before .before .before .before .before .settle in
-    let refusal = sym (ap (λ r. packed (verdictOf r)) (c .before .before .refusal .given .1)) in
+    let refusal = sym (ap (λ r. packed (settledOf r)) (c .before .before .refusal .given .1)) in
     (c .refused .ensures ∙ refusal ∙ ap (λ w. packed (w .verdict)) (call .ensures), ap (λ w. w .buffer) (call .ensures))
 
 pub tohiranga-settle-spec : {M : Type 1} → statement M

@@ -4,7 +4,7 @@ use borrow.Author.Needs.{needs}
 use mathlib.Core.Path.{sym, ap, _∙_}
 use Rattle.model.specs.declared.Settings.{Settings}
 use Rattle.model.specs.Calls.{write}
-use Rattle.sheet_writer.specs.Answers.{filledAs}
+use Rattle.sheet_writer.specs.Answers.{filledOf}
 use Rattle.tohiranga.specs.Answers.{packed}
 use Rattle.tohiranga.proofs.tohiranga_write.Statement.{statement}
 use Rattle.tohiranga.proofs.tohiranga_write.Tie as tie
@@ -34,7 +34,7 @@ returns c =
     let written =
     call .ensures
     ∙ ap (λ (d : Settings). write d (a .marks .now) (a .readings .now) (a .sheet .now)) (c .before .before .before .before .before .before .before .settings-of .ensures) in
-    let size = sym (ap (λ r. packed (filledAs r)) (c .before .size .given .1)) in
+    let size = sym (ap (λ r. packed (filledOf r)) (c .before .size .given .1)) in
     (size ∙ ap (λ w. packed (w .verdict)) written, ap (λ w. w .buffer) written)
 
 same-length-2 : tie.Need-same-length-2
@@ -47,7 +47,7 @@ returns-2 c =
     let written =
     call .ensures
     ∙ ap (λ (d : Settings). write d (a .marks .now) (a .readings .now) (a .sheet .now)) (c .before .before .before .before .before .before .before .before .settings-of .ensures) in
-    let refusal = sym (ap (λ r. packed (filledAs r)) (c .before .before .refusal .given .1)) in
+    let refusal = sym (ap (λ r. packed (filledOf r)) (c .before .before .refusal .given .1)) in
     (c .refused .ensures ∙ refusal ∙ ap (λ w. packed (w .verdict)) written, ap (λ w. w .buffer) written)
 
 pub tohiranga-write-spec : {M : Type 1} → statement M

@@ -1,26 +1,26 @@
--- `planner::Plan::step` meets its contract: the rows decide, and where none refuses the plan one round on is granted.
+-- `planner::Plan::step` meets its contract: the checks decide, and where none refuses the plan one round on is granted.
 -- Assumes nothing.
 use borrow.Author.Needs.{needs}
 use mathlib.Core.Option.{none}
 use mathlib.Core.Path.{_≡_, sym, ap, _∙_}
 use Rattle.model.specs.Refusals.{firstOf, stepChecks}
 use Rattle.model.specs.Calls.{granted}
-use Rattle.ensemble.specs.Answers.{rowOf}
+use Rattle.ensemble.specs.Answers.{checkOf}
 use Rattle.refusals.proofs.Limits.{limits-pass}
 use Rattle.planning.proofs.Checks.{none-may-step}
-use Rattle.planning.proofs.Steps.{step-by-row}
+use Rattle.planning.proofs.Steps.{step-by-check}
 use Rattle.planner.specs.Answers.{planOf}
-use Rattle.planner.proofs.Rows.{step-row}
+use Rattle.planner.proofs.Checks.{step-check}
 use Rattle.planner.proofs.Plan.step.Statement.{statement}
 use Rattle.planner.proofs.Plan.step.Tie as tie
 
-row : (c : tie.After-check-all)
-    → firstOf (stepChecks (planOf (c .before .before .before .args .self))) ≡ rowOf (c .check-all .result)
-row c = step-row (planOf (c .before .before .before .args .self)) (c .check-all .ensures) (c .before .bad-step .ensures)
+check : (c : tie.After-check-all)
+    → firstOf (stepChecks (planOf (c .before .before .before .args .self))) ≡ checkOf (c .check-all .result)
+check c = step-check (planOf (c .before .before .before .args .self)) (c .check-all .ensures) (c .before .bad-step .ensures)
 
 passes : (c : tie.After-enum-told)
     → firstOf (stepChecks (planOf (c .before .before .before .before .before .args .self))) ≡ none
-passes c = row (c .before .before) ∙ ap rowOf (c .enum-told .given .1)
+passes c = check (c .before .before) ∙ ap checkOf (c .enum-told .given .1)
 
 bad-step-requires : tie.Need-bad-step-requires
 bad-step-requires c κs = search needs
@@ -43,13 +43,13 @@ advance-requires c κs =
 returns : tie.Need-returns
 returns c =
     sym
-    (step-by-row (planOf (c .before .before .before .before .before .before .args .self))
-    (row (c .before .before .before) ∙ ap rowOf (c .before .refusal .given .1)))
+    (step-by-check (planOf (c .before .before .before .before .before .before .args .self))
+    (check (c .before .before .before) ∙ ap checkOf (c .before .refusal .given .1)))
 
 returns-2 : tie.Need-returns-2
 returns-2 c =
     ap granted (c .advance .ensures)
-    ∙ sym (step-by-row (planOf (c .before .before .before .before .before .before .args .self)) (passes (c .before)))
+    ∙ sym (step-by-check (planOf (c .before .before .before .before .before .before .args .self)) (passes (c .before)))
 
 pub step-spec : {M : Type 1} → statement M
 step-spec =

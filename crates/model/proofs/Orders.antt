@@ -1,0 +1,108 @@
+-- Where two checks refuse at once the earlier one stands: for each pair of neighbours in the table of refusals a call that both refuse, and
+-- the refusal that it gets. The checker computes each.
+-- Assumes nothing.
+use mathlib.Core.List.{List, [], _∷_}
+use mathlib.Core.Option.{some}
+use mathlib.Core.Path.{_≡_, refl}
+use Prim.Native.Nat.{ℕ}
+use lib.IntN.{ℤ, pos}
+use Rattle.arithmetic.specs.Counting.{count, anyBelow, lowest}
+use Rattle.model.specs.declared.Settings.{Settings}
+use Rattle.model.specs.RoundSheet.{fca, median, word, entryCount, entryAt, bytes4, readingBytes, sizeBytes, sheetBytes}
+use Rattle.model.specs.Steps.{readingsOf, accepted, acceptedAt, roundOf, roundAt}
+use Rattle.model.specs.Planner.{ceilDiv, windowFactor, nextWindow, growth, advance, after}
+use Rattle.model.specs.Refusals.{Check, refusal, firstOf, tooShort, badCabinets, badFaults, badMethod, badWindow, badLength, noRoom, badMark}
+use Rattle.model.specs.Refusals.{badMissing, tooManyFaults, badPlan, targetMissed, settingsChecks, sheetChecks, entryChecks}
+use Rattle.model.specs.Refusals.{readChecks, writeChecks, rowChecks, settleChecks, planChecks, stepChecks, targetChecks}
+
+-- N and m with FCA and median, a rule and a window
+abbrev with : ℕ → ℕ → ℕ → ℕ → Settings
+with n m rule window = record { n = n; m = m; rule = rule; estimator = median; window = window }
+
+-- a sheet of one cabinet or two, with these marks and readings
+abbrev one : ℕ → ℕ → List ℕ
+one mark reading = sheetBytes (with 1 0 fca 0) (mark ∷ []) (pos reading ∷ [])
+
+abbrev two : ℕ → ℕ → ℕ → ℕ → List ℕ
+two m0 m1 r0 r1 = sheetBytes (with 2 0 fca 0) (m0 ∷ m1 ∷ []) (pos r0 ∷ pos r1 ∷ [])
+
+-- a plan for four cabinets
+abbrev fourth : ℕ → Settings
+fourth window = with 4 1 fca window
+
+-- settling: 1 before 2, and so on; with 8 and 9 entry 0 is missing and not zero, and entry 1 has the mark 2
+unfoldable pub settleFirsts : List Check
+settleFirsts =
+    firstOf (settleChecks [] 0)
+    ∷ firstOf (settleChecks (sheetBytes (with 0 1 2 0) [] []) 0)
+    ∷ firstOf (settleChecks (sheetBytes (with 3 1 2 0) [] []) 0)
+    ∷ firstOf (settleChecks (sheetBytes (with 4 1 2 1_000_001) [] []) 0)
+    ∷ firstOf (settleChecks (sheetBytes (with 4 1 fca 1_000_001) [] []) 0)
+    ∷ firstOf (settleChecks (sheetBytes (with 4 1 fca 0) [] []) 0)
+    ∷ firstOf (settleChecks (one 2 0) 14)
+    ∷ firstOf (settleChecks (two 0 2 5 0) 20)
+    ∷ firstOf (settleChecks (two 0 0 0 5) 20)
+    ∷ firstOf (settleChecks (one 0 0) 15)
+    ∷ []
+
+unfoldable pub settleWanted : List Check
+settleWanted =
+    some (refusal 1 0)
+    ∷ some (refusal 2 0)
+    ∷ some (refusal 3 0)
+    ∷ some (refusal 4 0)
+    ∷ some (refusal 5 0)
+    ∷ some (refusal 6 0)
+    ∷ some (refusal 7 0)
+    ∷ some (refusal 8 1)
+    ∷ some (refusal 9 1)
+    ∷ some (refusal 10 0)
+    ∷ []
+
+pub settle-order : settleFirsts ≡ settleWanted
+unfolding count anyBelow lowest word entryCount entryAt bytes4 readingBytes sizeBytes sheetBytes readingsOf accepted acceptedAt roundOf roundAt firstOf tooShort badCabinets badFaults badMethod badWindow badLength noRoom badMark badMissing tooManyFaults settingsChecks sheetChecks entryChecks settleChecks settleFirsts settleWanted
+settle-order = refl
+
+-- the reader: 6 before 7, 7 before 8, 8 before 9; the row accessor: 8 before 9; the writer: 5 before 6, 6 before 7, and so on
+unfoldable pub carryFirsts : List Check
+carryFirsts =
+    firstOf (readChecks (sheetBytes (with 1 0 fca 0) [] []) 0 0)
+    ∷ firstOf (readChecks (one 2 0) 1 0)
+    ∷ firstOf (readChecks (two 0 2 5 0) 2 2)
+    ∷ firstOf (rowChecks (two 0 2 5 0))
+    ∷ firstOf (writeChecks (with 1 0 fca 1_000_001) [] [] 0)
+    ∷ firstOf (writeChecks (with 1 0 fca 0) (1 ∷ []) [] 0)
+    ∷ firstOf (writeChecks (with 1 0 fca 0) (2 ∷ []) (pos 0 ∷ []) 12)
+    ∷ firstOf (writeChecks (with 2 0 fca 0) (0 ∷ 2 ∷ []) (pos 5 ∷ pos 0 ∷ []) 18)
+    ∷ []
+
+unfoldable pub carryWanted : List Check
+carryWanted =
+    some (refusal 6 0)
+    ∷ some (refusal 7 0)
+    ∷ some (refusal 8 1)
+    ∷ some (refusal 8 1)
+    ∷ some (refusal 5 0)
+    ∷ some (refusal 6 0)
+    ∷ some (refusal 7 0)
+    ∷ some (refusal 8 1)
+    ∷ []
+
+pub carry-order : carryFirsts ≡ carryWanted
+unfolding lowest word entryCount bytes4 readingBytes sizeBytes sheetBytes firstOf tooShort badCabinets badFaults badMethod badWindow badLength noRoom badMark badMissing settingsChecks sheetChecks entryChecks readChecks rowChecks writeChecks carryFirsts carryWanted
+carry-order = refl
+
+-- the planner and a step: 5 before 11; the count for a target: 11 before 12
+unfoldable pub planFirsts : List Check
+planFirsts =
+    firstOf (planChecks (fourth 1_000_001) 1_000_000_001 0)
+    ∷ firstOf (stepChecks (record { settings = fourth 1_000_001; accuracy = 0; rounds = 32 }))
+    ∷ firstOf (targetChecks (fourth 100) 1_000_000_001 0)
+    ∷ []
+
+unfoldable pub planWanted : List Check
+planWanted = some (refusal 5 0) ∷ some (refusal 5 0) ∷ some (refusal 11 0) ∷ []
+
+pub plan-order : planFirsts ≡ planWanted
+unfolding ceilDiv windowFactor nextWindow growth advance after firstOf badCabinets badFaults badMethod badWindow badPlan targetMissed settingsChecks planChecks stepChecks targetChecks planFirsts planWanted
+plan-order = refl

@@ -44,7 +44,7 @@ module _ (s buffer : List ℕ) (size : ℕ) (settled : Settled s buffer size) wh
   n = settingsAt s .n
 
   abbrev row : Check
-  row = firstOf (settleChecks s buffer)
+  row = firstOf (settleChecks s (length buffer))
 
   abbrev new : List ℕ
   new = answerBytes n (roundAt s)

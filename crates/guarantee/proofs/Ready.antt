@@ -20,12 +20,12 @@ use Rattle.model.specs.Ensemble.{missing, present, isPresent, ticks}
 use Rattle.model.specs.RoundSheet.{entryCount}
 use Rattle.model.specs.AnswerSheet.{answerLength}
 use Rattle.model.specs.Planner.{Plan, planFrom, advance, after, withWindow}
-use Rattle.model.specs.Refusals.{refusal, firstOf, settingsChecks, stepChecks}
+use Rattle.model.specs.Refusals.{refusal, firstOf, settingsChecks}
 use Rattle.model.specs.Calls.{Verdict, granted, refused, step}
 use Rattle.refusals.proofs.Limits.{Limits, limits-pass}
 use Rattle.planning.proofs.Checks.{none-may-start}
 use Rattle.planning.proofs.Rounds.{settings-after}
-use Rattle.planning.proofs.Steps.{start-step-passes, step-by-check}
+use Rattle.planning.proofs.Steps.{start-step-granted}
 use Rattle.planning.proofs.Windows.{passes-after}
 use Rattle.limits.proofs.Settled.{valueBy}
 use Rattle.guarantee.specs.Guarantee.{IsReading, Station, N, m, κ, Start, Sends, Allowed, State, start, entryOf}
@@ -52,7 +52,7 @@ module _ (st : Station) (begins : Start st) (j : ℕ) (now : State) (ready : Rea
       subst⁻¹ (λ (p : Plan). p .settings ≡ withWindow (st .settings) (p .settings .window)) (ready .plan)
       (settings-after j (planFrom (st .settings) (κ st)))
 
-  pub limits-hold : Limits c
+  limits-hold : Limits c
   limits-hold =
       subst Limits plan-settings
       (subst⁻¹ (λ (p : Plan). Limits (p .settings)) (ready .plan)
@@ -68,11 +68,11 @@ module _ (st : Station) (begins : Start st) (j : ℕ) (now : State) (ready : Rea
   pass : firstOf (settingsChecks c) ≡ none
   pass = limits-pass c limits-hold
 
-  pub step-granted : j < 32 → step (now .plan) ≡ granted (advance (now .plan))
-  step-granted l =
-      step-by-check (now .plan)
-      (subst⁻¹ (λ (p : Plan). firstOf (stepChecks p) ≡ none) (ready .plan)
-      (start-step-passes (st .settings) (κ st) j (begins .grants) l))
+  plan-steps : j < 32 → step (now .plan) ≡ granted (advance (now .plan))
+  unfolding after
+  plan-steps early =
+      subst⁻¹ (λ (p : Plan). step p ≡ granted (advance p)) (ready .plan)
+      (start-step-granted (st .settings) (κ st) j (begins .grants) early)
 
   module _ (x : Sends) (allowed : Allowed st x) where
     -- ---- what the cabinets read
@@ -143,10 +143,10 @@ module _ (st : Station) (begins : Start st) (j : ℕ) (now : State) (ready : Rea
     module _ (early : j < 32) where
       pub next-plan : next st now x .plan ≡ advance (now .plan)
       unfolding next
-      next-plan = rw (step-granted early)
+      next-plan = rw (plan-steps early)
 
       pub orderly : Orderly st now x
-      orderly = record { passes = λ p s. passes p; steps = step-granted early ∙ ap granted (sym next-plan) }
+      orderly = record { passes = λ p s. passes p; steps = plan-steps early ∙ ap granted (sym next-plan) }
 
       pub ready-next : Ready st (suc j) (next st now x)
       unfolding after

@@ -119,10 +119,10 @@ pub record ExactReached : Type 0 where
   pub values : heldAfter exactStation (start exactStation) exactSends 4 ≡ minus 1 ∷ at 3 ∷ missing ∷ missing ∷ []
   -- 4, where document 01's limit is ⌈34/7⌉ = 5
   pub widest : gap exactStation (start exactStation) exactSends 0 1 ≡ exactGap exactStation 3
-  pub narrower : wideGap exactStation 3 ≡ 5
+  pub document-gap : wideGap exactStation 3 ≡ 5
   -- 3, where document 01's limit is 2 + ⌈10/7⌉ = 4
   pub farthest : error exactStation (start exactStation) exactSends 1 (pos 0) ≡ exactError exactStation 3
-  pub nearer : wideError exactStation 3 ≡ 4
+  pub document-error : wideError exactStation 3 ≡ 4
 
 -- ---- Two of four
 

@@ -4,7 +4,6 @@
 --   NatSpan w p x need n r     a span that holds r's number and need numbers of indices that pass p
 -- Assumes nothing.
 use mathlib.Core.Bool.{Bool, true, _&&_}
-use mathlib.Core.Logic.{_↔_}
 use mathlib.Core.Path.{_≡_}
 use Prim.Native.Nat.{ℕ, _+_, _≤_, _<_}
 use native.Mathlib.Nat.{le-trans}
@@ -15,8 +14,7 @@ use Rattle.arithmetic.specs.Counting.{count}
 use Rattle.arithmetic.proofs.Bools.{and-left, and-right, and-intro}
 use Rattle.arithmetic.proofs.Counting.{count-mono, count-pos, any-some, any-true}
 use Rattle.rounds.specs.Naturals.{spans, accepted-nat}
-use Rattle.rounds.proofs.Natural.{accepted-present}
-use Rattle.limits.proofs.Extremes.{LeastOf, GreatestOf, least}
+use Rattle.limits.proofs.Extremes.{LeastOf, least}
 
 abbrev pub insideSpan : ℕ → ℕ → ℕ → Bool
 insideSpan w a y = leb a y && leb y (a + w)
@@ -37,19 +35,7 @@ pub record NatSpan (w : ℕ) (p : ℕ → Bool) (x : ℕ → ℕ) (need n r : �
   pub holds : need ≤ count (λ t. p t && insideSpan w start (x t)) n
 
 module _ (w : ℕ) (pres : ℕ → Bool) (x : ℕ → ℕ) (need n : ℕ) where
-  -- the present reading at which the span that holds an accepted one starts
-  pub record SpanStart (r : ℕ) : Type 0 where
-    pub index : ℕ
-    pub inRange : index < n
-    pub here : pres index ≡ true
-    pub low : x index ≤ x r
-    pub high : x r ≤ x index + w
-    pub holds : need ≤ count (spans w pres x index) n
-
   -- s's span, taken apart
-  spans-from : (s r : ℕ) → spans w pres x s r ≡ true → pres s ≡ true
-  spans-from s r e = and-left (pres s) (pres r && insideSpan w (x s) (x r)) e
-
   spans-rest : (s r : ℕ) → spans w pres x s r ≡ true → (pres r && insideSpan w (x s) (x r)) ≡ true
   spans-rest s r e = and-right (pres s) (pres r && insideSpan w (x s) (x r)) e
 
@@ -64,33 +50,17 @@ module _ (w : ℕ) (pres : ℕ → Bool) (x : ℕ → ℕ) (need n : ℕ) where
     from-spans : spans w pres x (from .0) r ≡ true
     from-spans = and-left (spans w pres x (from .0) r) (leb need (count (spans w pres x (from .0)) n)) (from .2)
 
-    pub accepted-start : SpanStart r
-    accepted-start =
-        record {
-          index = from .0;
-          inRange = from .1;
-          here = spans-from (from .0) r from-spans;
-          low = inside-low w (x (from .0)) (x r) (spans-inside (from .0) r from-spans);
-          high = inside-high w (x (from .0)) (x r) (spans-inside (from .0) r from-spans);
-          holds =
-              leb-true need _
-              (and-right (spans w pres x (from .0) r) (leb need (count (spans w pres x (from .0)) n)) (from .2));
-        }
-
     pub accepted-in-span : NatSpan w pres x need n r
     accepted-in-span =
+        let s = from .0 in
+        let enough = and-right (spans w pres x s r) (leb need (count (spans w pres x s) n)) (from .2) in
         record {
-          start = x (accepted-start .index);
-          low = accepted-start .low;
-          high = accepted-start .high;
+          start = x s;
+          low = inside-low w (x s) (x r) (spans-inside s r from-spans);
+          high = inside-high w (x s) (x r) (spans-inside s r from-spans);
           holds =
-              le-trans
-              (accepted-start .holds)
-              (count-mono
-              (spans w pres x (accepted-start .index))
-              (λ t. pres t && insideSpan w (x (accepted-start .index)) (x t))
-              n
-              (λ t _ e. spans-rest (accepted-start .index) t e));
+              le-trans (leb-true need _ enough)
+              (count-mono (spans w pres x s) (λ t. pres t && insideSpan w (x s) (x t)) n (λ t _ e. spans-rest s t e));
         }
 
   -- a present reading of a span that holds enough is accepted: the span from its lowest present reading holds as many
@@ -131,13 +101,6 @@ module _ (w : ℕ) (pres : ℕ → Bool) (x : ℕ → ℕ) (need n : ℕ) where
       enough : need ≤ count (spans w pres x s) n
       enough = le-trans (h .holds) (count-mono held (spans w pres x s) n reaches)
 
-  -- L0, L1: spans may start anywhere
-  pub accepted-iff-span :
-      (r : ℕ) → r < n
-      → (accepted-nat w pres x need n r ≡ true) ↔ ((pres r ≡ true) × NatSpan w pres x need n r)
-  accepted-iff-span r l =
-      (λ e. (accepted-present w pres x need n r e, accepted-in-span r e), λ h. span-accepted r l (h .0) (h .1))
-
   -- an accepted reading lies in a span that holds enough accepted ones
   pub accepted-nat-span :
       (r : ℕ) → accepted-nat w pres x need n r ≡ true
@@ -171,46 +134,3 @@ module _ (w : ℕ) (pres : ℕ → Bool) (x : ℕ → ℕ) (need n : ℕ) where
             high = inside-high w (h .start) (x t) j;
             holds = h .holds;
           })
-
-  -- L2: the span from the lowest accepted reading holds enough accepted ones, and so does the span up to the highest
-  pub lowest-span :
-      (lo : LeastOf (accepted-nat w pres x need n) x n)
-      → need ≤ count (λ t. accepted-nat w pres x need n t && insideSpan w (x (lo .index)) (x t)) n
-  lowest-span lo =
-      le-trans
-      (h .holds)
-      (count-mono
-      (λ t. accepted-nat w pres x need n t && insideSpan w (h .start) (x t))
-      (λ t. accepted-nat w pres x need n t && insideSpan w (x (lo .index)) (x t))
-      n
-      (λ t l e.
-      let a = and-left (accepted-nat w pres x need n t) (insideSpan w (h .start) (x t)) e in
-      let i = inside-high w (h .start) (x t)
-      (and-right (accepted-nat w pres x need n t) (insideSpan w (h .start) (x t)) e) in
-      let o = h .low in
-      and-intro a (inside-intro w (x (lo .index)) (x t) (lo .first t l a) (omega arith))))
-    where
-      h : NatSpan w (accepted-nat w pres x need n) x need n (lo .index)
-      h = accepted-nat-span (lo .index) (lo .passes)
-
-  pub highest-span :
-      (hi : GreatestOf (accepted-nat w pres x need n) x n)
-      → need ≤ count
-      (λ t. accepted-nat w pres x need n t && (leb (x (hi .index)) (x t + w) && leb (x t) (x (hi .index)))) n
-  highest-span hi =
-      le-trans
-      (h .holds)
-      (count-mono
-      (λ t. accepted-nat w pres x need n t && insideSpan w (h .start) (x t))
-      (λ t. accepted-nat w pres x need n t && (leb (x (hi .index)) (x t + w) && leb (x t) (x (hi .index))))
-      n
-      (λ t l e.
-      let a = and-left (accepted-nat w pres x need n t) (insideSpan w (h .start) (x t)) e in
-      let i = inside-low w (h .start) (x t)
-      (and-right (accepted-nat w pres x need n t) (insideSpan w (h .start) (x t)) e) in
-      let o = h .high in
-      and-intro a
-      (and-intro (le-leb (x (hi .index)) (x t + w) (omega arith)) (le-leb (x t) (x (hi .index)) (hi .first t l a)))))
-    where
-      h : NatSpan w (accepted-nat w pres x need n) x need n (hi .index)
-      h = accepted-nat-span (hi .index) (hi .passes)

@@ -74,9 +74,9 @@ exact-reached =
       counts = refl;
       values = refl;
       widest = refl;
-      narrower = refl;
+      document-gap = refl;
       farthest = refl;
-      nearer = refl;
+      document-error = refl;
     }
 
 half-meets : Meets halfStation (halfSends ∷ []) (below 2) (pos 1)

@@ -1,4 +1,4 @@
--- The round of specs/Sharpness.antt for two stations of seven with a window of 7, computed from the first readings to
+-- The round of Worst.antt for two stations of seven with a window of 7, computed from the first readings to
 -- the last byte. A check comes to them before it comes to the theorem, so that a false statement is refused by its
 -- numbers.
 -- Assumes nothing.
@@ -17,8 +17,9 @@ use Rattle.model.specs.Refusals.{badMark, badMissing, tooManyFaults, badPlan, s
 use Rattle.model.specs.Refusals.{writeChecks, settleChecks, planChecks, stepChecks}
 use Rattle.model.specs.Calls.{write, settle, step}
 use Rattle.guarantee.specs.Guarantee.{Station, State, Sends, heard, entryOf, sheetOf, settled, next}
-use Rattle.guarantee.specs.Witnesses.{listed}
-use Rattle.sharpness.specs.Sharpness.{Covered, spread, firstReading, worstStation, worstSends, Reached}
+use Rattle.guarantee.specs.Witnesses.{below, listed}
+use Rattle.sharpness.specs.Sharpness.{Covered, Reached}
+use Rattle.sharpness.proofs.Worst.{spread, firstReading, worstStation, worstSends, trueValue}
 use Rattle.sharpness.proofs.Run.{meets}
 
 -- a round, with all that it computes by: whoever unfolds it unfolds its line
@@ -41,13 +42,20 @@ pub three-reached : Reached 7 2 3 7 4
 unfolding computed
 three-reached =
     record {
+      station = worstStation 7 2 3 7 4;
+      round = worstSends 7 2 3 7 4;
+      good = below 4;
+      true-value = trueValue 7 2 3 7 4;
+      p = 0;
+      q = 1;
+      chosen = refl;
+      accuracy = refl;
       meets = meets 7 2 3 7 4 three-covered;
       counts = refl;
       sound = ((lit< tt, refl), (lit< tt, refl));
       unrefused = (refl, refl);
       farthest = refl;
       widest = λ _. refl;
-      wide = refl;
     }
 
 -- four of seven bad: good ones at 0, 7 and 4
@@ -59,11 +67,18 @@ pub four-reached : Reached 7 2 4 7 4
 unfolding computed
 four-reached =
     record {
+      station = worstStation 7 2 4 7 4;
+      round = worstSends 7 2 4 7 4;
+      good = below 3;
+      true-value = trueValue 7 2 4 7 4;
+      p = 0;
+      q = 1;
+      chosen = refl;
+      accuracy = refl;
       meets = meets 7 2 4 7 4 four-covered;
       counts = refl;
       sound = ((lit< tt, refl), (lit< tt, refl));
       unrefused = (refl, refl);
       farthest = refl;
       widest = λ _. refl;
-      wide = refl;
     }

@@ -2,6 +2,7 @@ pub mod Intervals
 pub mod Swayed
 pub mod Gains
 pub mod Differences
+pub mod Worst
 pub mod Run
 pub mod Computed
 pub mod Told

@@ -1,10 +1,10 @@
--- The run of specs/Sharpness.antt: demand 3's hypotheses hold of it, t are bad, and what its cabinets read of each
+-- The round of Worst.antt: demand 3's hypotheses hold of it, t are bad, and what its cabinets read of each
 -- other.
 -- Assumes nothing.
 use mathlib.Core.Bool.{Bool, true, false, cond}
 use mathlib.Core.List.{[], _∷_}
 use mathlib.Core.Logic.{⊎-elim}
-use mathlib.Core.Path.{_≡_, refl, ap, _∙_, subst⁻¹}
+use mathlib.Core.Path.{_≡_, refl, _∙_, subst⁻¹}
 use Prim.Native.Nat.{ℕ, zero, suc, _+_, _*_, _-_, _/_, _≤_, _<_}
 use native.Mathlib.Nat.{le-refl, min-le-left, min-le-right, min-eq-left, min-eq-right}
 use native.Mathlib.Omega.{arith}
@@ -28,7 +28,8 @@ use Rattle.planning.proofs.Checks.{MayStart, none-may-start}
 use Rattle.guarantee.specs.Guarantee.{IsReading, Start, Allowed, start, heard, Good, bad}
 use Rattle.guarantee.specs.Witnesses.{below, listed, Meets}
 use Rattle.guarantee.proofs.Entries.{heard-sound, seen, seen-direct}
-use Rattle.sharpness.specs.Sharpness.{Covered, needed, spread, firstReading, worstStation, worstSends, trueValue}
+use Rattle.sharpness.specs.Sharpness.{Covered}
+use Rattle.sharpness.proofs.Worst.{needed, spread, firstReading, worstStation, worstSends, trueValue}
 use Rattle.sharpness.proofs.Intervals.{count-below}
 use Rattle.sharpness.proofs.Differences.{difference-down}
 

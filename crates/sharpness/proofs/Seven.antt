@@ -2,7 +2,7 @@
 -- seven are bad the exact gap is δ and twice the nearest whole number to (2+t)δ/7, at every window.
 -- Assumes nothing.
 use mathlib.Core.Path.{_≡_, sym, ap, _∙_}
-use Prim.Native.Nat.{ℕ, _+_, _*_, _-_, _/_, _≤_, _<_}
+use Prim.Native.Nat.{ℕ, _+_, _*_, _-_, _≤_, _<_}
 use native.Mathlib.Omega.{arith}
 use lib.Dec.{lit<, lit≤}
 use lib.IntN.{pos, _-ℤ_}
@@ -13,9 +13,10 @@ use Rattle.model.specs.Steps.{mean}
 use Rattle.model.specs.Cases.{settings}
 use Rattle.rounds.specs.Naturals.{mean-nat}
 use Rattle.planning.proofs.Checks.{may-start-none}
-use Rattle.guarantee.specs.Guarantee.{apart}
+use Rattle.guarantee.specs.Guarantee.{Station, apart}
+use Rattle.guarantee.specs.Exact.{exactGap, exactError}
 use Rattle.guarantee.specs.Regulator.{nearestSeventh}
-use Rattle.sharpness.specs.Sharpness.{Covered, worstStation, SevenAt, SevenReached}
+use Rattle.sharpness.specs.Sharpness.{Covered, Reached, SevenAt, SevenReached}
 use Rattle.sharpness.proofs.Differences.{mean-below-zero, mean-above-zero}
 use Rattle.sharpness.proofs.Sharpness.{always-reached}
 
@@ -67,14 +68,22 @@ module _ (δ e : ℕ) (l : e ≤ 7 * δ) where
       zero-down : down δ δ ≡ pos 0
       zero-down = down-cong δ δ 0 0 (omega arith) ∙ sym (pos-down 0)
 
+-- the exact limits of any station with these settings
+module _ (t δ κ : ℕ) (l : (2 + t) * δ ≤ 7 * δ) (st : Station) (chosen : st .settings ≡ settings 7 2 fca median δ) where
+  seven-gap : exactGap st t ≡ δ + 2 * nearestSeventh ((2 + t) * δ)
+  seven-gap = rw chosen (ap (λ (y : ℕ). δ + y) (both-nearest δ ((2 + t) * δ) l))
+
+  seven-error : st .accuracy ≡ κ → exactError st t ≡ κ + nearestSeventh ((2 + t) * δ)
+  seven-error accuracy = rw (chosen, accuracy) (ap (λ (y : ℕ). κ + y) (one-nearest δ ((2 + t) * δ) l))
+
 seven-at :
     (t δ κ : ℕ) → 2 < t → t < 5 → (2 + t) * δ ≤ 7 * δ → δ ≤ 1_000_000 → 0 < κ → κ ≤ 1_000_000_000 → SevenAt t δ κ
-unfolding worstStation
 seven-at t δ κ more fewer l window inexact accuracy =
+    let r : Reached 7 2 t δ κ = always-reached 7 2 t δ κ (seven-covered t δ κ more fewer window inexact accuracy) in
     record {
-      reached = always-reached 7 2 t δ κ (seven-covered t δ κ more fewer window inexact accuracy);
-      gap = ap (λ (y : ℕ). δ + y) (both-nearest δ ((2 + t) * δ) l);
-      error = ap (λ (y : ℕ). κ + y) (one-nearest δ ((2 + t) * δ) l);
+      reached = r;
+      gap = seven-gap t δ κ l (r .station) (r .chosen);
+      error = seven-error t δ κ l (r .station) (r .chosen) (r .accuracy);
     }
 
 pub seven-reached : SevenReached

@@ -22,10 +22,12 @@ use Rattle.rounds.specs.Naturals.{mean-nat}
 use Rattle.limits.proofs.Means.{mean-mono, mean-lower}
 use Rattle.limits.proofs.Settled.{Receiver, accepts, usedBy, valueBy}
 use Rattle.guarantee.specs.Guarantee.{Station, State, Sends, start, next, newValue, apart}
+use Rattle.guarantee.specs.Witnesses.{below}
 use Rattle.guarantee.proofs.Ready as ready
 use Rattle.guarantee.proofs.Ready.{ready-start}
 use Rattle.guarantee.proofs.Received.{received-count}
-use Rattle.sharpness.specs.Sharpness.{Covered, needed, spread, worstStation, worstSends, AlwaysReached}
+use Rattle.sharpness.specs.Sharpness.{Covered, AlwaysReached}
+use Rattle.sharpness.proofs.Worst.{needed, spread, worstStation, worstSends, trueValue}
 use Rattle.sharpness.proofs.Differences.{difference-down, mean-below-zero, mean-above-zero}
 use Rattle.sharpness.proofs.Gains.{low-sum, high-mean, high-mean-one}
 use Rattle.sharpness.proofs.Run.{spread-whole, spread-one, sees, may-start, planned, some-n, parts, joins}
@@ -172,6 +174,14 @@ pub always-reached : AlwaysReached
 unfolding worstStation
 always-reached n m t δ κ h =
     record {
+      station = worstStation n m t δ κ;
+      round = worstSends n m t δ κ;
+      good = below (n - t);
+      true-value = trueValue n m t δ κ;
+      p = 0;
+      q = 1;
+      chosen = refl;
+      accuracy = refl;
       meets = meets n m t δ κ h;
       counts = t-bad n m t δ κ h;
       sound = (
@@ -184,5 +194,4 @@ always-reached n m t δ κ h =
       );
       farthest = farthest n m t δ κ h bias (le-refl bias);
       widest = λ l. wide n m t δ κ h bias (le-refl bias) ∙ rw (spread-whole δ κ (omega (arith, l)));
-      wide = rw (wide n m t δ κ h bias (le-refl bias)) (omega arith);
     }

@@ -1,4 +1,4 @@
--- What cabinets 0 and 1 read in the round of specs/Sharpness.antt, moved up by K into the naturals: the faulty ones
+-- What cabinets 0 and 1 read in the round of Worst.antt, moved up by K into the naturals: the faulty ones
 -- sway each, cabinet 0 with those who read 0, cabinet 1 with those who read highest.
 --   has p        what p reads
 -- Assumes nothing.
@@ -23,7 +23,8 @@ use Rattle.guarantee.specs.Witnesses.{listed}
 use Rattle.guarantee.proofs.Ready as ready
 use Rattle.guarantee.proofs.Ready.{ready-start}
 use Rattle.guarantee.proofs.Received.{received}
-use Rattle.sharpness.specs.Sharpness.{Covered, needed, spread, firstReading, worstStation, worstSends}
+use Rattle.sharpness.specs.Sharpness.{Covered}
+use Rattle.sharpness.proofs.Worst.{needed, spread, firstReading, worstStation, worstSends}
 use Rattle.sharpness.proofs.Differences.{up-difference}
 use Rattle.sharpness.proofs.Run.{spread-window, spread-some, reads-low, reads-high, reads-half, reads-most}
 use Rattle.sharpness.proofs.Run.{sees, told}

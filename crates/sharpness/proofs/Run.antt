@@ -31,7 +31,7 @@ use Rattle.guarantee.proofs.Entries.{heard-sound, seen, seen-direct}
 use Rattle.sharpness.specs.Sharpness.{Covered}
 use Rattle.sharpness.proofs.Worst.{needed, spread, firstReading, worstStation, worstSends, trueValue}
 use Rattle.sharpness.proofs.Intervals.{count-below}
-use Rattle.sharpness.proofs.Differences.{difference-down}
+use Rattle.guarantee.proofs.Distances.{difference-down}
 
 -- ---- how far good readings are apart
 

@@ -17,7 +17,7 @@ use Rattle.guarantee.specs.Guarantee.{Station, apart}
 use Rattle.guarantee.specs.Exact.{exactGap, exactError}
 use Rattle.guarantee.specs.Regulator.{nearestSeventh}
 use Rattle.sharpness.specs.Sharpness.{Covered, Reached, SevenAt, SevenReached}
-use Rattle.sharpness.proofs.Differences.{mean-below-zero, mean-above-zero}
+use Rattle.guarantee.proofs.Distances.{mean-below-zero, mean-above-zero}
 use Rattle.sharpness.proofs.Sharpness.{always-reached}
 
 seven-covered :

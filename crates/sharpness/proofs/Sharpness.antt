@@ -28,7 +28,7 @@ use Rattle.guarantee.proofs.Ready.{ready-start}
 use Rattle.guarantee.proofs.Received.{received-count}
 use Rattle.sharpness.specs.Sharpness.{Covered, AlwaysReached}
 use Rattle.sharpness.proofs.Worst.{needed, spread, worstStation, worstSends, trueValue}
-use Rattle.sharpness.proofs.Differences.{difference-down, mean-below-zero, mean-above-zero}
+use Rattle.guarantee.proofs.Distances.{difference-down, mean-below-zero, mean-above-zero}
 use Rattle.sharpness.proofs.Gains.{low-sum, high-mean, high-mean-one}
 use Rattle.sharpness.proofs.Run.{spread-whole, spread-one, sees, may-start, planned, some-n, parts, joins}
 use Rattle.sharpness.proofs.Run.{starts, allowed, meets, t-bad}

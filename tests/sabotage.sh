@@ -1,0 +1,167 @@
+#!/usr/bin/env bash
+# Sabotages a scratch copy of the repository in each way that a test is there to find, and sees that the test fails. For a maintainer, outside the gate:
+# some minutes. It wants what a `bash test` leaves in target/.
+#
+#     bash tests/sabotage.sh            all of it
+#     bash tests/sabotage.sh WORD..     the sabotages whose names have one of these words
+set -u
+top=$(cd "$(dirname "$0")/.." && pwd)
+room=$(mktemp -d) || exit 2
+trap 'rm -rf "$room"' EXIT
+words=("$@")
+tried=0
+missed=()
+
+git clone -q "$top" "$room/repo" || exit 2
+# what is not committed yet counts too
+(cd "$top" && git ls-files -z -m -o --exclude-standard | xargs -0 -r cp --parents -t "$room/repo" 2>/dev/null)
+cd "$room/repo" || exit 2
+git add -A && git -c user.name=sabotage -c user.email=none commit -q --allow-empty -m "as it is"
+cp -R "$top/target" target || exit 2
+mkdir -p outside/target
+[ ! -f target/staticlib/libtohiranga.a ] || touch target/staticlib/libtohiranga.a
+
+asked() { # NAME
+    local word
+    [ ${#words[@]} -eq 0 ] && return 0
+    for word in "${words[@]}"; do [[ $1 == *"$word"* ]] && return 0; done
+    return 1
+}
+
+again() {
+    git reset -q --hard
+    git clean -q -fd -e target -e outside/target
+}
+
+# sabotage NAME CHANGE TEST [TEXT]: after the change the test must fail, and say the text
+sabotage() {
+    asked "$1" || return 0
+    tried=$((tried + 1))
+    if ! eval "$2" || git diff --quiet && [ -z "$(git status --porcelain)" ]; then
+        echo "$1: NOTHING WAS CHANGED"
+        missed+=("$1")
+    elif eval "$3" >"$room/said" 2>&1; then
+        echo "$1: NOT FOUND by $3"
+        missed+=("$1")
+    elif [ -n "${4:-}" ] && ! grep -q -- "$4" "$room/said"; then
+        echo "$1: $3 fails, and does not say: $4"
+        tail -n 5 "$room/said"
+        missed+=("$1")
+    else
+        echo "$1: found by ${3%% *}"
+    fi
+    again
+}
+
+# a test that fails without any sabotage shows nothing
+sound() { # TEST
+    asked "$2" || return 0
+    if ! eval "$1" >"$room/said" 2>&1; then
+        echo "$1 FAILS WITHOUT SABOTAGE"
+        tail -n 5 "$room/said"
+        missed+=("$1 without sabotage")
+    fi
+}
+
+# ---- the hostile station
+hostile="(cd outside && cargo test --release --offline -q -p hostile)"
+sound "$hostile" hostile
+sabotage "hostile: a broken limit is not counted" "sed -i 's/self.broken += (used > limit) as u64;/self.broken += 0;/' outside/hostile/src/limits.rs" "$hostile"
+sabotage "hostile: limits are held a tick wide" "sed -i 's/used > limit/used > limit + 1/' outside/hostile/src/limits.rs" "$hostile" "finds no tick"
+sabotage "hostile: refusals allowed at t ≤ m" "sed -i 's/tally.few_refused += few_bad as u64;/tally.few_refused += 0;/' outside/hostile/src/run.rs" "$hostile" "refuse-need"
+sabotage "hostile: the wide limits are not held" "sed -i 's/self.wide_limits(tally, &sets, &values);//' outside/hostile/src/run.rs" "$hostile" "never held"
+sabotage "hostile: what was not reached is passed over" "sed -i '/never reached: /d' outside/hostile/src/run.rs" "$hostile"
+sabotage "hostile: plans are not compared" "sed -i 's/number(answer) != 0 || given != right/false/' outside/hostile/src/run.rs" "$hostile"
+sabotage "hostile: no run" "sed -i 's/runs: 100_000/runs: 0/' outside/hostile/src/main.rs" "(cd outside && cargo run -q --release --offline -p hostile)" "never held"
+
+# ---- what must run
+required=tests/check_required
+sound "$required" required
+sabotage "required: a test deleted" "rm tests/check_plan" "$required" "gone: test tests/check_plan"
+sabotage "required: a test is a link to nowhere" "ln -sf nowhere tests/check_plan" "$required" "leads nowhere"
+sabotage "required: a test that can't be run" "chmod -x tests/check_plan" "$required" "can't be run"
+sabotage "required: all edits of a crate deleted" "rm -r crates/round/must-fail" "$required" "gone: edits round"
+sabotage "required: one edit deleted" "rm \$(ls crates/round/must-fail/*.edit | head -n 1)" "$required" "edits round"
+sabotage "required: a program deleted with its line" "rm -r crates/planner_vectors && sed -i '/^planner_vectors:/d' crates.txt" "$required" "gone: program planner_vectors"
+sabotage "required: a case deleted with its files" "rm examples/case-07.*" "$required" "gone: case case-07"
+sabotage "required: vectors deleted" "sed -i '10,20d' crates/sheet_vectors/stdout" "$required" "lines sheet_vectors"
+sabotage "required: tests of outside/ deleted" "rm outside/hostile/tests/limits.rs" "$required" "outside-tests"
+sabotage "required: the list deleted" "rm tests/REQUIRED" "$required" "REQUIRED is gone"
+sabotage "required: .ci/run calls nothing" "echo 'exit 0' >.ci/run" "$required" ".ci/run"
+sabotage "required: .ci/run loses the status" "echo 'bash test || true' >.ci/run" "$required" ".ci/run"
+sabotage "gate: test reads fewer names" "sed -i 's|tests=(tests/check_\*)|tests=(tests/check_[a-m]*)|' test" tests/check_gate
+sabotage "gate: test does not look at the list" "sed -i 's|tests/check_required ran \"\$log\" \"\${ran\[@\]}\"|true|' test" tests/check_gate "WRONG"
+sabotage "links: a page gone" "git rm -q docs/FORMAT.md" tests/check_links "FORMAT.md is not there"
+
+# ---- numbers of README.md and docs/ANSWER.md
+sabotage "numbers: m 20" "sed -i 's/(N 7, m 2)/(N 7, m 20)/' docs/ANSWER.md" tests/check_answer "m 2)"
+sabotage "numbers: up to 320" "sed -i 's/rounds up to 32\\./rounds up to 320./' docs/ANSWER.md" tests/check_answer "up to 32"
+sabotage "numbers: number 103" "sed -i 's/number 10,/number 103,/' docs/ANSWER.md" tests/check_answer "number 10"
+sabotage "numbers: a number word" "sed -i 's/^- three bad:/- four bad:/' README.md" tests/check_answer "three bad"
+sabotage "numbers: a row of a table" "sed -i '/^| 167,772/d' docs/ANSWER.md" tests/check_answer "a table"
+sabotage "numbers: README's limit" "sed -i 's/^1 to 64 cabinets/1 to 63 cabinets/' README.md" tests/check_answer "64 cabinets"
+sabotage "numbers: the kit" "sed -i 's/rattle-kit-5b/rattle-kit-5c/' README.md" tests/check_answer "rattle-kit"
+sabotage "numbers: a definition" "sed -i 's/^maxRounds = 32/maxRounds = 31/' crates/model/specs/Planner.antt" tests/check_answer "31"
+if asked "numbers: each in turn"; then
+    tried=$((tried + 1))
+    tests/sabotage_numbers.py 2>/dev/null || missed+=("numbers: each in turn")
+fi
+
+# ---- rows of the maps
+for page in TRACEABILITY PROOF-MAP; do
+    asked "rows: $page" || continue
+    check=tests/check_$([ $page = TRACEABILITY ] && echo traceability || echo proof_map)
+    sound "$check" "rows"
+    rows=0
+    while read -r line; do
+        tried=$((tried + 1)) rows=$((rows + 1))
+        sed -i "${line}d" "docs/$page.md"
+        if $check >/dev/null 2>&1; then
+            echo "rows: line $line of docs/$page.md deleted: NOT FOUND"
+            missed+=("rows: line $line of docs/$page.md")
+        fi
+        git checkout -q "docs/$page.md"
+    done < <(grep -n '^| ' "docs/$page.md" | grep -v -- '^[0-9]*:| \(Demand\|Paper\|What\|Edit\) |' | cut -d: -f1)
+    echo "rows: $rows of docs/$page.md, one after the other"
+done
+sabotage "reading list: a page not listed" "sed -i '/model\/specs\/Steps.antt/d' docs/ARCHITECTURE.md" tests/check_reading_list "neither"
+sabotage "reading list: a definition longer" "echo '-- more' >>crates/model/specs/Steps.antt" tests/check_reading_list "out of date"
+
+# ---- must-fail edits
+rewrite='# a correct rewrite
+file: src/lib.rt
+old: (a as u32) + 256 * (b as u32) + 65536 * (c as u32) + 16777216 * (d as u32)
+new: 256 * (b as u32) + (a as u32) + 65536 * (c as u32) + 16777216 * (d as u32)'
+ill_typed='# an ill-typed contract
+file: src/lib.rt
+old: r ≡ byte (now (s .entry)) i
+new: r ≡ byte (now (s .entry)) byte'
+# the prover is asked of this edit alone; the logs of the others are those of the last gate
+edited() { # TEXT
+    mkdir -p crates/words/must-fail "$room/edits"
+    echo "$1" >crates/words/must-fail/sabotage.edit
+    cp -R target/must-fail "$room/logs" 2>/dev/null
+    find crates -name '*.edit' ! -name sabotage.edit -print0 | xargs -0 cp --parents -t "$room/edits"
+    find crates -name '*.edit' ! -name sabotage.edit -delete
+    rt must-fail words >"$room/rt" 2>&1
+    cp -R "$room/edits/." .
+    [ ! -d "$room/logs" ] || cp -R "$room/logs/." target/must-fail/
+    tests/edits_differ words/sabotage >/dev/null 2>&1
+    return 0
+}
+sabotage "edits: a correct rewrite" 'edited "$rewrite"' tests/check_must_fail_reasons "words/sabotage: no program tells it from the engine"
+sabotage "edits: an ill-typed contract" 'edited "$ill_typed"' tests/check_must_fail_reasons "words/sabotage: what is edited is not well-formed"
+sabotage "edits: one not tried" "sed -i 's/^# /# another /' crates/words/must-fail/base_255.edit" tests/check_must_fail_reasons "words/base_255: not tried as it is"
+sabotage "edits: one not in the table" "sed -i '/words.base_255/d' docs/MUST-FAIL.md" tests/check_must_fail_table "words/base_255"
+
+# ---- what users compile in
+if asked "library" && [ -f tests/sabotage_library.sh ]; then
+    tried=$((tried + 1))
+    (cd "$top" && bash tests/sabotage_library.sh) || missed+=("library: tests/sabotage_library.sh")
+fi
+
+for name in ${missed[@]+"${missed[@]}"}; do
+    echo "MISSED: $name"
+done
+echo "$tried sabotages, ${#missed[@]} missed"
+[ ${#missed[@]} -eq 0 ]

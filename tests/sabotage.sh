@@ -128,10 +128,10 @@ sabotage "reading list: a page not listed" "sed -i '/model\/specs\/Steps.antt/d'
 sabotage "reading list: a definition longer" "echo '-- more' >>crates/model/specs/Steps.antt" tests/check_reading_list "out of date"
 
 # ---- must-fail edits
-rewrite='# a correct rewrite
+rewrite='# a correct rewrite, with its branches exchanged
 file: src/lib.rt
-old: (a as u32) + 256 * (b as u32) + 65536 * (c as u32) + 16777216 * (d as u32)
-new: 256 * (b as u32) + (a as u32) + 65536 * (c as u32) + 16777216 * (d as u32)'
+old: if i < s.len() { s[i] } else { 0 }
+new: if i >= s.len() { 0 } else { s[i] }'
 ill_typed='# an ill-typed contract
 file: src/lib.rt
 old: r ≡ byte (now (s .entry)) i

@@ -1,10 +1,10 @@
 -- Document 01, "The answer sheet", read field by field from any bytes.
---   answerChecks     the rows that refuse bytes that are no answer sheet
---   cabinetChecks    those, and the row that refuses a cabinet of N or above
+--   answerChecks     the checks that refuse bytes that are no answer sheet
+--   cabinetChecks    those, and the one that refuses a cabinet of N or above
 --   cabinetsIn, countIn, estimateIn, valueIn    N, the accepted count, the estimate, the new value
 --   markIn, usedIn   a cabinet's mark and used value
 --   signed           the number that 32 bits in two's complement are
---   shownAs          what this crate's enum says in these terms
+--   shownOf          what this crate's enum says in these terms
 -- Estimate, new value and used value are given by their 32 bits.
 use mathlib.Core.List.{List, [], _∷_, _++_}
 use Prim.Native.Nat.{ℕ, _+_, _*_}
@@ -52,6 +52,6 @@ abbrev pub signed : Verdict ℕ → Verdict ℤ
 signed (granted bits) = granted (toZ w32 bits)
 signed (refused r) = refused r
 
-abbrev pub shownAs : Shown → Verdict ℕ
-shownAs (Granted number) = granted number
-shownAs (Refused r) = refused r
+abbrev pub shownOf : Shown → Verdict ℕ
+shownOf (Granted number) = granted number
+shownOf (Refused r) = refused r

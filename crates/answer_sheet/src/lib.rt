@@ -6,7 +6,7 @@ ghost use lib.Dec.{eqb, ltb};
 ghost use Rattle.ensemble.specs.Answers.{checkOf};
 ghost use Rattle.model.specs.Refusals.{firstOf};
 ghost use Rattle.model.specs.Calls.{verdict};
-ghost use Rattle.answer_sheet.specs.Fields.{answerChecks, cabinetChecks, cabinetsIn, countIn, estimateIn, valueIn, markIn, usedIn, shownAs};
+ghost use Rattle.answer_sheet.specs.Fields.{answerChecks, cabinetChecks, cabinetsIn, countIn, estimateIn, valueIn, markIn, usedIn, shownOf};
 use ensemble::Screened;
 use model::Refusal;
 
@@ -65,7 +65,7 @@ fn check_cabinet(answer: &[u8], cabinet: u32) -> Screened
 
 // The number, unless the sheet is refused.
 fn unless_refused(screened: Screened, number: u32) -> Shown
-    ensures { λ r. ⌜ shownAs r ≡ verdict (checkOf screened) number ⌝ }
+    ensures { λ r. ⌜ shownOf r ≡ verdict (checkOf screened) number ⌝ }
 {
     match screened {
         Screened::Passed => Shown::Granted(number),
@@ -75,7 +75,7 @@ fn unless_refused(screened: Screened, number: u32) -> Shown
 
 // N.
 pub fn cabinets(answer: &[u8]) -> Shown
-    ensures { λ r. ⌜ shownAs r ≡ cabinetsIn (now (answer .entry)) ⌝ }
+    ensures { λ r. ⌜ shownOf r ≡ cabinetsIn (now (answer .entry)) ⌝ }
 {
     let screened = check(answer);
     let number = words::byte_at(answer, 0) as u32;
@@ -84,7 +84,7 @@ pub fn cabinets(answer: &[u8]) -> Shown
 
 // How many readings were accepted.
 pub fn count(answer: &[u8]) -> Shown
-    ensures { λ r. ⌜ shownAs r ≡ countIn (now (answer .entry)) ⌝ }
+    ensures { λ r. ⌜ shownOf r ≡ countIn (now (answer .entry)) ⌝ }
 {
     let screened = check(answer);
     let number = words::byte_at(answer, 1) as u32;
@@ -93,7 +93,7 @@ pub fn count(answer: &[u8]) -> Shown
 
 // The estimate.
 pub fn estimate(answer: &[u8]) -> Shown
-    ensures { λ r. ⌜ shownAs r ≡ estimateIn (now (answer .entry)) ⌝ }
+    ensures { λ r. ⌜ shownOf r ≡ estimateIn (now (answer .entry)) ⌝ }
 {
     let screened = check(answer);
     let number = words::word_at(answer, 2);
@@ -102,7 +102,7 @@ pub fn estimate(answer: &[u8]) -> Shown
 
 // The new value.
 pub fn value(answer: &[u8]) -> Shown
-    ensures { λ r. ⌜ shownAs r ≡ valueIn (now (answer .entry)) ⌝ }
+    ensures { λ r. ⌜ shownOf r ≡ valueIn (now (answer .entry)) ⌝ }
 {
     let screened = check(answer);
     let number = words::word_at(answer, 6);
@@ -111,7 +111,7 @@ pub fn value(answer: &[u8]) -> Shown
 
 // A cabinet's mark.
 pub fn mark(answer: &[u8], cabinet: u32) -> Shown
-    ensures { λ r. ⌜ shownAs r ≡ markIn (now (answer .entry)) cabinet ⌝ }
+    ensures { λ r. ⌜ shownOf r ≡ markIn (now (answer .entry)) cabinet ⌝ }
 {
     let screened = check_cabinet(answer, cabinet);
     let at = 10 + (cabinet as usize);
@@ -121,7 +121,7 @@ pub fn mark(answer: &[u8], cabinet: u32) -> Shown
 
 // A cabinet's used value.
 pub fn used(answer: &[u8], cabinet: u32) -> Shown
-    ensures { λ r. ⌜ shownAs r ≡ usedIn (now (answer .entry)) cabinet ⌝ }
+    ensures { λ r. ⌜ shownOf r ≡ usedIn (now (answer .entry)) cabinet ⌝ }
 {
     let screened = check_cabinet(answer, cabinet);
     let n = words::byte_at(answer, 0) as usize;

@@ -1,3 +1,4 @@
 pub mod Handing
+pub mod Halves
 pub mod Parts
 pub mod Told

@@ -1,59 +1,116 @@
--- A part named by start × 2^32 + length: both are read back, and a row's part is named so.
+-- A cabinet's row by start × 2^32 + length: what the call computes is `packedRow`, and it names the row's bytes, inside the sheet.
 -- Assumes nothing.
-use mathlib.Core.List.{List}
-use mathlib.Core.Path.{_≡_, ap₂, _∙_}
-use Prim.Native.Nat.{ℕ, _+_, _*_, _/_, _%_, _≤_, _<_}
+use mathlib.Core.Bool.{Bool, true, false, cond}
+use mathlib.Core.List.{List, []}
+use mathlib.Core.Option.{none, some}
+use mathlib.Core.Path.{_≡_, refl, sym, ap, ap₂, _∙_, subst⁻¹}
+use Prim.Native.Nat.{ℕ, _+_, _*_, _≤_, _<_}
 use native.Mathlib.Omega.{arith}
-use lib.ListN.{length, take, drop}
+use borrow.Author.Tests.{ltb-true, ltb-false, ne-eqb}
+use lib.Dec.{ltb, eqb}
+use lib.ListN.{length, take, drop, length-drop}
+use lib.Seq.{length-take-le}
 use Rattle.model.specs.declared.Settings.{Settings}
-use Rattle.model.specs.RoundSheet.{entryCount, rowEntries, rowPart}
-use Rattle.model.specs.Calls.{row}
-use Rattle.sheets.proofs.Inspection.{Validated}
-use Rattle.sheets.proofs.Shown.{row-within, row-part}
-use Rattle.tohiranga.specs.Answers.{partIn}
+use Rattle.model.specs.RoundSheet.{cca, settingsAt, entryCount, rowEntries, rowStart, rowLength, rowPart}
+use Rattle.model.specs.Refusals.{Check, firstOf, rowChecks}
+use Rattle.model.specs.Calls.{granted, verdict, row}
+use Rattle.sheets.proofs.Inspection.{Validated, validated}
+use Rattle.sheets.proofs.Outcomes.{row-refused}
+use Rattle.sheets.proofs.Shown.{row-within, row-part, row-empty}
+use Rattle.tohiranga.specs.Answers.{upperHalf, lowerHalf, packedRow, partIn}
+use Rattle.tohiranga.specs.Statements.{RowNamed}
+use Rattle.tohiranga.proofs.Halves.{upper-back, lower-back}
 
-pub start-back : (start size : ℕ) → size < 4294967296 → (start * 4294967296 + size) / 4294967296 ≡ start
-start-back start size h = omega arith
+-- ---- an empty part
 
-pub size-back : (start size : ℕ) → size < 4294967296 → (start * 4294967296 + size) % 4294967296 ≡ size
-size-back start size h = omega arith
+module _ (s : List ℕ) (r : ℕ) (empty : row s r ≡ []) where
+  pub empty-packed : 0 ≡ packedRow s r
+  unfolding packedRow
+  empty-packed = rw empty
 
-pub part-back : (s : List ℕ) (start size : ℕ) → size < 4294967296 → partIn s (start * 4294967296 + size) ≡ take size (drop start s)
-part-back s start size h =
-    ap₂ (λ (a b : ℕ). take a (drop b s)) (size-back start size h) (start-back start size h)
+  empty-named : partIn s (packedRow s r) ≡ row s r
+  empty-named = rw (← empty-packed) (sym empty)
 
-module _
-    (s : List ℕ) (c : Settings) (v : Validated s c) (r E w : ℕ) (entries : E ≡ entryCount c) (width : w ≡ rowEntries c) (h : r < c .n)
-  where
-    -- the row lies within the entries
-    row-room : r * w + w ≤ E
-    row-room = rw (entries, width) (row-within c r h)
+  empty-inside : upperHalf (packedRow s r) + lowerHalf (packedRow s r) ≤ length s
+  empty-inside = rw (← empty-packed) (omega arith)
 
-    -- a row has at most 4,096 entries
-    pub row-few : r * w + w ≤ 4096
-    row-few =
-        let few = v .sizes .few in
-        let room = row-room in
-        omega arith
+-- ---- a row that is shown
 
-    pub row-named : partIn s ((8 + E + 4 * (r * w)) * 4294967296 + 4 * w) ≡ row s r
-    unfolding rowPart
-    row-named =
-        let few = row-few in
-        part-back s (8 + E + 4 * (r * w)) (4 * w) (omega arith)
-        ∙ ap₂ (λ (a b : ℕ). take (4 * b) (drop (8 + a + 4 * (r * b)) s)) entries width
-        ∙ row-part s c v r h
+module _ (s : List ℕ) (c : Settings) (v : Validated s c) (r : ℕ) (h : r < c .n) where
+  -- the row lies within the entries, and is not empty
+  pub row-few : (w : ℕ) → w ≡ rowEntries c → r * w + w ≤ 4096
+  row-few w width =
+      let few = v .sizes .few in
+      let room = row-within c r h in
+      rw width (omega arith)
 
-    pub row-inside : 8 + E + 4 * (r * w) + 4 * w ≤ length s
-    row-inside =
-        let long = v .sizes .long in
-        let room = row-room in
-        omega arith
+  some-entry : 1 ≤ rowEntries c
+  unfolding rowEntries
+  some-entry = go (eqb (c .rule) cca)
+    where
+      go : (b : Bool) → 1 ≤ cond b (c .n) 1
+      go true = omega arith
+      go false = omega arith
 
-    pub row-ends : ((8 + E + 4 * (r * w)) * 4294967296 + 4 * w) / 4294967296 + ((8 + E + 4 * (r * w)) * 4294967296 + 4 * w) % 4294967296 ≤ length s
-    row-ends =
-        let few = row-few in
-        let inside = row-inside in
-        let start = start-back (8 + E + 4 * (r * w)) (4 * w) (omega arith) in
-        let size = size-back (8 + E + 4 * (r * w)) (4 * w) (omega arith) in
-        omega arith
+  row-ends : rowStart c r + rowLength c ≤ length s
+  row-ends =
+      let room = row-within c r h in
+      let size = v .sizes .long in
+      omega arith
+
+  row-long : length (row s r) ≡ rowLength c
+  unfolding rowPart
+  row-long =
+      ap length (sym (row-part s c v r h))
+      ∙ length-take-le (rowLength c) (drop (rowStart c r) s)
+      (let rest = length-drop (rowStart c r) s in let ends = row-ends in omega arith)
+
+  shown-packed : rowStart c r * 4294967296 + rowLength c ≡ packedRow s r
+  unfolding packedRow
+  shown-packed =
+      rw (v .sizes .settings, row-long, ne-eqb (rowLength c) 0 (λ e. let some-one = some-entry in omega arith))
+
+  -- as the call computes it
+  pub row-packed : (E w : ℕ) → E ≡ entryCount c → w ≡ rowEntries c → (8 + E + 4 * (r * w)) * 4294967296 + 4 * w ≡ packedRow s r
+  row-packed E w entries width =
+      ap₂ (λ (a b : ℕ). (8 + a + 4 * (r * b)) * 4294967296 + 4 * b) entries width ∙ shown-packed
+
+  small : rowLength c < 4294967296
+  small = let few = row-few (rowEntries c) refl in omega arith
+
+  shown-named : partIn s (packedRow s r) ≡ row s r
+  unfolding rowPart
+  shown-named =
+      rw (← shown-packed)
+      (ap₂ (λ (a b : ℕ). take a (drop b s)) (lower-back (rowStart c r) (rowLength c) small) (upper-back (rowStart c r) (rowLength c) small)
+      ∙ row-part s c v r h)
+
+  shown-inside : upperHalf (packedRow s r) + lowerHalf (packedRow s r) ≤ length s
+  shown-inside =
+      rw (← shown-packed)
+      (rw (upper-back (rowStart c r) (rowLength c) small, lower-back (rowStart c r) (rowLength c) small) row-ends)
+
+-- ---- any sheet and any cabinet
+
+module _ (s : List ℕ) (r : ℕ) where
+  seen : firstOf (rowChecks s) ≡ none → Validated s (settingsAt s)
+  seen pass = validated s (settingsAt s) (ap (λ (x : Check). verdict x (settingsAt s)) pass)
+
+  by-case :
+      {X : Type 0} → (row s r ≡ [] → X) → ((v : Validated s (settingsAt s)) → r < settingsAt s .n → X) → X
+  by-case {X} none-shown shown = go (firstOf (rowChecks s)) refl
+    where
+      inner : firstOf (rowChecks s) ≡ none → (b : Bool) → ltb r (settingsAt s .n) ≡ b → X
+      inner pass true e = shown (seen pass) (ltb-true r (settingsAt s .n) e)
+      inner pass false e = none-shown (sym (row-empty s (settingsAt s) (seen pass) r (ltb-false r (settingsAt s .n) e)))
+
+      go : (x : Check) → firstOf (rowChecks s) ≡ x → X
+      go none e = inner e (ltb r (settingsAt s .n)) refl
+      go (some y) e = none-shown (row-refused s r y e)
+
+pub row-named : RowNamed
+row-named =
+    record {
+      bytes = λ s r. by-case s r (empty-named s r) (λ v h. shown-named s (settingsAt s) v r h);
+      inside = λ s r. by-case s r (empty-inside s r) (λ v h. shown-inside s (settingsAt s) v r h);
+    }

@@ -1,215 +1,280 @@
--- An answer tells a refusal from a grant: a row's number is 1 or above, so that a refusal is packed as 2^32 or above.
+-- Every call's answer tells what it gives: a grant is below 2^32, and a refusal is 2^32 or above and gives back its number, 1 to 12, and its
+-- place. A refusal has the place of an entry only where the settings pass, and these have at most 4,096 entries.
 -- Assumes nothing.
-use mathlib.Core.Bool.{Bool, true, false, not, _&&_, _||_}
-use mathlib.Core.List.{List, [], _∷_, _++_}
+use mathlib.Core.Bool.{Bool, true, false, not, _||_}
+use mathlib.Core.List.{List, [], _∷_}
 use mathlib.Core.Option.{Option, none, some}
-use mathlib.Core.Path.{_≡_, ap, subst}
-use Prim.Native.Nat.{ℕ, _+_, _*_, _≤_}
+use mathlib.Core.Path.{_≡_, refl, sym, ap, _∙_, subst}
+use Prim.Native.Nat.{ℕ, _+_, _*_, _≤_, _<_}
 use native.Mathlib.Omega.{arith}
-use lib.Dec.{leb, ltb, eqb}
+use lib.Dec.{ltb, eqb}
 use lib.IntN.{ℤ}
 use lib.ListN.{length}
 use Rattle.arithmetic.specs.Counting.{lowest}
+use Rattle.arithmetic.proofs.Counting.{lowest-found}
 use Rattle.model.specs.declared.Refusal.{Refusal}
 use Rattle.model.specs.declared.Settings.{Settings}
-use Rattle.model.specs.RoundSheet.{byte, settingsAt, entryCount, sheetLength, markAt, bitsAt, bitsIn}
+use Rattle.model.specs.RoundSheet.{byte, word, settingsAt, entryCount, sheetLength, markAt, bitsAt, bitsIn}
 use Rattle.model.specs.AnswerSheet.{answerLength}
 use Rattle.model.specs.Steps.{roundAt}
 use Rattle.model.specs.Planner.{Plan, planFrom, advance, after, windowAfter}
-use Rattle.model.specs.Refusals.{Check, refuseIf, atEntry, firstOf, tooShort, badCabinets, badFaults, badMethod, badWindow, badLength, noRoom, badMark, badMissing, tooManyFaults, badPlan, targetMissed, settingsChecks, sheetChecks, entryChecks, readChecks, writeChecks, settleChecks, planChecks, stepChecks, targetChecks}
-use Rattle.model.specs.Calls.{verdict, granted, refused, read, write, settle, plan, step, Target}
-use Rattle.refusals.proofs.Checks.{none-left}
-use Rattle.sheets.proofs.Outcomes.{granted-none, granted-same, refused-some}
-use Rattle.sheets.proofs.Inspection.{inspected}
-use Rattle.tohiranga.specs.Answers.{packedRefusal}
+use Rattle.model.specs.Refusals.{Check, refusal, refuseIf, atEntry, orNext, firstOf, tooShort, badCabinets, badFaults, badMethod, badWindow}
+use Rattle.model.specs.Refusals.{badLength, noRoom, notZero, badMark, badMissing, tooManyFaults, badPlan, targetMissed}
+use Rattle.model.specs.Refusals.{settingsChecks, sheetChecks, arrayChecks, entryChecks, planningChecks}
+use Rattle.model.specs.Refusals.{readChecks, writeChecks, settleChecks, planChecks, stepChecks, targetChecks}
+use Rattle.model.specs.Calls.{Verdict, granted, refused, verdict, read, write, settle, plan, step, Target}
+use Rattle.refusals.proofs.Checks.{first-append, first-snoc, next-none-left}
+use Rattle.refusals.proofs.Limits.{limits, entries-most}
+use Rattle.sheets.proofs.Checks.{settings-passed}
+use Rattle.sheets.proofs.Words.{word-fits}
+use Rattle.sheets.proofs.Orders.{read-checks, write-checks, settle-checks}
+use Rattle.planning.proofs.Checks.{none-may-start, none-may-step}
+use Rattle.planning.proofs.Rounds.{rounds-after}
+use Rattle.answer_sheet.specs.Fields.{answerChecks, cabinetChecks, cabinetsIn, countIn, estimateIn, valueIn, markIn, usedIn}
+use Rattle.tohiranga.specs.Answers.{packedRefusal, packed, openingOf, planningOf, TargetPacked}
+use Rattle.tohiranga.specs.Statements.{Refuses, Tells, FieldsTell, GrantsBelow}
+use Rattle.tohiranga.proofs.Halves.{upper-back, lower-back}
 
--- a row's number, 1 where it does not refuse
-abbrev numberOf : Check → ℕ
-numberOf none = 1
-numberOf (some r) = r .number
+-- ---- A refusal of the table: number 1 to 12, and a place that 32 bits hold
 
-record Numbered (checks : List Check) : Type 0 where
-  numbered : 1 ≤ numberOf (firstOf checks)
+record InTable (r : Refusal) : Type 0 where
+  first : 1 ≤ r .number
+  last : r .number ≤ 12
+  small : r .place < 4294967296
 
-none-numbered : Numbered []
-unfolding firstOf
-none-numbered = record { numbered = omega arith }
+-- a check that refuses gives such a refusal
+record Sound (check : Check) : Type 0 where
+  told : (r : Refusal) → check ≡ some r → InTable r
 
-more : (check : Check) (checks : List Check) → 1 ≤ numberOf check → Numbered checks → Numbered (check ∷ checks)
-unfolding firstOf
-more none checks h rest = record { numbered = rest .numbered }
-more (some r) checks h rest = record { numbered = h }
+none-sound : Sound none
+none-sound = record { told = λ r e. let clash : _≡_ {A = ℕ} 0 1 = cc in absurd (omega arith) }
 
-by-test : (fails : Bool) (number : ℕ) → 1 ≤ number → 1 ≤ numberOf (refuseIf fails number)
-by-test true number h = h
-by-test false number h = omega arith
+some-sound : (number place : ℕ) → 1 ≤ number → number ≤ 12 → place < 4294967296 → Sound (some (refusal number place))
+some-sound number place a b d =
+    record { told = λ r e. let same : refusal number place ≡ r = cc in subst InTable same (record { first = a; last = b; small = d }) }
 
-by-entry : (at : Option ℕ) (number : ℕ) → 1 ≤ number → 1 ≤ numberOf (atEntry at number)
-by-entry (some e) number h = h
-by-entry none number h = omega arith
+-- the first of two, where the second one is asked only if the first does not refuse
+next-sound : (a b : Check) → Sound a → (a ≡ none → Sound b) → Sound (orNext a b)
+next-sound none b x y = y refl
+next-sound (some r) b x y = x
 
--- ---- The rows of the table
+test-sound : (fails : Bool) (number : ℕ) → 1 ≤ number → number ≤ 12 → Sound (refuseIf fails number)
+test-sound true number a b = some-sound number 0 a b (omega arith)
+test-sound false number a b = none-sound
 
-row-1 : (s : List ℕ) → 1 ≤ numberOf (tooShort s)
-unfolding tooShort
-row-1 s = by-test (ltb (length s) 8) 1 (omega arith)
+entry-sound : (p : ℕ → Bool) (E number : ℕ) → E ≤ 4096 → 1 ≤ number → number ≤ 12 → Sound (atEntry (lowest p E) number)
+entry-sound p E number few a b = go (lowest p E) refl
+  where
+    go : (o : Option ℕ) → lowest p E ≡ o → Sound (atEntry o number)
+    go none e = none-sound
+    go (some i) e =
+        let here = lowest-found p E i e .inRange in
+        some-sound number i a b (omega arith)
 
-row-2 : (c : Settings) → 1 ≤ numberOf (badCabinets c)
-unfolding badCabinets
-row-2 c = by-test (eqb (c .n) 0 || ltb 64 (c .n)) 2 (omega arith)
+-- ---- The checks
 
-row-3 : (c : Settings) → 1 ≤ numberOf (badFaults c)
-unfolding badFaults
-row-3 c = by-test (ltb (c .n) (3 * c .m + 1)) 3 (omega arith)
+module _ (c : Settings) where
+  settings-sound : Sound (firstOf (settingsChecks c))
+  unfolding firstOf settingsChecks badCabinets badFaults badMethod badWindow
+  settings-sound =
+      next-sound (badCabinets c) _ (test-sound (eqb (c .n) 0 || ltb 64 (c .n)) 2 (omega arith) (omega arith)) λ _.
+      next-sound (badFaults c) _ (test-sound (ltb (c .n) (3 * c .m + 1)) 3 (omega arith) (omega arith)) λ _.
+      next-sound (badMethod c) _ (test-sound (ltb 1 (c .rule) || ltb 2 (c .estimator)) 4 (omega arith) (omega arith)) λ _.
+      next-sound (badWindow c) none (test-sound (ltb 1000000 (c .window)) 5 (omega arith) (omega arith)) λ _. none-sound
 
-row-4 : (c : Settings) → 1 ≤ numberOf (badMethod c)
-unfolding badMethod
-row-4 c = by-test (ltb 1 (c .rule) || ltb 2 (c .estimator)) 4 (omega arith)
+  few-entries : firstOf (settingsChecks c) ≡ none → entryCount c ≤ 4096
+  few-entries pass = entries-most c (limits c pass .cabinets)
 
-row-5 : (c : Settings) → 1 ≤ numberOf (badWindow c)
-unfolding badWindow
-row-5 c = by-test (ltb 1_000_000 (c .window)) 5 (omega arith)
+  planning-sound : (fails : Bool) → Sound (firstOf (planningChecks c fails))
+  unfolding firstOf badPlan
+  planning-sound fails =
+      rw (first-append (settingsChecks c) (badPlan fails ∷ []))
+      (next-sound (firstOf (settingsChecks c)) _ settings-sound λ _.
+      next-sound (badPlan fails) none (test-sound fails 11 (omega arith) (omega arith)) λ _. none-sound)
 
-row-6 : (given wanted : ℕ) → 1 ≤ numberOf (badLength given wanted)
+length-sound : (given wanted : ℕ) → Sound (badLength given wanted)
 unfolding badLength
-row-6 given wanted = by-test (not (eqb given wanted)) 6 (omega arith)
+length-sound given wanted = test-sound (not (eqb given wanted)) 6 (omega arith) (omega arith)
 
-row-7 : (given wanted : ℕ) → 1 ≤ numberOf (noRoom given wanted)
+room-sound : (given wanted : ℕ) → Sound (noRoom given wanted)
 unfolding noRoom
-row-7 given wanted = by-test (ltb given wanted) 7 (omega arith)
+room-sound given wanted = test-sound (ltb given wanted) 7 (omega arith) (omega arith)
 
-row-8 : (mark : ℕ → ℕ) (E : ℕ) → 1 ≤ numberOf (badMark mark E)
-unfolding badMark
-row-8 mark E = by-entry (lowest (λ e. ltb 1 (mark e)) E) 8 (omega arith)
+array-sound : (mark bits : ℕ → ℕ) (E : ℕ) → E ≤ 4096 → Sound (firstOf (arrayChecks mark bits E))
+unfolding firstOf badMark badMissing
+array-sound mark bits E few =
+    next-sound (badMark mark E) _ (entry-sound (λ e. ltb 1 (mark e)) E 8 few (omega arith) (omega arith)) λ _.
+    next-sound (badMissing mark bits E) none (entry-sound (λ e. notZero (mark e) (bits e)) E 9 few (omega arith) (omega arith)) λ _.
+    none-sound
 
-row-9 : (mark bits : ℕ → ℕ) (E : ℕ) → 1 ≤ numberOf (badMissing mark bits E)
-unfolding badMissing
-row-9 mark bits E = by-entry (lowest (λ e. eqb (mark e) 0 && not (eqb (bits e) 0)) E) 9 (omega arith)
+module _ (s : List ℕ) where
+  sheet-sound : Sound (firstOf (sheetChecks s))
+  unfolding sheetChecks firstOf tooShort
+  sheet-sound =
+      rw (first-append (tooShort s ∷ settingsChecks (settingsAt s)) (badLength (length s) (sheetLength (settingsAt s)) ∷ []))
+      (next-sound (firstOf (tooShort s ∷ settingsChecks (settingsAt s))) _
+      (next-sound (tooShort s) _ (test-sound (ltb (length s) 8) 1 (omega arith) (omega arith)) λ _. settings-sound (settingsAt s)) λ _.
+      next-sound (badLength (length s) (sheetLength (settingsAt s))) none (length-sound (length s) (sheetLength (settingsAt s))) λ _.
+      none-sound)
 
-row-10 : (accepted : ℕ) → 1 ≤ numberOf (tooManyFaults accepted)
-unfolding tooManyFaults
-row-10 accepted = by-test (eqb accepted 0) 10 (omega arith)
+  few-passed : firstOf (sheetChecks s) ≡ none → entryCount (settingsAt s) ≤ 4096
+  few-passed pass = few-entries (settingsAt s) (settings-passed s pass)
 
-row-11 : (fails : Bool) → 1 ≤ numberOf (badPlan fails)
-unfolding badPlan
-row-11 fails = by-test fails 11 (omega arith)
+  entries-sound : firstOf (sheetChecks s) ≡ none → Sound (firstOf (entryChecks s))
+  unfolding entryChecks
+  entries-sound pass =
+      array-sound (markAt s) (bitsAt s (entryCount (settingsAt s))) (entryCount (settingsAt s)) (few-passed pass)
 
-row-12 : (last target : ℕ) → 1 ≤ numberOf (targetMissed last target)
-unfolding targetMissed
-row-12 last target = by-test (ltb target last) 12 (omega arith)
+  settle-sound : (room : ℕ) → Sound (firstOf (settleChecks s room))
+  unfolding tooManyFaults
+  settle-sound room =
+      rw (settle-checks s room)
+      (next-sound (firstOf (sheetChecks s)) _ sheet-sound λ pass.
+      next-sound (noRoom room (answerLength (settingsAt s .n))) _ (room-sound room (answerLength (settingsAt s .n))) λ _.
+      next-sound (firstOf (entryChecks s)) _ (entries-sound pass) λ _.
+      test-sound (eqb (roundAt s .count) 0) 10 (omega arith) (omega arith))
 
--- ---- The rows of each call
+  read-sound : (marks readings : ℕ) → Sound (firstOf (readChecks s marks readings))
+  read-sound marks readings =
+      rw (read-checks s marks readings)
+      (next-sound (firstOf (sheetChecks s)) _ sheet-sound λ pass.
+      next-sound (noRoom marks (entryCount (settingsAt s))) _ (room-sound marks (entryCount (settingsAt s))) λ _.
+      next-sound (noRoom readings (entryCount (settingsAt s))) _ (room-sound readings (entryCount (settingsAt s))) λ _.
+      entries-sound pass)
 
-settings-numbered : (c : Settings) (checks : List Check) → Numbered checks → Numbered (settingsChecks c ++ checks)
-unfolding settingsChecks
-settings-numbered c checks rest =
-    more (badCabinets c) _ (row-2 c)
-    (more (badFaults c) _ (row-3 c) (more (badMethod c) _ (row-4 c) (more (badWindow c) checks (row-5 c) rest)))
+write-sound : (c : Settings) (marks : List ℕ) (readings : List ℤ) (room : ℕ) → Sound (firstOf (writeChecks c marks readings room))
+write-sound c marks readings room =
+    rw (write-checks c marks readings room)
+    (next-sound (firstOf (settingsChecks c)) _ (settings-sound c) λ pass.
+    next-sound (badLength (length marks) (entryCount c)) _ (length-sound (length marks) (entryCount c)) λ _.
+    next-sound (badLength (length readings) (entryCount c)) _ (length-sound (length readings) (entryCount c)) λ _.
+    next-sound (noRoom room (sheetLength c)) _ (room-sound room (sheetLength c)) λ _.
+    array-sound (byte marks) (bitsIn readings) (entryCount c) (few-entries c pass))
 
-sheet-numbered : (s : List ℕ) (checks : List Check) → Numbered checks → Numbered (sheetChecks s ++ checks)
-unfolding sheetChecks settingsChecks
-sheet-numbered s checks rest =
-    let c = settingsAt s in
-    more (tooShort s) _ (row-1 s)
-    (settings-numbered c (badLength (length s) (sheetLength c) ∷ checks)
-    (more (badLength (length s) (sheetLength c)) checks (row-6 (length s) (sheetLength c)) rest))
-
-entry-numbered : (s : List ℕ) (checks : List Check) → Numbered checks → Numbered (entryChecks s ++ checks)
-unfolding entryChecks
-entry-numbered s checks rest =
-    let E = entryCount (settingsAt s) in
-    more (badMark (markAt s) E) _ (row-8 (markAt s) E)
-    (more (badMissing (markAt s) (bitsAt s E) E) checks (row-9 (markAt s) (bitsAt s E) E) rest)
-
-settle-numbered : (s : List ℕ) (answer : ℕ) → Numbered (settleChecks s answer)
-unfolding settleChecks
-settle-numbered s answer =
-    sheet-numbered s _
-    (more (noRoom answer (answerLength (settingsAt s .n))) _ (row-7 answer (answerLength (settingsAt s .n)))
-    (entry-numbered s _ (more (tooManyFaults (roundAt s .count)) [] (row-10 (roundAt s .count)) none-numbered)))
-
-plan-numbered : (c : Settings) (fails : Bool) → Numbered (settingsChecks c ++ (badPlan fails ∷ []))
-plan-numbered c fails = settings-numbered c _ (more (badPlan fails) [] (row-11 fails) none-numbered)
-
-read-numbered : (s : List ℕ) (marks readings : ℕ) → Numbered (readChecks s marks readings)
-unfolding readChecks entryChecks
-read-numbered s marks readings =
-    let E = entryCount (settingsAt s) in
-    sheet-numbered s _
-    (more (noRoom marks E) _ (row-7 marks E)
-    (more (noRoom readings E) _ (row-7 readings E) (entry-numbered s [] none-numbered)))
-
-write-numbered : (c : Settings) (marks : List ℕ) (readings : List ℤ) (buffer : ℕ) → Numbered (writeChecks c marks readings buffer)
-unfolding writeChecks
-write-numbered c marks readings buffer =
-    let E = entryCount c in
-    let mark : (ℕ → ℕ) = byte marks in
-    let bits : (ℕ → ℕ) = bitsIn readings in
-    settings-numbered c _
-    (more (badLength (length marks) E) _ (row-6 (length marks) E)
-    (more (badLength (length readings) E) _ (row-6 (length readings) E)
-    (more (noRoom buffer (sheetLength c)) _ (row-7 buffer (sheetLength c))
-    (more (badMark mark E) _ (row-8 mark E) (more (badMissing mark bits E) [] (row-9 mark bits E) none-numbered)))))
-
-target-numbered : (c : Settings) (κ target : ℕ) → Numbered (targetChecks c κ target)
-unfolding targetChecks
-target-numbered c κ target =
-    let last = windowAfter 32 c κ in
-    settings-numbered c _
-    (more (badPlan (ltb 1_000_000_000 κ)) _ (row-11 (ltb 1_000_000_000 κ))
-    (more (targetMissed last target) [] (row-12 last target) none-numbered))
+target-sound : (c : Settings) (κ target : ℕ) → Sound (firstOf (targetChecks c κ target))
+unfolding targetChecks firstOf badPlan targetMissed
+target-sound c κ target =
+    rw (first-append (settingsChecks c) (badPlan (ltb 1000000000 κ) ∷ targetMissed (windowAfter 32 c κ) target ∷ []))
+    (next-sound (firstOf (settingsChecks c)) _ (settings-sound c) λ _.
+    next-sound (badPlan (ltb 1000000000 κ)) _ (test-sound (ltb 1000000000 κ) 11 (omega arith) (omega arith)) λ _.
+    next-sound (targetMissed (windowAfter 32 c κ) target) none (test-sound (ltb target (windowAfter 32 c κ)) 12 (omega arith) (omega arith)) λ _.
+    none-sound)
 
 -- ---- What is packed
 
-above : (checks : List Check) (r : Refusal) → Numbered checks → firstOf checks ≡ some r → 4294967296 ≤ packedRefusal r
-above checks r h same =
-    let number : 1 ≤ r .number = subst (λ (x : Check). 1 ≤ numberOf x) same (h .numbered) in
-    omega arith
+refusal-tells : (r : Refusal) → InTable r → Refuses r (packedRefusal r)
+refusal-tells r t =
+    let first = t .first in
+    record {
+      above = omega arith;
+      number = upper-back (r .number) (r .place) (t .small);
+      place = lower-back (r .number) (r .place) (t .small);
+      first = t .first;
+      last = t .last;
+    }
 
--- a refused sheet is answered by 2^32 or above
-pub settle-refused-above : (s answer : List ℕ) (r : Refusal) → settle s answer .verdict ≡ refused r → 4294967296 ≤ packedRefusal r
+size-tells : (check : Check) (size : ℕ) → Sound check → (check ≡ none → size < 4294967296)
+    → Tells (verdict check size) (packed (verdict check size))
+size-tells none size t small = small refl
+size-tells (some r) size t small = refusal-tells r (t .told r refl)
+
+opening-tells : (check : Check) (c : Settings) → Sound check → (check ≡ none → entryCount c < 4294967296)
+    → Tells (verdict check c) (openingOf (verdict check c) .answer)
+opening-tells none c t small = small refl
+opening-tells (some r) c t small = refusal-tells r (t .told r refl)
+
+planning-tells : (check : Check) (p : Plan) → Sound check → (check ≡ none → p .rounds < 4294967296)
+    → Tells (verdict check p) (planningOf (verdict check p) .answer)
+planning-tells none p t small = small refl
+planning-tells (some r) p t small = refusal-tells r (t .told r refl)
+
+settle-tells : (s answer : List ℕ) → Tells (settle s answer .verdict) (packed (settle s answer .verdict))
 unfolding settle
-settle-refused-above s answer r h =
-    above (settleChecks s (length answer)) r (settle-numbered s (length answer))
-    (refused-some (firstOf (settleChecks s (length answer))) (answerLength (settingsAt s .n)) r h)
-
--- a settled sheet by a length of at most 330
-pub settle-granted-below : (s answer : List ℕ) (size : ℕ) → settle s answer .verdict ≡ granted size → size ≤ 330
-unfolding settle settleChecks
-settle-granted-below s answer size h =
-    let check = firstOf (settleChecks s (length answer)) in
-    let passes = granted-none check (answerLength (settingsAt s .n)) size h in
-    let same = granted-same check (answerLength (settingsAt s .n)) size h in
-    let sizes = none-left (sheetChecks s) _ passes in
-    let within = inspected s (settingsAt s) (ap (λ (x : Check). verdict x (settingsAt s)) sizes) .within .cabinets in
+settle-tells s answer =
+    size-tells (firstOf (settleChecks s (length answer))) (answerLength (settingsAt s .n)) (settle-sound s (length answer)) λ pass.
+    let sizes = next-none-left (firstOf (sheetChecks s)) _ (sym (settle-checks s (length answer)) ∙ pass) in
+    let cabinets = limits (settingsAt s) (settings-passed s sizes) .cabinets in
     omega arith
 
--- the other calls' refusals by 2^32 or above too
-pub read-refused-above : (s marks : List ℕ) (readings : List ℤ) (r : Refusal)
-    → read s marks readings .verdict ≡ refused r → 4294967296 ≤ packedRefusal r
+read-tells : (s marks : List ℕ) (readings : List ℤ)
+    → Tells (read s marks readings .verdict) (openingOf (read s marks readings .verdict) .answer)
 unfolding read
-read-refused-above s marks readings r h =
-    above (readChecks s (length marks) (length readings)) r (read-numbered s (length marks) (length readings))
-    (refused-some (firstOf (readChecks s (length marks) (length readings))) (settingsAt s) r h)
+read-tells s marks readings =
+    opening-tells (firstOf (readChecks s (length marks) (length readings))) (settingsAt s) (read-sound s (length marks) (length readings)) λ pass.
+    let sizes = next-none-left (firstOf (sheetChecks s)) _ (sym (read-checks s (length marks) (length readings)) ∙ pass) in
+    let few = few-passed s sizes in
+    omega arith
 
-pub write-refused-above : (c : Settings) (marks : List ℕ) (readings : List ℤ) (buffer : List ℕ) (r : Refusal)
-    → write c marks readings buffer .verdict ≡ refused r → 4294967296 ≤ packedRefusal r
+write-tells : (c : Settings) (marks : List ℕ) (readings : List ℤ) (buffer : List ℕ)
+    → Tells (write c marks readings buffer .verdict) (packed (write c marks readings buffer .verdict))
 unfolding write
-write-refused-above c marks readings buffer r h =
-    above (writeChecks c marks readings (length buffer)) r (write-numbered c marks readings (length buffer))
-    (refused-some (firstOf (writeChecks c marks readings (length buffer))) (sheetLength c) r h)
+write-tells c marks readings buffer =
+    size-tells (firstOf (writeChecks c marks readings (length buffer))) (sheetLength c) (write-sound c marks readings (length buffer)) λ pass.
+    let few = few-entries c (next-none-left (firstOf (settingsChecks c)) _ (sym (write-checks c marks readings (length buffer)) ∙ pass)) in
+    omega arith
 
-pub target-refused-above : (c : Settings) (κ target : ℕ) (r : Refusal) → Target c κ target (refused r) → 4294967296 ≤ packedRefusal r
-target-refused-above c κ target r h = above (targetChecks c κ target) r (target-numbered c κ target) h
-
-pub plan-refused-above : (c : Settings) (κ k : ℕ) (r : Refusal) → plan c κ k ≡ refused r → 4294967296 ≤ packedRefusal r
+plan-tells : (c : Settings) (κ k : ℕ) → Tells (plan c κ k) (planningOf (plan c κ k) .answer)
 unfolding plan planChecks
-plan-refused-above c κ k r h =
-    above (planChecks c κ k) r (plan-numbered c (ltb 1_000_000_000 κ || ltb 32 k))
-    (refused-some (firstOf (planChecks c κ k)) (after k (planFrom c κ)) r h)
+plan-tells c κ k =
+    planning-tells (firstOf (planChecks c κ k)) (after k (planFrom c κ)) (planning-sound c (ltb 1000000000 κ || ltb 32 k)) λ pass.
+    let few = none-may-start c κ k pass .few in
+    let done = rounds-after k (planFrom c κ) in
+    omega arith
 
-pub step-refused-above : (p : Plan) (r : Refusal) → step p ≡ refused r → 4294967296 ≤ packedRefusal r
-unfolding step stepChecks
-step-refused-above p r h =
-    above (stepChecks p) r (plan-numbered (p .settings) (leb 32 (p .rounds) || ltb 1_100_000_000 (p .accuracy)))
-    (refused-some (firstOf (stepChecks p)) (advance p) r h)
+step-tells : (p : Plan) → Tells (step p) (planningOf (step p) .answer)
+unfolding step stepChecks advance
+step-tells p =
+    planning-tells (firstOf (stepChecks p)) (advance p) (planning-sound (p .settings) _) λ pass.
+    let early = none-may-step p pass .early in
+    omega arith
+
+target-tells : (c : Settings) (κ target answer : ℕ) (v : Verdict ℕ) → answer ≡ packed v → Target c κ target v → Tells v answer
+target-tells c κ target answer (granted k) same t =
+    let most = t .1 .most in
+    omega arith
+target-tells c κ target answer (refused r) same t =
+    rw same (refusal-tells r (target-sound c κ target .told r t))
+
+-- ---- the fields of an answer sheet
+
+module _ (a : List ℕ) where
+  answer-sound : Sound (firstOf (answerChecks a))
+  unfolding answerChecks firstOf badCabinets
+  answer-sound =
+      next-sound (badCabinets (settingsAt a)) _ (test-sound (eqb (byte a 0) 0 || ltb 64 (byte a 0)) 2 (omega arith) (omega arith)) λ _.
+      next-sound (badLength (length a) (answerLength (byte a 0))) none (length-sound (length a) (answerLength (byte a 0))) λ _. none-sound
+
+  cabinet-sound : (r : ℕ) → Sound (firstOf (cabinetChecks a r))
+  unfolding cabinetChecks
+  cabinet-sound r =
+      rw (first-snoc (answerChecks a) (noRoom (byte a 0) (r + 1)))
+      (next-sound (firstOf (answerChecks a)) _ answer-sound λ _. room-sound (byte a 0) (r + 1))
+
+  module _ (small : (i : ℕ) → byte a i < 256) where
+    byte-below : (i : ℕ) → byte a i < 4294967296
+    byte-below i = let b = small i in omega arith
+
+    fields-tell : (r : ℕ) → FieldsTell a r
+    unfolding cabinetsIn countIn estimateIn valueIn markIn usedIn
+    fields-tell r =
+        record {
+          cabinets = size-tells (firstOf (answerChecks a)) (byte a 0) answer-sound (λ _. byte-below 0);
+          count = size-tells (firstOf (answerChecks a)) (byte a 1) answer-sound (λ _. byte-below 1);
+          estimate = size-tells (firstOf (answerChecks a)) (word a 2) answer-sound (λ _. word-fits a 2 small);
+          value = size-tells (firstOf (answerChecks a)) (word a 6) answer-sound (λ _. word-fits a 6 small);
+          mark = size-tells (firstOf (cabinetChecks a r)) (byte a (10 + r)) (cabinet-sound r) (λ _. byte-below (10 + r));
+          used = size-tells (firstOf (cabinetChecks a r)) (word a (10 + byte a 0 + 4 * r)) (cabinet-sound r)
+              (λ _. word-fits a (10 + byte a 0 + 4 * r) small);
+        }
+
+pub grants-below : GrantsBelow
+grants-below =
+    record {
+      settling = settle-tells;
+      reading = read-tells;
+      writing = write-tells;
+      planning = plan-tells;
+      stepping = step-tells;
+      fields = λ a r small. fields-tell a small r;
+      counting = λ c κ target answer t. target-tells c κ target answer (t .verdict) (t .is-packed) (t .is-target);
+    }

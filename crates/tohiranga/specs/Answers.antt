@@ -1,27 +1,42 @@
 -- What the calls of the C interface hand over, in document 01's terms. "Nothing lent is written" by a refusal, and the settings and the plan
 -- that it hands over are zeros, which every call refuses.
---   packedRefusal, packed    a refusal as number × 2^32 + place; a length or a count, or a refusal
---   settingsOf, planOf       settings and a plan, as C lays them out
---   openingOf                the reader's answer: the number of entries, with the settings
---   planningOf               the answer of the planner and of a step: the rounds done, with the plan
---   partIn                   the part of a sheet that start × 2^32 + length names
---   TargetPacked             a count for a target, or a refusal, packed
+--   twoTo32                   2^32
+--   upperHalf, lowerHalf      an answer over 2^32 and what is left: number and place of a refusal, start and length of a part
+--   packedRefusal, packed     a refusal as number × 2^32 + place; a length or a count, or a refusal
+--   settingsOf, sizesOf       settings, from and to C's layout
+--   schedulePlanOf, scheduleOf    a plan, from and to C's layout
+--   openingOf                 the reader's answer: the number of entries, with the settings
+--   planningOf                the answer of the planner and of a step: the rounds done, with the plan
+--   packedRow                 where a cabinet's row stands in a sheet: start × 2^32 + length, 0 where the part is empty
+--   partIn                    the part of a sheet that start × 2^32 + length names
+--   TargetPacked              a count for a target, or a refusal, packed
+use mathlib.Core.Bool.{cond}
 use mathlib.Core.List.{List}
 use mathlib.Core.Path.{_≡_}
 use Prim.Native.Nat.{ℕ, _+_, _*_, _/_, _%_}
-use lib.ListN.{take, drop}
+use lib.Dec.{eqb}
+use lib.ListN.{length, take, drop}
 use Rattle.model.specs.declared.Refusal.{Refusal}
 use Rattle.model.specs.declared.Settings.{Settings}
-use Rattle.model.specs.RoundSheet.{entryCount}
+use Rattle.model.specs.RoundSheet.{settingsAt, entryCount, rowStart}
 use Rattle.model.specs.Planner.{Plan}
-use Rattle.model.specs.Calls.{Verdict, granted, refused, Target}
+use Rattle.model.specs.Calls.{Verdict, granted, refused, row, Target}
 use Rattle.tohiranga.specs.declared.Sizes.{Sizes}
 use Rattle.tohiranga.specs.declared.Schedule.{Schedule}
 use Rattle.tohiranga.specs.declared.Opening.{Opening}
 use Rattle.tohiranga.specs.declared.Planning.{Planning}
 
+abbrev pub twoTo32 : ℕ
+twoTo32 = 4_294_967_296
+
+abbrev pub upperHalf : ℕ → ℕ
+upperHalf answer = answer / twoTo32
+
+abbrev pub lowerHalf : ℕ → ℕ
+lowerHalf answer = answer % twoTo32
+
 abbrev pub packedRefusal : Refusal → ℕ
-packedRefusal r = r .number * 4294967296 + r .place
+packedRefusal r = r .number * twoTo32 + r .place
 
 abbrev pub packed : Verdict ℕ → ℕ
 packed (granted size) = size
@@ -33,8 +48,8 @@ settingsOf c = record { n = c .n; m = c .m; rule = c .rule; estimator = c .estim
 abbrev pub sizesOf : Settings → Sizes
 sizesOf c = record { n = c .n; m = c .m; rule = c .rule; estimator = c .estimator; window = c .window }
 
-abbrev pub planOf : Schedule → Plan
-planOf p = record { settings = settingsOf (p .settings); accuracy = p .accuracy; rounds = p .rounds }
+abbrev pub schedulePlanOf : Schedule → Plan
+schedulePlanOf p = record { settings = settingsOf (p .settings); accuracy = p .accuracy; rounds = p .rounds }
 
 abbrev pub scheduleOf : Plan → Schedule
 scheduleOf p = record { settings = sizesOf (p .settings); accuracy = p .accuracy; rounds = p .rounds }
@@ -53,8 +68,12 @@ abbrev pub planningOf : Verdict Plan → Planning
 planningOf (granted p) = record { answer = p .rounds; plan = scheduleOf p }
 planningOf (refused r) = record { answer = packedRefusal r; plan = noSchedule }
 
+-- the start of the cabinet's row in the sheet, and the length of the part that the row accessor shows
+unfoldable pub packedRow : List ℕ → ℕ → ℕ
+packedRow s r = cond (eqb (length (row s r)) 0) 0 (rowStart (settingsAt s) r * twoTo32 + length (row s r))
+
 abbrev pub partIn : List ℕ → ℕ → List ℕ
-partIn s answer = take (answer % 4294967296) (drop (answer / 4294967296) s)
+partIn s answer = take (lowerHalf answer) (drop (upperHalf answer) s)
 
 -- which count that reaches the target is free
 pub record TargetPacked (c : Settings) (κ target answer : ℕ) : Type 0 where

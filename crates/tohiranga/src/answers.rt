@@ -1,12 +1,12 @@
 // The fields of an answer sheet of any bytes, for C and for Rust, and the version. Signed numbers go out as their 32 bits.
 ghost use mathlib.Core.Path.{_≡_};
-ghost use Rattle.answer_sheet.specs.Fields.{shownAs, cabinetsIn, countIn, estimateIn, valueIn, markIn, usedIn};
+ghost use Rattle.answer_sheet.specs.Fields.{shownOf, cabinetsIn, countIn, estimateIn, valueIn, markIn, usedIn};
 ghost use Rattle.version.specs.Version.{versionNumber};
 ghost use Rattle.tohiranga.specs.Answers.{packed};
 use answer_sheet::Shown;
 
 fn pack(shown: Shown) -> u64
-    ensures { λ r. ⌜ r ≡ packed (shownAs shown) ⌝ }
+    ensures { λ r. ⌜ r ≡ packed (shownOf shown) ⌝ }
 {
     match shown {
         Shown::Granted(number) => number as u64,

@@ -1,10 +1,8 @@
 // The calls for C and for Rust. An answer below 2^32 is a grant, any other is number × 2^32 + place of a refusal.
 ghost use mathlib.Core.Path.{_≡_};
-ghost use Prim.Native.Nat.{_+_, _/_, _%_, _≤_};
-ghost use lib.ListN.{length};
-ghost use Rattle.model.specs.Calls.{settle, read, write, row, plan, step};
+ghost use Rattle.model.specs.Calls.{settle, read, write, plan, step};
 ghost use Rattle.planner.specs.Answers.{plannedOf};
-ghost use Rattle.tohiranga.specs.Answers.{packedRefusal, packed, settingsOf, sizesOf, planOf, noSizes, openingOf, planningOf, partIn, TargetPacked};
+ghost use Rattle.tohiranga.specs.Answers.{packedRefusal, packed, settingsOf, sizesOf, schedulePlanOf, noSizes, openingOf, planningOf, packedRow, TargetPacked};
 use inspection::Opened;
 use model::Refusal;
 use model::Settings;
@@ -188,7 +186,7 @@ pub extern "C" fn tohiranga_plan(settings: Sizes, accuracy: u32, rounds: u32) ->
 // The plan one round on. The answer is the rounds done.
 #[no_mangle]
 pub extern "C" fn tohiranga_step(plan: Schedule) -> Planning
-    ensures { λ r. ⌜ r ≡ planningOf (step (planOf plan)) ⌝ }
+    ensures { λ r. ⌜ r ≡ planningOf (step (schedulePlanOf plan)) ⌝ }
 {
     let sizes = plan.settings;
     let settings = settings_of(sizes);
@@ -214,8 +212,7 @@ pub extern "C" fn tohiranga_target(settings: Sizes, accuracy: u32, target: u32) 
 // Where a cabinet's row of readings stands in the sheet: start × 2^32 + length of the part, 0 for an empty part.
 #[no_mangle]
 pub extern "C" fn tohiranga_row(sheet: &[u8], cabinet: u32) -> u64
-    ensures { λ r. ⌜ partIn (now (sheet .entry)) r ≡ row (now (sheet .entry)) cabinet ⌝ }
-    ensures { λ r. ⌜ r / 4294967296 + r % 4294967296 ≤ length (now (sheet .entry)) ⌝ }
+    ensures { λ r. ⌜ r ≡ packedRow (now (sheet .entry)) cabinet ⌝ }
 {
     let Opened::Granted(settings) = inspection::validate(sheet) else {
         return 0;

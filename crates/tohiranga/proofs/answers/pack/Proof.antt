@@ -3,7 +3,7 @@
 use borrow.Author.Needs.{needs}
 use mathlib.Core.Path.{sym, ap, _∙_}
 use Rattle.answer_sheet.specs.declared.Shown.{Shown}
-use Rattle.answer_sheet.specs.Fields.{shownAs}
+use Rattle.answer_sheet.specs.Fields.{shownOf}
 use Rattle.tohiranga.specs.Answers.{packed}
 use Rattle.tohiranga.proofs.answers.pack.Statement.{statement}
 use Rattle.tohiranga.proofs.answers.pack.Tie as tie
@@ -24,7 +24,7 @@ returns : tie.Need-returns
 returns c = search needs
 
 returns-2 : tie.Need-returns-2
-returns-2 c = c .refused .ensures ∙ sym (ap (λ (x : Shown). packed (shownAs x)) (c .before .before .shown2 .given .1))
+returns-2 c = c .refused .ensures ∙ sym (ap (λ (x : Shown). packed (shownOf x)) (c .before .before .shown2 .given .1))
 
 pub pack-spec : {M : Type 1} → statement M
 pack-spec =

@@ -1,0 +1,12 @@
+-- A number packed as upper × 2^32 + lower gives both back.
+-- Assumes nothing.
+use mathlib.Core.Path.{_≡_}
+use Prim.Native.Nat.{ℕ, _+_, _*_, _<_}
+use native.Mathlib.Omega.{arith}
+use Rattle.tohiranga.specs.Answers.{upperHalf, lowerHalf}
+
+pub upper-back : (upper lower : ℕ) → lower < 4294967296 → upperHalf (upper * 4294967296 + lower) ≡ upper
+upper-back upper lower h = omega arith
+
+pub lower-back : (upper lower : ℕ) → lower < 4294967296 → lowerHalf (upper * 4294967296 + lower) ≡ lower
+lower-back upper lower h = omega arith

@@ -25,7 +25,7 @@ use Rattle.round.specs.Answers.{settlingOf}
 use Rattle.text.specs.Text.{textIn, roundCapacity, refusalCapacity, roundWritten, refusalWritten}
 use Rattle.text.proofs.Texts.{text-shown}
 use Rattle.text.proofs.Listings.{listing-refused, listing-settled}
-use Rattle.listing.specs.Listed.{listed}
+use Rattle.listing.specs.Listed.{listingIn}
 use Rattle.listing.proofs.Sheets.{settled-estimate, settled-value, settled-used}
 
 -- ---- the part of the input that is read
@@ -75,8 +75,8 @@ module _ (input buffer answer left : List ℕ) (end : ℕ) (size : end ≡ min (
   refusal-room text = rw (le-ltb (length buffer) 23 (le-trans (lit≤ tt) room), le-ltb (length buffer) 5138 room)
 
   pub refusal-listed : (r : Refusal) → settlingOf (Refused r) left ≡ settle (take end input) answer
-      → refusalWritten (r .number) (r .place) buffer ≡ listed input buffer
-  unfolding listed
+      → refusalWritten (r .number) (r .place) buffer ≡ listingIn input buffer
+  unfolding listingIn
   refusal-listed r e =
       listing-refused input buffer r
       (refused-some (firstOf (settleChecks sheet (length listingBuffer))) (answerLength (settingsAt sheet .n)) r
@@ -84,8 +84,8 @@ module _ (input buffer answer left : List ℕ) (end : ℕ) (size : end ≡ min (
       ∙ refusal-room (listing input)
 
   pub round-listed : ((j : ℕ) → byte input j < 256) → (n : ℕ) → settlingOf (Granted n) left ≡ settle (take end input) answer
-      → roundWritten left buffer ≡ listed input buffer
-  unfolding listed
+      → roundWritten left buffer ≡ listingIn input buffer
+  unfolding listingIn
   round-listed small n e =
       ap (λ (l : List ℕ). roundWritten l buffer) (ap (λ (w : Outcome). w .buffer) (settled-here _ e))
       ∙ listing-settled input buffer passed
@@ -103,8 +103,8 @@ module _ (input buffer answer left : List ℕ) (end : ℕ) (size : end ≡ min (
 
 -- the bytes up to the answered length are the listing
 pub listing-shown : (input buffer : List ℕ) → 5138 ≤ length buffer
-    → take (listed input buffer .size) (listed input buffer .buffer) ≡ listing input
-unfolding listed
+    → take (listingIn input buffer .size) (listingIn input buffer .buffer) ≡ listing input
+unfolding listingIn
 listing-shown input buffer room = text-shown 5138 (listing input) buffer room
 
 -- a buffer that keeps its length holds the whole listing
@@ -115,10 +115,10 @@ overwrite-fits new old same =
     let rest = length-drop (length new) old in
     omega arith
 
-pub listing-fits : (input buffer new : List ℕ) (size : ℕ) → size ≡ listed input buffer .size → new ≡ listed input buffer .buffer
+pub listing-fits : (input buffer new : List ℕ) (size : ℕ) → size ≡ listingIn input buffer .size → new ≡ listingIn input buffer .buffer
     → length new ≡ length buffer
     → size ≤ length new
-unfolding listed
+unfolding listingIn
 listing-fits input buffer new size answered written same = go (ltb (length buffer) roundCapacity) refl
   where
     go : (short : Bool) → ltb (length buffer) roundCapacity ≡ short → size ≤ length new

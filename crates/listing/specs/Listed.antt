@@ -5,5 +5,5 @@ use Prim.Native.Nat.{ℕ}
 use Rattle.model.specs.Listing.{listing}
 use Rattle.text.specs.Text.{Text, textIn, roundCapacity}
 
-unfoldable pub listed : List ℕ → List ℕ → Text
-listed input buffer = textIn roundCapacity (listing input) buffer
+unfoldable pub listingIn : List ℕ → List ℕ → Text
+listingIn input buffer = textIn roundCapacity (listing input) buffer

@@ -3,7 +3,7 @@ ghost use mathlib.Core.Path.{_≡_};
 ghost use Prim.Native.Nat.{_≤_, min};
 ghost use lib.ListN.{length};
 ghost use Rattle.model.specs.Listing.{maxInput, listingBuffer};
-ghost use Rattle.listing.specs.Listed.{listed};
+ghost use Rattle.listing.specs.Listed.{listingIn};
 use round::Settled;
 use text::ROUND_CAPACITY;
 
@@ -21,8 +21,8 @@ fn read_size(size: usize) -> usize
 fn listing_in(input: &[u8], answer: &mut [u8], text: &mut [u8]) -> usize
     requires { ⌜ now answer ≡ listingBuffer ⌝ }
     requires { ⌜ 5138 ≤ length (now text) ⌝ }
-    ensures { λ r. ⌜ r ≡ listed (now (input .entry)) (now (text .entry)) .size ⌝ }
-    ensures { λ _. ⌜ now (text .exit) ≡ listed (now (input .entry)) (now (text .entry)) .buffer ⌝ }
+    ensures { λ r. ⌜ r ≡ listingIn (now (input .entry)) (now (text .entry)) .size ⌝ }
+    ensures { λ _. ⌜ now (text .exit) ≡ listingIn (now (input .entry)) (now (text .entry)) .buffer ⌝ }
 {
     let end = read_size(input.len());
     match round::settle(&input[..end], answer) {
@@ -34,8 +34,8 @@ fn listing_in(input: &[u8], answer: &mut [u8], text: &mut [u8]) -> usize
 // The text that `settle` writes for an input of any bytes. A buffer below the capacity of a round's text is left as it
 // was, and the answer is 0.
 pub fn listing(input: &[u8], text: &mut [u8]) -> usize
-    ensures { λ r. ⌜ r ≡ listed (now (input .entry)) (now (text .entry)) .size ⌝ }
-    ensures { λ _. ⌜ now (text .exit) ≡ listed (now (input .entry)) (now (text .entry)) .buffer ⌝ }
+    ensures { λ r. ⌜ r ≡ listingIn (now (input .entry)) (now (text .entry)) .size ⌝ }
+    ensures { λ _. ⌜ now (text .exit) ≡ listingIn (now (input .entry)) (now (text .entry)) .buffer ⌝ }
 {
     if text.len() < ROUND_CAPACITY {
         return 0;

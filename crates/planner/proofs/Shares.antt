@@ -16,13 +16,13 @@ use Rattle.planning.proofs.Windows.{share-le, passes-window}
 
 module _ (c : Settings) where
   module _ (e : firstOf (settingsChecks c) ≡ none) where
-    pub product-le : c .m * c .window ≤ 21000000
-    product-le =
+    pub faults-window-le : c .m * c .window ≤ 21000000
+    faults-window-le =
         let s = limits c e in
         mul-le-mul {n₂ = 21} {m₂ = 1000000} (omega arith) (s .window)
 
     pub dividend-le : (f : ℕ) → f ≤ 2 → f * (c .m * c .window) ≤ 42000000
-    dividend-le f l = mul-le-mul {n₂ = 2} {m₂ = 21000000} l product-le
+    dividend-le f l = mul-le-mul {n₂ = 2} {m₂ = 21000000} l faults-window-le
 
     pub quotient-le : (f : ℕ) → f ≤ 2 → ceilDiv (f * (c .m * c .window)) (c .n) ≤ 1000000
     quotient-le f l =

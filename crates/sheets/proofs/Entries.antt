@@ -18,7 +18,7 @@ use Rattle.model.specs.Ensemble.{Reading, missing, present, Readings, isPresent
 use Rattle.model.specs.RoundSheet.{entryCount, sheetLength, entryAt, sheetBytes}
 use Rattle.model.specs.Refusals.{firstOf, settingsChecks}
 use Rattle.model.specs.Calls.{granted, write}
-use Rattle.sheets.proofs.Written.{WellFormed, entryOf, entry-back}
+use Rattle.sheets.proofs.Written.{WellFormed, entryWith, entry-back}
 use Rattle.sheets.proofs.RoundTrips.{write-fills}
 
 -- a missing reading has the mark 0 and no ticks, a present one the mark 1 and its own
@@ -32,7 +32,7 @@ bit-zero : (r : Reading) → bit (isPresent r) ≡ 0 → ticks r ≡ pos 0
 bit-zero missing h = refl
 bit-zero (present z) h = absurd (omega arith)
 
-bit-same : (r : Reading) → entryOf (bit (isPresent r)) (ticks r) ≡ r
+bit-same : (r : Reading) → entryWith (bit (isPresent r)) (ticks r) ≡ r
 bit-same missing = refl
 bit-same (present z) = refl
 
@@ -62,7 +62,7 @@ module _
       → entryAt (sheetBytes c (marksFrom c entry) (ticksFrom c entry)) (entryCount c) e ≡ entry e
   filled-entry e h =
       entry-back c (marksFrom c entry) (ticksFrom c entry) filled-well-formed e h
-      ∙ ap₂ entryOf (mark-at e h) (ticks-at e h)
+      ∙ ap₂ entryWith (mark-at e h) (ticks-at e h)
       ∙ bit-same (entry e)
 
   -- the writer grants, and leaves the sheet in a buffer of just its length

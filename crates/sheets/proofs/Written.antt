@@ -76,13 +76,13 @@ module _ (c : Settings) (marks : List ℕ) (readings : List ℤ) where
       ∙ word-readings readings [] e h fits
 
 -- an entry that a mark and a reading make
-abbrev pub entryOf : ℕ → ℤ → Reading
-entryOf mark z = cond (eqb mark 1) (present z) missing
+abbrev pub entryWith : ℕ → ℤ → Reading
+entryWith mark z = cond (eqb mark 1) (present z) missing
 
-pub entry-missing : (mark : ℕ) (z : ℤ) → mark ≡ 0 → entryOf mark z ≡ missing
+pub entry-missing : (mark : ℕ) (z : ℤ) → mark ≡ 0 → entryWith mark z ≡ missing
 entry-missing mark z h = rw h
 
-pub entry-present : (mark : ℕ) (z : ℤ) → mark ≡ 1 → entryOf mark z ≡ present z
+pub entry-present : (mark : ℕ) (z : ℤ) → mark ≡ 1 → entryWith mark z ≡ present z
 entry-present mark z h = rw h
 
 module _ (c : Settings) (marks : List ℕ) (readings : List ℤ) (w : WellFormed c marks readings) where
@@ -127,9 +127,9 @@ module _ (c : Settings) (marks : List ℕ) (readings : List ℤ) (w : WellFormed
   -- each entry
   pub entry-back :
       (e : ℕ) → e < entryCount c
-      → entryAt (sheetBytes c marks readings) (entryCount c) e ≡ entryOf (getD marks e 0) (getD readings e (pos 0))
+      → entryAt (sheetBytes c marks readings) (entryCount c) e ≡ entryWith (getD marks e 0) (getD readings e (pos 0))
   unfolding entryAt
-  entry-back e h = ap₂ entryOf (mark-back e h) (ticks-back e h)
+  entry-back e h = ap₂ entryWith (mark-back e h) (ticks-back e h)
 
   pub entry-missing-back :
       (e : ℕ) → e < entryCount c → getD marks e 0 ≡ 0

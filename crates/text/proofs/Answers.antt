@@ -16,7 +16,7 @@ use Rattle.model.specs.Steps.{Round}
 use Rattle.model.specs.Listing.{cabinetLines, roundText}
 use Rattle.sheets.proofs.Answer.{answer-cabinets, answer-count, answer-estimate, answer-value, answer-mark, answer-used}
 use Rattle.text.specs.Putting.{Puts}
-use Rattle.text.specs.Text.{roundIn, roundLine, cabinetLine, roundCapacity, textIn, roundWritten}
+use Rattle.text.specs.Text.{answerRound, roundLine, cabinetLine, roundCapacity, textIn, roundWritten}
 use Rattle.text.proofs.Putting.{puts-then}
 use Rattle.text.proofs.Lines.{length-round-line, cabinets-more, cabinets-grow, length-cabinets}
 
@@ -24,36 +24,36 @@ use Rattle.text.proofs.Lines.{length-round-line, cabinets-more, cabinet
 
 module _ (s : List ℕ) where
   module _ (n r mark used : ℕ) (cabinets : n ≡ byte s 0) (m : mark ≡ byte s (10 + r)) (u : used ≡ word s (10 + n + 4 * r)) where
-    pub cabinet-next : cabinetLines (roundIn s) (r + 1) ≡ cabinetLines (roundIn s) r ++ cabinetLine r mark used
-    unfolding roundIn
-    cabinet-next = rw (m, u, cabinets) (cabinets-more (roundIn s) r)
+    pub cabinet-next : cabinetLines (answerRound s) (r + 1) ≡ cabinetLines (answerRound s) r ++ cabinetLine r mark used
+    unfolding answerRound
+    cabinet-next = rw (m, u, cabinets) (cabinets-more (answerRound s) r)
 
     pub cabinet-room : r < n
-        → length (cabinetLines (roundIn s) r) + length (cabinetLine r mark used) ≤ length (cabinetLines (roundIn s) n)
+        → length (cabinetLines (answerRound s) r) + length (cabinetLine r mark used) ≤ length (cabinetLines (answerRound s) n)
     cabinet-room h =
-        let grown = cabinets-grow (roundIn s) (r + 1) n (omega arith) in
+        let grown = cabinets-grow (answerRound s) (r + 1) n (omega arith) in
         let next = ap length cabinet-next in
-        let whole = length-append (cabinetLines (roundIn s) r) (cabinetLine r mark used) in
+        let whole = length-append (cabinetLines (answerRound s) r) (cabinetLine r mark used) in
         omega arith
 
-    pub cabinet-put : {old text new : List ℕ} {at next end : ℕ} → Puts old at (cabinetLines (roundIn s) r) text next
-        → Puts text next (cabinetLine r mark used) new end → Puts old at (cabinetLines (roundIn s) (r + 1)) new end
+    pub cabinet-put : {old text new : List ℕ} {at next end : ℕ} → Puts old at (cabinetLines (answerRound s) r) text next
+        → Puts text next (cabinetLine r mark used) new end → Puts old at (cabinetLines (answerRound s) (r + 1)) new end
     cabinet-put before here = rw cabinet-next (puts-then before here)
 
   pub round-lines : (n count estimate value : ℕ) → n ≡ byte s 0 → count ≡ byte s 1 → estimate ≡ word s 2
       → value ≡ word s 6
-      → roundText (byte s 0) (roundIn s) ≡ roundLine n count estimate value ++ cabinetLines (roundIn s) n
-  unfolding roundText roundIn
+      → roundText (byte s 0) (answerRound s) ≡ roundLine n count estimate value ++ cabinetLines (answerRound s) n
+  unfolding roundText answerRound
   round-lines n count estimate value cabinets accepted e v = rw (accepted, e, v, cabinets)
 
   -- no answer sheet has a longer text
-  pub length-round : ((j : ℕ) → byte s j < 256) → length (roundText (byte s 0) (roundIn s)) ≤ roundCapacity
-  unfolding roundText roundIn
+  pub length-round : ((j : ℕ) → byte s j < 256) → length (roundText (byte s 0) (answerRound s)) ≤ roundCapacity
+  unfolding roundText answerRound
   length-round small =
       let few = small 0 in
       let first = length-round-line (byte s 0) (byte s 1) (word s 2) (word s 6) few (small 1) in
-      let rest = length-cabinets (roundIn s) (byte s 0) (omega arith) (λ r l. small (10 + r)) in
-      let whole = length-append (roundLine (byte s 0) (byte s 1) (word s 2) (word s 6)) (cabinetLines (roundIn s) (byte s 0)) in
+      let rest = length-cabinets (answerRound s) (byte s 0) (omega arith) (λ r l. small (10 + r)) in
+      let whole = length-append (roundLine (byte s 0) (byte s 1) (word s 2) (word s 6)) (cabinetLines (answerRound s) (byte s 0)) in
       omega arith
 
 -- ---- a settled round
@@ -80,10 +80,10 @@ module _ (n : ℕ) (round : Round) (old : List ℕ)
   answer = overwrite (answerBytes n round) old
 
   -- the round that the answer sheet of a settled round says has that round's text
-  pub settled-text : roundText n (roundIn answer) ≡ roundText n round
-  unfolding roundIn
+  pub settled-text : roundText n (answerRound answer) ≡ roundText n round
+  unfolding answerRound
   settled-text =
-      text-alike (roundIn answer) round n
+      text-alike (answerRound answer) round n
       (answer-count n round old)
       (answer-estimate n round old estimate-fits)
       (answer-value n round old value-fits)

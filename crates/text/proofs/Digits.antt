@@ -105,12 +105,12 @@ first-stays : (l m : List ℕ) → 48 < getD l 0 0 → 48 < getD (l ++ m) 0 0
 first-stays [] m h = omega arith
 first-stays (d ∷ l) m h = h
 
-pub leading : (k x : ℕ) → 0 < x → x < 10 ^ k → 48 < getD (digitsUpTo k x) 0 0
-leading zero x some below = let b : x < 1 = below in omega arith
-leading (suc k) x some below =
+pub first-digit-some : (k x : ℕ) → 0 < x → x < 10 ^ k → 48 < getD (digitsUpTo k x) 0 0
+first-digit-some zero x some below = let b : x < 1 = below in omega arith
+first-digit-some (suc k) x some below =
     digits-cases (λ l. 48 < getD l 0 0) k x
     (λ h. omega arith)
-    (λ h. first-stays (digitsUpTo k (x / 10)) ((48 + x % 10) ∷ []) (leading k (x / 10) (omega arith) (tenth-below k x below)))
+    (λ h. first-stays (digitsUpTo k (x / 10)) ((48 + x % 10) ∷ []) (first-digit-some k (x / 10) (omega arith) (tenth-below k x below)))
 
 -- ---- read back
 
@@ -170,7 +170,7 @@ module _ (x : ℕ) (fits : x < 4_294_967_296) where
   read-decimal = read-digits 10 x below-ten-digits
 
   pub no-leading-zero : 0 < x → 48 < getD (decimal x) 0 0
-  no-leading-zero some = leading 10 x some below-ten-digits
+  no-leading-zero some = first-digit-some 10 x some below-ten-digits
 
 pub decimal-zero : decimal 0 ≡ 48 ∷ []
 unfolding digitsUpTo

@@ -32,14 +32,14 @@ length-signed (negsuc x) = omega (arith, length-decimal (suc x))
 
 -- ---- read back
 
-abbrev pub minus : ℕ → ℤ
-minus zero = pos 0
-minus (suc x) = negsuc x
+abbrev pub below-zero : ℕ → ℤ
+below-zero zero = pos 0
+below-zero (suc x) = negsuc x
 
 -- the number that a text says: after a minus sign one below 0
 unfoldable pub readSigned : List ℕ → ℤ
 readSigned [] = pos 0
-readSigned (b ∷ bytes) = elim (eqb b 45) [ true ↦ minus (readFrom 0 bytes) | false ↦ pos (readFrom 0 (b ∷ bytes)) ]
+readSigned (b ∷ bytes) = elim (eqb b 45) [ true ↦ below-zero (readFrom 0 bytes) | false ↦ pos (readFrom 0 (b ∷ bytes)) ]
 
 read-unsigned : (l : List ℕ) → 48 ≤ getD l 0 0 → readSigned l ≡ pos (readFrom 0 l)
 unfolding readSigned readFrom
@@ -53,4 +53,4 @@ read-signed (pos x) fits =
     read-unsigned (decimal x) (all-digits 10 x 0 (decimal-some x) .0) ∙ ap pos (read-decimal x (omega arith))
 read-signed (negsuc x) fits =
     let h : x < 2_147_483_648 = fits .sfits in
-    ap minus (read-decimal (suc x) (omega arith))
+    ap below-zero (read-decimal (suc x) (omega arith))

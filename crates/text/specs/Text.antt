@@ -1,5 +1,5 @@
 -- What writing a text gives, and what it leaves in the lent buffer.
---   roundIn                           the round that an answer sheet says
+--   answerRound                       the round that an answer sheet says
 --   roundLine, cabinetLine            the first line, and a cabinet's, of numbers given by their bits
 --   roundCapacity, refusalCapacity    bytes that hold any round's text, any refusal's
 --   Text, textIn                      the length of the text and the buffer with it; nothing is written below the
@@ -20,8 +20,8 @@ use Rattle.model.specs.Refusals.{refusal}
 use Rattle.model.specs.Listing.{decimal, signedDecimal, line, roundWord, roundText, refusalText}
 
 -- document 01, "The answer sheet", read back
-unfoldable pub roundIn : List ℕ → Round
-roundIn answer =
+unfoldable pub answerRound : List ℕ → Round
+answerRound answer =
     record {
       count = byte answer 1;
       estimate = toZ w32 (word answer 2);
@@ -62,7 +62,7 @@ textIn capacity text buffer =
     (record { size = length text; buffer = overwrite text buffer })
 
 unfoldable pub roundWritten : List ℕ → List ℕ → Text
-roundWritten answer buffer = textIn roundCapacity (roundText (byte answer 0) (roundIn answer)) buffer
+roundWritten answer buffer = textIn roundCapacity (roundText (byte answer 0) (answerRound answer)) buffer
 
 unfoldable pub refusalWritten : ℕ → ℕ → List ℕ → Text
 refusalWritten number place buffer = textIn refusalCapacity (refusalText (refusal number place)) buffer

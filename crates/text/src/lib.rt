@@ -8,7 +8,7 @@ ghost use mir.Val.{toZ};
 ghost use Rattle.model.specs.RoundSheet.{byte};
 ghost use Rattle.model.specs.Listing.{decimal, signedDecimal, cabinetLines};
 ghost use Rattle.text.specs.Putting.{Puts};
-ghost use Rattle.text.specs.Text.{roundIn, roundLine, cabinetLine, roundWritten, refusalWritten};
+ghost use Rattle.text.specs.Text.{answerRound, roundLine, cabinetLine, roundWritten, refusalWritten};
 
 // Bytes that hold the longest text of an answer sheet, and of a refusal.
 pub const ROUND_CAPACITY: usize = 5138;
@@ -120,8 +120,8 @@ fn put_cabinet(text: &mut [u8], at: usize, r: u32, mark: u32, used: u32) -> usiz
 // Puts a line for each of the cabinets 0 to n-1, as the answer sheet has them.
 fn put_cabinets(text: &mut [u8], at: usize, answer: &[u8], n: u32) -> usize
     requires { ⌜ n ≡ byte (now answer) 0 ⌝ }
-    requires { ⌜ at + length (cabinetLines (roundIn (now answer)) n) ≤ length (now text) ⌝ }
-    ensures { λ r. ⌜ Puts (now (text .entry)) at (cabinetLines (roundIn (now (answer .entry))) n) (now (text .exit)) r ⌝ }
+    requires { ⌜ at + length (cabinetLines (answerRound (now answer)) n) ≤ length (now text) ⌝ }
+    ensures { λ r. ⌜ Puts (now (text .entry)) at (cabinetLines (answerRound (now (answer .entry))) n) (now (text .exit)) r ⌝ }
 {
     let mut next = at;
     let mut passed: u32 = 0;

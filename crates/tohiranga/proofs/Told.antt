@@ -32,7 +32,7 @@ use Rattle.planning.proofs.Checks.{none-may-start, none-may-step}
 use Rattle.planning.proofs.Rounds.{rounds-after}
 use Rattle.answer_sheet.specs.Fields.{answerChecks, cabinetChecks, cabinetsIn, countIn, estimateIn, valueIn, markIn, usedIn}
 use Rattle.tohiranga.specs.Answers.{packedRefusal, packed, openingOf, planningOf, TargetPacked}
-use Rattle.tohiranga.specs.Statements.{Refuses, Tells, FieldsTell, GrantsBelow}
+use Rattle.tohiranga.specs.Statements.{Refuses, AnswerTells, FieldsTell, GrantsBelow}
 use Rattle.tohiranga.proofs.Halves.{upper-back, lower-back}
 
 -- ---- A refusal of the table: number 1 to 12, and a place that 32 bits hold
@@ -174,21 +174,21 @@ refusal-tells r t =
     }
 
 size-tells : (check : Check) (size : ℕ) → Sound check → (check ≡ none → size < 4294967296)
-    → Tells (verdict check size) (packed (verdict check size))
+    → AnswerTells (verdict check size) (packed (verdict check size))
 size-tells none size t small = small refl
 size-tells (some r) size t small = refusal-tells r (t .told r refl)
 
 opening-tells : (check : Check) (c : Settings) → Sound check → (check ≡ none → entryCount c < 4294967296)
-    → Tells (verdict check c) (openingOf (verdict check c) .answer)
+    → AnswerTells (verdict check c) (openingOf (verdict check c) .answer)
 opening-tells none c t small = small refl
 opening-tells (some r) c t small = refusal-tells r (t .told r refl)
 
 planning-tells : (check : Check) (p : Plan) → Sound check → (check ≡ none → p .rounds < 4294967296)
-    → Tells (verdict check p) (planningOf (verdict check p) .answer)
+    → AnswerTells (verdict check p) (planningOf (verdict check p) .answer)
 planning-tells none p t small = small refl
 planning-tells (some r) p t small = refusal-tells r (t .told r refl)
 
-settle-tells : (s answer : List ℕ) → Tells (settle s answer .verdict) (packed (settle s answer .verdict))
+settle-tells : (s answer : List ℕ) → AnswerTells (settle s answer .verdict) (packed (settle s answer .verdict))
 unfolding settle
 settle-tells s answer =
     size-tells (firstOf (settleChecks s (length answer))) (answerLength (settingsAt s .n)) (settle-sound s (length answer)) λ pass.
@@ -197,7 +197,7 @@ settle-tells s answer =
     omega arith
 
 read-tells : (s marks : List ℕ) (readings : List ℤ)
-    → Tells (read s marks readings .verdict) (openingOf (read s marks readings .verdict) .answer)
+    → AnswerTells (read s marks readings .verdict) (openingOf (read s marks readings .verdict) .answer)
 unfolding read
 read-tells s marks readings =
     opening-tells (firstOf (readChecks s (length marks) (length readings))) (settingsAt s) (read-sound s (length marks) (length readings)) λ pass.
@@ -206,14 +206,14 @@ read-tells s marks readings =
     omega arith
 
 write-tells : (c : Settings) (marks : List ℕ) (readings : List ℤ) (buffer : List ℕ)
-    → Tells (write c marks readings buffer .verdict) (packed (write c marks readings buffer .verdict))
+    → AnswerTells (write c marks readings buffer .verdict) (packed (write c marks readings buffer .verdict))
 unfolding write
 write-tells c marks readings buffer =
     size-tells (firstOf (writeChecks c marks readings (length buffer))) (sheetLength c) (write-sound c marks readings (length buffer)) λ pass.
     let few = few-entries c (next-none-left (firstOf (settingsChecks c)) _ (sym (write-checks c marks readings (length buffer)) ∙ pass)) in
     omega arith
 
-plan-tells : (c : Settings) (κ k : ℕ) → Tells (plan c κ k) (planningOf (plan c κ k) .answer)
+plan-tells : (c : Settings) (κ k : ℕ) → AnswerTells (plan c κ k) (planningOf (plan c κ k) .answer)
 unfolding plan planChecks
 plan-tells c κ k =
     planning-tells (firstOf (planChecks c κ k)) (after k (planFrom c κ)) (planning-sound c (ltb 1000000000 κ || ltb 32 k)) λ pass.
@@ -221,14 +221,14 @@ plan-tells c κ k =
     let done = rounds-after k (planFrom c κ) in
     omega arith
 
-step-tells : (p : Plan) → Tells (step p) (planningOf (step p) .answer)
+step-tells : (p : Plan) → AnswerTells (step p) (planningOf (step p) .answer)
 unfolding step stepChecks advance
 step-tells p =
     planning-tells (firstOf (stepChecks p)) (advance p) (planning-sound (p .settings) _) λ pass.
     let early = none-may-step p pass .early in
     omega arith
 
-target-tells : (c : Settings) (κ target answer : ℕ) (v : Verdict ℕ) → answer ≡ packed v → Target c κ target v → Tells v answer
+target-tells : (c : Settings) (κ target answer : ℕ) (v : Verdict ℕ) → answer ≡ packed v → Target c κ target v → AnswerTells v answer
 target-tells c κ target answer (granted k) same t =
     let most = t .1 .most in
     omega arith

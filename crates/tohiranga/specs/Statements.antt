@@ -1,7 +1,7 @@
 -- What include/tohiranga.h says of answers, of every call and everything that it is given. `proofs/Told.antt` and `proofs/Parts.antt` have
 -- the theorems `grants-below : GrantsBelow` and `row-named : RowNamed`.
 --   Refuses        an answer is 2^32 or above, and gives back the number of a refusal, 1 to 12, and its place
---   Tells          an answer tells a verdict: below 2^32 where it grants, and else its refusal
+--   AnswerTells    an answer tells a verdict: below 2^32 where it grants, and else its refusal
 --   FieldsTell     the answers of the calls for an answer sheet's fields do
 --   GrantsBelow    the answers of all calls do
 --   RowNamed       the answer of the row call names the row's bytes, inside the sheet
@@ -27,27 +27,27 @@ pub record Refuses (r : Refusal) (answer : ℕ) : Type 0 where
   pub last : r .number ≤ 12
 
 -- "An answer below 2^32 is a grant"
-abbrev pub Tells : {A : Type 0} → Verdict A → ℕ → Type 0
-Tells (granted a) answer = answer < twoTo32
-Tells (refused r) answer = Refuses r answer
+abbrev pub AnswerTells : {A : Type 0} → Verdict A → ℕ → Type 0
+AnswerTells (granted a) answer = answer < twoTo32
+AnswerTells (refused r) answer = Refuses r answer
 
 pub record FieldsTell (a : List ℕ) (r : ℕ) : Type 0 where
-  pub cabinets : Tells (cabinetsIn a) (packed (cabinetsIn a))
-  pub count : Tells (countIn a) (packed (countIn a))
-  pub estimate : Tells (estimateIn a) (packed (estimateIn a))
-  pub value : Tells (valueIn a) (packed (valueIn a))
-  pub mark : Tells (markIn a r) (packed (markIn a r))
-  pub used : Tells (usedIn a r) (packed (usedIn a r))
+  pub cabinets : AnswerTells (cabinetsIn a) (packed (cabinetsIn a))
+  pub count : AnswerTells (countIn a) (packed (countIn a))
+  pub estimate : AnswerTells (estimateIn a) (packed (estimateIn a))
+  pub value : AnswerTells (valueIn a) (packed (valueIn a))
+  pub mark : AnswerTells (markIn a r) (packed (markIn a r))
+  pub used : AnswerTells (usedIn a r) (packed (usedIn a r))
 
 pub record GrantsBelow : Type 0 where
-  pub settling : (s answer : List ℕ) → Tells (settle s answer .verdict) (packed (settle s answer .verdict))
+  pub settling : (s answer : List ℕ) → AnswerTells (settle s answer .verdict) (packed (settle s answer .verdict))
   pub reading : (s marks : List ℕ) (readings : List ℤ)
-      → Tells (read s marks readings .verdict) (openingOf (read s marks readings .verdict) .answer)
+      → AnswerTells (read s marks readings .verdict) (openingOf (read s marks readings .verdict) .answer)
   pub writing : (c : Settings) (marks : List ℕ) (readings : List ℤ) (buffer : List ℕ)
-      → Tells (write c marks readings buffer .verdict) (packed (write c marks readings buffer .verdict))
-  pub planning : (c : Settings) (κ k : ℕ) → Tells (plan c κ k) (planningOf (plan c κ k) .answer)
-  pub stepping : (p : Plan) → Tells (step p) (planningOf (step p) .answer)
-  pub counting : (c : Settings) (κ target answer : ℕ) (t : TargetPacked c κ target answer) → Tells (t .verdict) answer
+      → AnswerTells (write c marks readings buffer .verdict) (packed (write c marks readings buffer .verdict))
+  pub planning : (c : Settings) (κ k : ℕ) → AnswerTells (plan c κ k) (planningOf (plan c κ k) .answer)
+  pub stepping : (p : Plan) → AnswerTells (step p) (planningOf (step p) .answer)
+  pub counting : (c : Settings) (κ target answer : ℕ) (t : TargetPacked c κ target answer) → AnswerTells (t .verdict) answer
   pub fields : (a : List ℕ) (r : ℕ) → ((i : ℕ) → byte a i < 256) → FieldsTell a r
 
 -- "Where the row of readings of a cabinet stands in the sheet: start * 2^32 + length, within the sheet"

@@ -4,12 +4,12 @@
 use borrow.Author.Needs.{needs}
 use Rattle.model.specs.Listing.{listing}
 use Rattle.text.proofs.Texts.{text-refused}
-use Rattle.listing.specs.Listed.{listed}
+use Rattle.listing.specs.Listed.{listingIn}
 use Rattle.listing.proofs.listing.Statement.{statement}
 use Rattle.listing.proofs.listing.Tie as tie
 
 returns : tie.Need-returns
-unfolding listed
+unfolding listingIn
 returns c =
     let args = c .before .before .before .args in
     text-refused 5138 (listing (args .input .now)) (args .text .now) (c .if1 .taken)

@@ -12,7 +12,7 @@ use Rattle.round.specs.declared.Settled.{Settled}
 use Rattle.round.specs.declared.Settled.the-variants.{Granted, Refused}
 use Rattle.round.specs.Answers.{settlingOf}
 use Rattle.text.specs.Text.{Text, roundWritten, refusalWritten}
-use Rattle.listing.specs.Listed.{listed}
+use Rattle.listing.specs.Listed.{listingIn}
 use Rattle.listing.proofs.Outcomes.{read-length, refusal-listed, round-listed}
 use Rattle.listing.proofs.listing_in.Statement.{statement}
 use Rattle.listing.proofs.listing_in.Tie as tie
@@ -39,7 +39,7 @@ module _ (c : tie.After-settle) where
   settled : (v : Settled) → c .settle .result ≡ v → settlingOf v left ≡ settle (take end input) (start .args .answer .now)
   settled v e = sym (ap (λ (u : Settled). settlingOf u left) e) ∙ c .settle .ensures
 
-  round-text : (n : ℕ) → c .settle .result ≡ Granted n → roundWritten left buffer ≡ listed input buffer
+  round-text : (n : ℕ) → c .settle .result ≡ Granted n → roundWritten left buffer ≡ listingIn input buffer
   round-text n e =
       round-listed input buffer (start .args .answer .now) left end
       (c .before .before .before .read-size .ensures)
@@ -50,7 +50,7 @@ module _ (c : tie.After-settle) where
       (settled (Granted n) e)
 
   refusal-text : (r : Refusal) → c .settle .result ≡ Refused r
-      → refusalWritten (r .number) (r .place) buffer ≡ listed input buffer
+      → refusalWritten (r .number) (r .place) buffer ≡ listingIn input buffer
   refusal-text r e =
       refusal-listed input buffer (start .args .answer .now) left end
       (c .before .before .before .read-size .ensures)

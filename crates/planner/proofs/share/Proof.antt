@@ -5,7 +5,7 @@ use mathlib.Core.Path.{refl}
 use native.Mathlib.Omega.{arith}
 use Rattle.model.specs.Planner.{ceilDiv}
 use Rattle.refusals.proofs.Limits.{limits}
-use Rattle.planner.proofs.Shares.{product-le, dividend-le, quotient-le}
+use Rattle.planner.proofs.Shares.{faults-window-le, dividend-le, quotient-le}
 use Rattle.planner.proofs.share.Statement.{statement}
 use Rattle.planner.proofs.share.Tie as tie
 
@@ -18,7 +18,7 @@ cast-product c = search needs
 mul-product : tie.Need-mul-product
 mul-product c =
     let a = c .before .before .before in
-    omega (arith, product-le (a .args .settings) (a .pre .0))
+    omega (arith, faults-window-le (a .args .settings) (a .pre .0))
 
 mul-product-2 : tie.Need-mul-product-2
 mul-product-2 c =

@@ -6,7 +6,7 @@ use Prim.Native.Nat.{_-_, _≤_}
 use native.Mathlib.Omega.{arith}
 use Rattle.model.specs.Listing.{cabinetLines}
 use Rattle.text.specs.Putting.{Puts}
-use Rattle.text.specs.Text.{roundIn}
+use Rattle.text.specs.Text.{answerRound}
 use Rattle.text.proofs.Putting.{puts-length, puts-none}
 use Rattle.text.proofs.Lines.{cabinets-none}
 use Rattle.text.proofs.Answers.{cabinet-room, cabinet-put}
@@ -15,7 +15,7 @@ use Rattle.text.proofs.put_cabinets.Tie as tie
 
 abbrev Inv-cabinets : tie.InvT-cabinets
 Inv-cabinets text₀ at answer n next₀ passed₀ text next passed =
-    (passed ≤ n) × Puts text₀ at (cabinetLines (roundIn answer) passed) text next
+    (passed ≤ n) × Puts text₀ at (cabinetLines (answerRound answer) passed) text next
 
 abbrev μ-cabinets : tie.MeasureT-cabinets
 μ-cabinets text₀ at answer n next₀ passed₀ text next passed = n - passed
@@ -23,7 +23,7 @@ abbrev μ-cabinets : tie.MeasureT-cabinets
 cabinets-holds : tie.Need-cabinets-holds Inv-cabinets μ-cabinets
 cabinets-holds c =
     let args = c .before .before .args in
-    (omega arith, rw (cabinets-none (roundIn (args .answer .now))) (puts-none (args .text .now) (args .at)))
+    (omega arith, rw (cabinets-none (answerRound (args .answer .now))) (puts-none (args .text .now) (args .at)))
 
 add-passed : tie.Need-add-passed Inv-cabinets μ-cabinets
 add-passed c = omega arith

@@ -9,7 +9,7 @@ use native.Mathlib.Omega.{arith}
 use lib.ListN.{length, length-append}
 use Rattle.model.specs.RoundSheet.{byte}
 use Rattle.model.specs.Listing.{cabinetLines, roundText}
-use Rattle.text.specs.Text.{roundIn, roundLine, roundWritten}
+use Rattle.text.specs.Text.{answerRound, roundLine, roundWritten}
 use Rattle.text.proofs.Putting.{puts-then}
 use Rattle.text.proofs.Texts.{text-refused, text-written}
 use Rattle.text.proofs.Answers.{round-lines, length-round}
@@ -26,7 +26,7 @@ module _ (c : tie.After-word-at2) where
   answer = start .args .answer .now
 
   abbrev text : List ℕ
-  text = roundText (byte answer 0) (roundIn answer)
+  text = roundText (byte answer 0) (answerRound answer)
 
   abbrev first : List ℕ
   first =
@@ -34,7 +34,7 @@ module _ (c : tie.After-word-at2) where
       (c .word-at2 .result)
 
   abbrev rest : List ℕ
-  rest = cabinetLines (roundIn answer) (c .before .before .before .byte-at .result)
+  rest = cabinetLines (answerRound answer) (c .before .before .before .byte-at .result)
 
   lines : text ≡ first ++ rest
   lines =
@@ -60,7 +60,7 @@ unfolding roundWritten
 returns c =
     let args = c .before .before .before .args in
     let answer = args .answer .now in
-    text-refused 5138 (roundText (byte answer 0) (roundIn answer)) (args .text .now) (c .if1 .taken)
+    text-refused 5138 (roundText (byte answer 0) (answerRound answer)) (args .text .now) (c .if1 .taken)
 
 byte-at-requires : tie.Need-byte-at-requires
 byte-at-requires c κs = search needs

@@ -14,13 +14,14 @@ use lib.Dec.{leb, ltb, eqb}
 use lib.ListN.{length, getD, set, length-set}
 use lib.Seq.{getD-set-same, getD-set-other}
 use Rattle.arithmetic.specs.Counting.{bit, count}
-use Rattle.arithmetic.proofs.Bools.{iff-eq, and-left, and-right, and-intro, clash}
+use Rattle.arithmetic.proofs.Bools.{iff-eq, and-left, and-right, and-intro, and-false, clash}
 use Rattle.arithmetic.proofs.Counting.{split-last, bit-le-one, count-le, any-true, any-false}
 use Rattle.rounds.specs.Naturals.{within-nat, spans, accepted-nat}
-use Rattle.arithmetic.proofs.Bools.{and-false}
+use Rattle.rounds.proofs.Shifted.{accepted-shifted}
+use Rattle.rounds.proofs.Natural.{accepted-present}
 use Rattle.loops.proofs.Loops.{count-next}
-use Rattle.estimates.specs.Values.{valueAt, presentAt}
-use Rattle.acceptance.specs.Values.{spansAt, acceptedAt, enoughAt, Remembered}
+use Rattle.estimates.specs.Values.{valueAt, presentIn}
+use Rattle.acceptance.specs.Values.{spansAt, acceptedIn, enoughAt, Remembered}
 
 pub held-small : (a b far h : ℕ) → h ≡ bit (leb a b && leb b (a + far)) → h ≤ 1
 held-small a b far h e = let l = bit-le-one (leb a b && leb b (a + far)) in omega arith
@@ -110,13 +111,22 @@ module _ (w need : ℕ) (values : List ℕ) where
   abbrev pub admits : ℕ → ℕ → Bool
   admits r a = spansAt w values a r && enoughAt w need values a
 
-  pub admitted : (r a : ℕ) → a < length values → admits r a ≡ true → acceptedAt w need values r ≡ true
-  unfolding acceptedAt accepted-nat spansAt enoughAt
-  admitted r a h e = any-true (λ s. spans w (presentAt values) (valueAt values) s r && leb need (count (spans w (presentAt values) (valueAt values) s) (length values))) (length values) a h e
+  -- document 01's test is that of the naturals
+  accepted-held : (r : ℕ) → acceptedIn w need values r ≡ accepted-nat w (presentIn values) (valueAt values) need (length values) r
+  unfolding acceptedIn
+  accepted-held r = accepted-shifted w (presentIn values) (valueAt values) 2147483648 need (length values) r
 
-  pub not-admitted : (r : ℕ) → ((a : ℕ) → a < length values → admits r a ≡ false) → acceptedAt w need values r ≡ false
-  unfolding acceptedAt accepted-nat spansAt enoughAt
-  not-admitted r f = any-false (λ s. spans w (presentAt values) (valueAt values) s r && leb need (count (spans w (presentAt values) (valueAt values) s) (length values))) (length values) f
+  -- an accepted reading is present
+  pub held-present : (r : ℕ) → acceptedIn w need values r ≡ true → presentIn values r ≡ true
+  held-present r e = accepted-present w (presentIn values) (valueAt values) need (length values) r (sym (accepted-held r) ∙ e)
+
+  pub admitted : (r a : ℕ) → a < length values → admits r a ≡ true → acceptedIn w need values r ≡ true
+  unfolding accepted-nat spansAt enoughAt
+  admitted r a h e = accepted-held r ∙ any-true (λ s. spans w (presentIn values) (valueAt values) s r && leb need (count (spans w (presentIn values) (valueAt values) s) (length values))) (length values) a h e
+
+  pub not-admitted : (r : ℕ) → ((a : ℕ) → a < length values → admits r a ≡ false) → acceptedIn w need values r ≡ false
+  unfolding accepted-nat spansAt enoughAt
+  not-admitted r f = accepted-held r ∙ any-false (λ s. spans w (presentIn values) (valueAt values) s r && leb need (count (spans w (presentIn values) (valueAt values) s) (length values))) (length values) f
 
   -- the start a is stored as what it is
   pub remember : (known : List ℕ) (a v : ℕ) → a < length known → v ≡ 1 + bit (enoughAt w need values a) → Remembered w need values known → Remembered w need values (set known a v)
@@ -185,9 +195,9 @@ module _ (w need : ℕ) (values : List ℕ) where
         go true z = refl
         go false z = absurd (omega arith)
 
-    pub begin : Counted r known found s 0 0
+    pub count-begin : Counted r known found s 0 0
     unfolding count
-    begin = record { tried = tried; upTo = zero-le; exact = refl; short = λ h. absurd (not-suc-le-zero h) }
+    count-begin = record { tried = tried; upTo = zero-le; exact = refl; short = λ h. absurd (not-suc-le-zero h) }
 
     module _ (c t : ℕ) (so-far : Counted r known found s c t) where
       pub count-small : c ≤ 64

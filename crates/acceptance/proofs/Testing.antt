@@ -15,7 +15,7 @@ use Rattle.arithmetic.specs.Writing.{table, overwrite}
 use Rattle.arithmetic.proofs.Bools.{or-left, or-right}
 use Rattle.arithmetic.proofs.Counting.{count-le}
 use Rattle.arithmetic.proofs.Writing.{length-table, length-overwrite}
-use Rattle.acceptance.specs.Values.{acceptedAt, countOf, countIn, flagsOf, Remembered}
+use Rattle.acceptance.specs.Values.{acceptedIn, acceptedCount, countIn, flagsOf, Remembered}
 use Rattle.loops.proofs.Loops.{flag, count-next, store-none, store-next, store-ended}
 
 module _ (w need : ℕ) (values : List ℕ) (flags₀ : List Bool) where
@@ -26,8 +26,8 @@ module _ (w need : ℕ) (values : List ℕ) (flags₀ : List Bool) where
     pub long : length known ≡ 64
     pub room : length values ≤ length flags₀
     pub memory : Remembered w need values known
-    pub exact : counted ≡ count (acceptedAt w need values) r
-    pub written : flags ≡ overwrite (table (acceptedAt w need values) r) flags₀
+    pub exact : counted ≡ count (acceptedIn w need values) r
+    pub written : flags ≡ overwrite (table (acceptedIn w need values) r) flags₀
 
   pub test-none : (known : List ℕ) → length values ≤ 64 → length known ≡ 64 → length values ≤ length flags₀ → Remembered w need values known → Testing known flags₀ 0 0
   unfolding count
@@ -39,26 +39,26 @@ module _ (w need : ℕ) (values : List ℕ) (flags₀ : List Bool) where
         room = s;
         memory = m;
         exact = refl;
-        written = store-none (acceptedAt w need values) flags₀;
+        written = store-none (acceptedIn w need values) flags₀;
       }
 
   module _ (known : List ℕ) (flags : List Bool) (c r : ℕ) (so-far : Testing known flags c r) where
     pub flags-long : length flags ≡ length flags₀
     flags-long =
-        let t = length-table (acceptedAt w need values) r in
+        let t = length-table (acceptedIn w need values) r in
         let e = so-far .room in
         let u = so-far .upTo in
-        ap length (so-far .written) ∙ length-overwrite (table (acceptedAt w need values) r) flags₀ (omega arith)
+        ap length (so-far .written) ∙ length-overwrite (table (acceptedIn w need values) r) flags₀ (omega arith)
 
     pub test-small : c ≤ 64
     test-small =
-        let l = count-le (acceptedAt w need values) r in
+        let l = count-le (acceptedIn w need values) r in
         let e = so-far .exact in
         let u = so-far .upTo in
         let f = so-far .few in
         omega arith
 
-    pub test-one : r < length values → (known′ : List ℕ) → length known′ ≡ length known → Remembered w need values known′ → (b : Bool) → b ≡ acceptedAt w need values r → Testing known′ (set flags r b) (c + boolByte b) (r + 1)
+    pub test-one : r < length values → (known′ : List ℕ) → length known′ ≡ length known → Remembered w need values known′ → (b : Bool) → b ≡ acceptedIn w need values r → Testing known′ (set flags r b) (c + boolByte b) (r + 1)
     test-one h known′ l m b e =
         record {
           upTo = omega arith;
@@ -66,16 +66,16 @@ module _ (w need : ℕ) (values : List ℕ) (flags₀ : List Bool) where
           long = l ∙ so-far .long;
           room = so-far .room;
           memory = m;
-          exact = ap₂ (λ (x y : ℕ). x + y) (so-far .exact) (flag b ∙ ap bit e) ∙ sym (count-next (acceptedAt w need values) r);
-          written = store-next (acceptedAt w need values) r flags₀ flags b (so-far .written) e (omega (arith, so-far .room));
+          exact = ap₂ (λ (x y : ℕ). x + y) (so-far .exact) (flag b ∙ ap bit e) ∙ sym (count-next (acceptedIn w need values) r);
+          written = store-next (acceptedIn w need values) r flags₀ flags b (so-far .written) e (omega (arith, so-far .room));
         }
 
-    pub all-counted : length values ≤ r → c ≡ countOf w need values
-    unfolding countOf
+    pub all-counted : length values ≤ r → c ≡ acceptedCount w need values
+    unfolding acceptedCount
     all-counted h = let e : r ≡ length values = omega (arith, so-far .upTo) in rw (← e) (so-far .exact)
 
-    pub all-tested : length values ≤ r → flags ≡ overwrite (table (acceptedAt w need values) (length values)) flags₀
-    all-tested h = store-ended (acceptedAt w need values) (length values) r flags₀ flags (so-far .upTo) h (so-far .written)
+    pub all-tested : length values ≤ r → flags ≡ overwrite (table (acceptedIn w need values) (length values)) flags₀
+    all-tested h = store-ended (acceptedIn w need values) (length values) r flags₀ flags (so-far .upTo) h (so-far .written)
 
 -- nothing is remembered of any start
 pub remember-none : (w need : ℕ) (s : List ℕ) → length s ≤ 64 → Remembered w need s (replicate 64 0)
@@ -99,10 +99,10 @@ module _ (w need : ℕ) (s : List ℕ) (old : List Bool) {b : Bool} (test : b �
     pub fit-room : length s ≤ length old
     fit-room = ltb-false (length old) (length s) (or-right (ltb 64 (length s)) (ltb (length old) (length s)) (sym test ∙ f))
 
-    pub count-fit : (n : ℕ) → n ≡ countOf w need s → n ≡ countIn w need s old
+    pub count-fit : (n : ℕ) → n ≡ acceptedCount w need s → n ≡ countIn w need s old
     unfolding countIn
     count-fit n e = e ∙ rw (sym test ∙ f)
 
-    pub flags-fit : (flags : List Bool) → flags ≡ overwrite (table (acceptedAt w need s) (length s)) old → flags ≡ flagsOf w need s old
+    pub flags-fit : (flags : List Bool) → flags ≡ overwrite (table (acceptedIn w need s) (length s)) old → flags ≡ flagsOf w need s old
     unfolding flagsOf
     flags-fit flags e = e ∙ rw (sym test ∙ f)

@@ -7,7 +7,7 @@ ghost use lib.ListN.{length};
 ghost use Rattle.arithmetic.specs.Counting.{bit};
 ghost use Rattle.arithmetic.specs.Writing.{table, overwrite};
 ghost use Rattle.rounds.specs.Naturals.{within-nat};
-ghost use Rattle.acceptance.specs.Values.{acceptedAt, Remembered, countOf, countIn, flagsOf};
+ghost use Rattle.acceptance.specs.Values.{acceptedIn, Remembered, acceptedCount, countIn, flagsOf};
 use estimates::LIMIT;
 
 // What is known of a span: not counted yet, too few readings, enough.
@@ -52,7 +52,7 @@ fn held(start: u64, reach: u64, value: u64) -> u32
 fn accepts(values: &[u64], window: u32, need: u32, known: &mut [u8], r: usize) -> bool
     requires { ⌜ (r < length (now values)) × (length (now values) ≤ 64) × (length (now known) ≡ 64) ⌝ }
     requires { ⌜ Remembered window need (now values) (now known) ⌝ }
-    ensures { λ a. ⌜ a ≡ acceptedAt window need (now (values .entry)) r ⌝ }
+    ensures { λ a. ⌜ a ≡ acceptedIn window need (now (values .entry)) r ⌝ }
     ensures { λ a. ⌜ Remembered window need (now (values .entry)) (now (known .exit)) ⌝ }
 {
     let value = values[r];
@@ -95,8 +95,8 @@ fn accept_each(
 ) -> u32
     requires { ⌜ (length (now values) ≤ 64) × (length (now known) ≡ 64) × (length (now values) ≤ length (now accepted)) ⌝ }
     requires { ⌜ Remembered window need (now values) (now known) ⌝ }
-    ensures { λ n. ⌜ n ≡ countOf window need (now (values .entry)) ⌝ }
-    ensures { λ _. ⌜ now (accepted .exit) ≡ overwrite (table (acceptedAt window need (now (values .entry))) (length (now (values .entry)))) (now (accepted .entry)) ⌝ }
+    ensures { λ n. ⌜ n ≡ acceptedCount window need (now (values .entry)) ⌝ }
+    ensures { λ _. ⌜ now (accepted .exit) ≡ overwrite (table (acceptedIn window need (now (values .entry))) (length (now (values .entry)))) (now (accepted .entry)) ⌝ }
 {
     let mut count: u32 = 0;
     let mut r = 0;

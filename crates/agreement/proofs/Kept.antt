@@ -10,7 +10,7 @@ use lib.ListN.{length, getD, set, drop}
 use lib.Seq.{getD-append-add, getD-drop}
 use Rattle.arithmetic.specs.Writing.{table, overwrite}
 use Rattle.arithmetic.proofs.Writing.{length-table, length-overwrite, getD-table, getD-overwrite, overwrite-whole, table-ext}
-use Rattle.acceptance.specs.Values.{acceptedAt}
+use Rattle.acceptance.specs.Values.{acceptedIn}
 use Rattle.agreement.specs.Values.{keptValue, keptAt}
 use Rattle.loops.proofs.Loops.{store-none, store-next, store-ended}
 
@@ -64,12 +64,12 @@ module _ (flags : List Bool) (values₀ : List ℕ) where
         ∙ overwrite-whole (table struck (length values₀)) values₀ (omega arith)
 
 -- the readings struck out by the flags of acceptance
-pub struck-kept : (w need : ℕ) (s : List ℕ) (flags₀ : List Bool) → table (struck (overwrite (table (acceptedAt w need s) (length s)) flags₀) s) (length s) ≡ table (keptAt w need s) (length s)
+pub struck-kept : (w need : ℕ) (s : List ℕ) (flags₀ : List Bool) → table (struck (overwrite (table (acceptedIn w need s) (length s)) flags₀) s) (length s) ≡ table (keptAt w need s) (length s)
 struck-kept w need s flags₀ =
-    table-ext (struck (overwrite (table (acceptedAt w need s) (length s)) flags₀) s) (keptAt w need s) (length s)
+    table-ext (struck (overwrite (table (acceptedIn w need s) (length s)) flags₀) s) (keptAt w need s) (length s)
     (λ r l. ap (λ (b : Bool). keptValue b (getD s r 0)) (at r l))
   where
-    at : (r : ℕ) → r < length s → getD (overwrite (table (acceptedAt w need s) (length s)) flags₀) r false ≡ acceptedAt w need s r
+    at : (r : ℕ) → r < length s → getD (overwrite (table (acceptedIn w need s) (length s)) flags₀) r false ≡ acceptedIn w need s r
     at r l =
-        getD-overwrite (table (acceptedAt w need s) (length s)) flags₀ r false (rw (length-table (acceptedAt w need s) (length s)) l)
-        ∙ getD-table (acceptedAt w need s) (length s) r false l
+        getD-overwrite (table (acceptedIn w need s) (length s)) flags₀ r false (rw (length-table (acceptedIn w need s) (length s)) l)
+        ∙ getD-table (acceptedIn w need s) (length s) r false l

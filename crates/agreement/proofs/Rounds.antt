@@ -1,68 +1,45 @@
--- The round of readings that are naturals of a list, moved down by 2^31, in the terms of `agree`: what it counts, estimates, marks and uses.
+-- The estimate and the new value of an agreed round are naturals moved down by 2^31: moved up and down again they are what they were.
 -- Assumes nothing.
-use mathlib.Core.Bool.{Bool, true, false, cond}
+use mathlib.Core.Path.{_≡_, sym, ap, _∙_}
 use mathlib.Core.List.{List}
-use mathlib.Core.Path.{_≡_, refl, sym, ap, subst, _∙_}
 use Prim.Native.Nat.{ℕ, _<_}
+use native.Mathlib.Omega.{arith}
+use lib.IntN.{ℤ}
 use lib.ListN.{length}
-use Rattle.arithmetic.specs.Counting.{count}
-use Rattle.arithmetic.specs.Naturals.{down, total}
-use Rattle.model.specs.declared.Settings.{Settings}
-use Rattle.model.specs.Ensemble.{Readings, quorum}
-use Rattle.model.specs.Steps.{markOf, roundOf}
-use Rattle.rounds.proofs.Local.{EqualBelow, round-local}
-use Rattle.rounds.proofs.Natural.{accepted-at, round-count, round-estimate, round-value, round-used}
-use Rattle.rounds.specs.Naturals.{shift, shifted, accepted-nat, estimate-nat, mean-nat, used-nat}
-use Rattle.estimates.specs.Values.{valueAt, presentAt}
-use Rattle.acceptance.specs.Values.{acceptedAt as acceptedNat, countOf}
-use Rattle.agreement.specs.Values.{estimateOf, valueOf}
+use Rattle.arithmetic.specs.Counting.{sum}
+use Rattle.arithmetic.specs.Naturals.{down, up, total}
+use Rattle.arithmetic.proofs.Counting.{count-le}
+use Rattle.arithmetic.proofs.Shift.{up-down}
+use Rattle.model.specs.Steps.{mean, usedValue}
+use Rattle.rounds.specs.Held.{readingsIn}
+use Rattle.rounds.specs.Naturals.{estimate-nat, mean-nat, used-nat}
+use Rattle.rounds.proofs.Shifted.{estimate-shifted, value-shifted}
+use Rattle.estimates.specs.Values.{valueAt, presentIn}
+use Rattle.acceptance.specs.Values.{acceptedIn, acceptedCount}
+use Rattle.acceptance.proofs.Spans.{held-present}
+use Rattle.agreement.specs.Values.{agreedRound}
 
-module _ (c : Settings) (v : Readings) (s : List ℕ) (size : length s ≡ c .n) (same : EqualBelow (c .n) v (shifted 2147483648 (presentAt s) (valueAt s))) where
-  -- the cabinets accepted, of n
-  acc : ℕ → ℕ → Bool
-  acc n = accepted-nat (c .window) (presentAt s) (valueAt s) (quorum c) n
+moved-back : (z : ℤ) (x : ℕ) → z ≡ down 2147483648 x → down 2147483648 (up 2147483648 z) ≡ z
+moved-back z x e = ap (λ y. down 2147483648 (up 2147483648 y)) e ∙ ap (down 2147483648) (up-down 2147483648 x) ∙ sym e
 
-  -- the estimate of n cabinets
-  est : ℕ → ℕ
-  est n = estimate-nat 2147483648 (c .estimator) (acc n) n (valueAt s)
+module _ (w need kind : ℕ) (s : List ℕ) (some : 0 < acceptedCount w need s) where
+  -- the estimate over naturals
+  est : ℕ
+  est = estimate-nat 2147483648 kind (acceptedIn w need s) (length s) (valueAt s)
 
-  pub count-of-round : roundOf c v .count ≡ countOf (c .window) (quorum c) s
-  unfolding countOf acceptedNat acc
-  count-of-round =
-      round-count c (presentAt s) (valueAt s) v 2147483648 same ∙ ap (λ (n : ℕ). count (acc n) n) (sym size)
+  estimate-down : agreedRound w need kind s .estimate ≡ down 2147483648 est
+  unfolding acceptedCount est
+  estimate-down = estimate-shifted 2147483648 (presentIn s) (valueAt s) (acceptedIn w need s) (length s) (held-present w need s) some kind
 
-  -- the mark of r: 1 accepted, 2 present and not accepted, 0 missing
-  pub mark-of-round : (r : ℕ) → r < c .n → roundOf c v .mark r ≡ cond (presentAt s r) (cond (acceptedNat (c .window) (quorum c) s r) 1 2) 0
-  unfolding roundOf acceptedNat acc
-  mark-of-round r l =
-      round-local c v (shifted 2147483648 (presentAt s) (valueAt s)) same .mark r l
-      ∙ ap (λ (b : Bool). markOf b (shift 2147483648 (presentAt s r) (valueAt s r))) (accepted-at c (presentAt s) (valueAt s) 2147483648 r ∙ ap (λ (n : ℕ). acc n r) (sym size))
-      ∙ go (presentAt s r) (acc (length s) r)
-    where
-      go : (p a : Bool) → markOf a (shift 2147483648 p (valueAt s r)) ≡ cond p (cond a 1 2) 0
-      go true a = refl
-      go false a = refl
+  pub estimate-back : down 2147483648 (up 2147483648 (agreedRound w need kind s .estimate)) ≡ agreedRound w need kind s .estimate
+  estimate-back = moved-back (agreedRound w need kind s .estimate) est estimate-down
 
-  module _ (some : 0 < countOf (c .window) (quorum c) s) where
-    some-accepted : 0 < count (acc (c .n)) (c .n)
-    unfolding countOf acceptedNat acc
-    some-accepted = subst (λ (n : ℕ). 0 < count (acc n) n) size some
+  some-reading : 0 < length s
+  unfolding acceptedCount
+  some-reading = omega (arith, some, count-le (acceptedIn w need s) (length s))
 
-    pub estimate-of-round : roundOf c v .estimate ≡ down 2147483648 (estimateOf (c .window) (quorum c) (c .estimator) s)
-    unfolding estimateOf acceptedNat acc est
-    estimate-of-round =
-        round-estimate c (presentAt s) (valueAt s) v 2147483648 same some-accepted
-        ∙ ap (λ (n : ℕ). down 2147483648 (est n)) (sym size)
-
-    pub value-of-round : 0 < c .n → roundOf c v .value ≡ down 2147483648 (valueOf (c .window) (quorum c) s (estimateOf (c .window) (quorum c) (c .estimator) s))
-    unfolding valueOf estimateOf acceptedNat acc est
-    value-of-round h =
-        round-value c (presentAt s) (valueAt s) v 2147483648 same h some-accepted
-        ∙ ap (λ (n : ℕ). down 2147483648 (mean-nat n (total (used-nat (acc n) (valueAt s) (est n)) n))) (sym size)
-
-    -- the used value of r: what was kept, or the estimate
-    pub used-of-round : (r : ℕ) → r < c .n → roundOf c v .used r ≡ down 2147483648 (used-nat (acceptedNat (c .window) (quorum c) s) (valueAt s) (estimateOf (c .window) (quorum c) (c .estimator) s) r)
-    unfolding estimateOf acceptedNat acc est
-    used-of-round r l =
-        round-used c (presentAt s) (valueAt s) v 2147483648 same some-accepted r l
-        ∙ ap (λ (n : ℕ). down 2147483648 (used-nat (acc n) (valueAt s) (est n) r)) (sym size)
+  pub value-back : down 2147483648 (up 2147483648 (agreedRound w need kind s .value)) ≡ agreedRound w need kind s .value
+  value-back =
+      moved-back (agreedRound w need kind s .value) (mean-nat (length s) (total (used-nat (acceptedIn w need s) (valueAt s) est) (length s)))
+      (ap (λ z. mean (length s) (sum (usedValue (acceptedIn w need s) (readingsIn s) z) (length s))) estimate-down
+      ∙ value-shifted 2147483648 (presentIn s) (valueAt s) (acceptedIn w need s) (length s) (held-present w need s) est some-reading)

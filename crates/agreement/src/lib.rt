@@ -1,16 +1,13 @@
 // The steps of a round on naturals: readings moved up by 2^31; a number from 2^32 on is a missing reading.
 ghost use mathlib.Core.Path.{_≡_};
-ghost use mathlib.Core.Bool.{false, cond};
+ghost use mathlib.Core.Bool.{false};
 ghost use Prim.Native.Nat.{_%_, _≤_, _<_};
-ghost use lib.Dec.{ltb, eqb};
 ghost use lib.ListN.{length, getD};
 ghost use mir.Syntax.{w32};
 ghost use mir.Val.{toZ, ofZ};
 ghost use Rattle.arithmetic.specs.Writing.{table};
-ghost use Rattle.arithmetic.specs.Naturals.{down};
-ghost use Rattle.model.specs.Ensemble.{present, missing};
-ghost use Rattle.rounds.specs.Naturals.{shift};
-ghost use Rattle.agreement.specs.Values.{keptValue, keptOf, agreedOf};
+ghost use Rattle.arithmetic.specs.Naturals.{down, up};
+ghost use Rattle.agreement.specs.Values.{entryHeld, keptValue, keptOf, agreedOf};
 use estimates::Estimated;
 use estimates::LIMIT;
 
@@ -22,7 +19,7 @@ const HALF: u32 = 2_147_483_648;
 
 // The natural of a reading: the number that 32 bits in two's complement are, moved up by 2^31.
 pub fn bias(bits: u32) -> u64
-    ensures { λ r. ⌜ (toZ w32 bits ≡ down 2147483648 r) × (r < 4294967296) ⌝ }
+    ensures { λ r. ⌜ r ≡ up 2147483648 (toZ w32 bits) ⌝ }
 {
     std::num::wrapping_add_u32(bits, HALF) as u64
 }
@@ -34,9 +31,9 @@ pub fn unbias(value: u64) -> u32
     std::num::wrapping_add_u32((value % LIMIT) as u32, HALF)
 }
 
-// The natural of an entry: of its bits where it is marked present, and else a missing one.
+// The natural of an entry: of its bits where it is marked present, and else 2^32.
 pub fn entry_value(mark: u8, bits: u32) -> u64
-    ensures { λ r. ⌜ cond (eqb mark 1) (present (toZ w32 bits)) missing ≡ shift 2147483648 (ltb r 4294967296) r ⌝ }
+    ensures { λ r. ⌜ r ≡ entryHeld mark bits ⌝ }
 {
     if mark == 1 { bias(bits) } else { LIMIT }
 }

@@ -1,8 +1,8 @@
 -- Tests as equations with `true` and `false`: a conjunction or a disjunction taken apart and put together.
 -- Assumes nothing.
-use mathlib.Core.Bool.{Bool, true, false, _&&_, _||_}
+use mathlib.Core.Bool.{Bool, true, false, cond, _&&_, _||_}
 use mathlib.Core.Logic.{_⊎_, inl, inr}
-use mathlib.Core.Path.{_≡_, refl, sym, subst}
+use mathlib.Core.Path.{_≡_, refl, sym, ap, ap₂, subst}
 use lib.Dec.{T}
 
 -- a test either passes or fails
@@ -69,6 +69,16 @@ iff-eq true true f g = refl
 iff-eq true false f g = sym (f refl)
 iff-eq false true f g = g refl
 iff-eq false false f g = refl
+
+-- two conjunctions are equal where their first parts are, and their second parts where the first passes
+pub and-ext : {a b c d : Bool} → a ≡ b → (a ≡ true → c ≡ d) → (a && c) ≡ (b && d)
+and-ext {a = true} e f = ap₂ (λ (p q : Bool). p && q) e (f refl)
+and-ext {a = false} {d = d} e f = ap (λ (p : Bool). p && d) e
+
+-- two choices are equal where their tests are, and what they choose where the test passes
+pub cond-ext : {A : Type 0} {a b : Bool} {x y z w : A} → a ≡ b → (a ≡ true → x ≡ y) → z ≡ w → cond a x z ≡ cond b y w
+cond-ext {a = true} {b} {x} {y} {z} {w} e f g = rw (← e, f refl)
+cond-ext {a = false} {b} {x} {y} {z} {w} e f g = rw (← e, g)
 
 -- a test that does not pass fails
 pub not-true-false : (b : Bool) → (b ≡ true → ⊥) → b ≡ false

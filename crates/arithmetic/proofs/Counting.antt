@@ -13,8 +13,8 @@ use Rattle.arithmetic.proofs.Bools.{both-ways, clash, and-left, and-rig
 -- ---- the last index and those before it
 
 -- what holds at every index below n + 1 holds below n, and at n
-pub earlier : {P : ℕ → Type 0} {n : ℕ} → ((i : ℕ) → i < suc n → P i) → (i : ℕ) → i < n → P i
-earlier f i h = f i (le-step h)
+pub initial : {P : ℕ → Type 0} {n : ℕ} → ((i : ℕ) → i < suc n → P i) → (i : ℕ) → i < n → P i
+initial f i h = f i (le-step h)
 
 pub last : {P : ℕ → Type 0} {n : ℕ} → ((i : ℕ) → i < suc n → P i) → P n
 last {n} f = f n (lt-suc-self n)
@@ -39,12 +39,12 @@ bit-le-one true = le-refl 1
 pub count-ext : (p q : ℕ → Bool) (n : ℕ) → ((i : ℕ) → i < n → p i ≡ q i) → count p n ≡ count q n
 unfolding count
 count-ext p q zero h = refl
-count-ext p q (suc n) h = ap₂ (λ (a b : ℕ). a + b) (count-ext p q n (earlier h)) (ap bit (last h))
+count-ext p q (suc n) h = ap₂ (λ (a b : ℕ). a + b) (count-ext p q n (initial h)) (ap bit (last h))
 
 pub count-mono : (p q : ℕ → Bool) (n : ℕ) → ((i : ℕ) → i < n → p i ≡ true → q i ≡ true) → count p n ≤ count q n
 unfolding count
 count-mono p q zero h = zero-le
-count-mono p q (suc n) h = add-le-add (count-mono p q n (earlier h)) (bit-le (p n) (q n) (last h))
+count-mono p q (suc n) h = add-le-add (count-mono p q n (initial h)) (bit-le (p n) (q n) (last h))
 
 pub count-le : (p : ℕ → Bool) (n : ℕ) → count p n ≤ n
 unfolding count
@@ -129,19 +129,19 @@ any-true p (suc n) i h e =
 pub any-false : (p : ℕ → Bool) (n : ℕ) → ((i : ℕ) → i < n → p i ≡ false) → anyBelow p n ≡ false
 unfolding anyBelow
 any-false p zero h = refl
-any-false p (suc n) h = or-false (any-false p n (earlier h)) (last h)
+any-false p (suc n) h = or-false (any-false p n (initial h)) (last h)
 
 pub any-ext : (p q : ℕ → Bool) (n : ℕ) → ((i : ℕ) → i < n → p i ≡ q i) → anyBelow p n ≡ anyBelow q n
 unfolding anyBelow
 any-ext p q zero h = refl
-any-ext p q (suc n) h = ap₂ (λ (a b : Bool). a || b) (any-ext p q n (earlier h)) (last h)
+any-ext p q (suc n) h = ap₂ (λ (a b : Bool). a || b) (any-ext p q n (initial h)) (last h)
 
 -- ---- lowest
 
 pub lowest-none : (p : ℕ → Bool) (n : ℕ) → ((i : ℕ) → i < n → p i ≡ false) → lowest p n ≡ none
 unfolding lowest
 lowest-none p zero h = refl
-lowest-none p (suc n) h = ap₂ (λ (o : Option ℕ) (b : Bool). orIndex o b n) (lowest-none p n (earlier h)) (last h)
+lowest-none p (suc n) h = ap₂ (λ (o : Option ℕ) (b : Bool). orIndex o b n) (lowest-none p n (initial h)) (last h)
 
 pub lowest-some : (p : ℕ → Bool) (n i : ℕ) → i < n → p i ≡ true → ((j : ℕ) → j < i → p j ≡ false) → lowest p n ≡ some i
 unfolding lowest
@@ -157,7 +157,7 @@ lowest-some p (suc n) i h e f =
 pub lowest-ext : (p q : ℕ → Bool) (n : ℕ) → ((i : ℕ) → i < n → p i ≡ q i) → lowest p n ≡ lowest q n
 unfolding lowest
 lowest-ext p q zero h = refl
-lowest-ext p q (suc n) h = ap₂ (λ (o : Option ℕ) (b : Bool). orIndex o b n) (lowest-ext p q n (earlier h)) (last h)
+lowest-ext p q (suc n) h = ap₂ (λ (o : Option ℕ) (b : Bool). orIndex o b n) (lowest-ext p q n (initial h)) (last h)
 
 -- what a search found passes, and nothing below it does
 pub record Lowest (p : ℕ → Bool) (n i : ℕ) : Type 0 where

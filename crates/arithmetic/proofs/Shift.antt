@@ -10,13 +10,9 @@ use lib.Dec.{leb, ltb}
 use lib.IntN.{ℤ, pos, negsuc, negℤ, natAbs, subℕ, _+ℤ_, _-ℤ_}
 use lib.Signed.{leZ, ltZ, shrZ, mag}
 use Rattle.arithmetic.specs.Naturals.{down}
+unfoldable pub use Rattle.arithmetic.specs.Naturals.{up}
 use Rattle.arithmetic.proofs.Bools.{iff-eq}
 use Rattle.arithmetic.proofs.Division.{div-sub-mul, div-from-above}
-
--- the natural that `down k` takes to z, where z is at least -k
-unfoldable pub up : ℕ → ℤ → ℕ
-up k (pos a) = a + k
-up k (negsuc a) = k - suc a
 
 pub down-pos : (k a : ℕ) → k ≤ a → down k a ≡ pos (a - k)
 unfolding down
@@ -74,6 +70,10 @@ down-up-neg k a h = down-neg k (k - suc a) (omega arith) ∙ ap negsuc go
 pub down-up : (k : ℕ) (z : ℤ) → mag z < k → down k (up k z) ≡ z
 down-up k (pos a) h = down-up-pos k a
 down-up k (negsuc a) h = down-up-neg k a h
+
+pub up-down : (k a : ℕ) → up k (down k a) ≡ a
+unfolding up
+up-down k a = down-ind k a (λ z. up k z ≡ a) (λ h. omega arith) (λ h. omega arith)
 
 -- ---- order and equality
 

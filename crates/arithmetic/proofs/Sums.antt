@@ -7,19 +7,19 @@ use native.Mathlib.Nat.{zero-mul, suc-mul, add-le-add}
 use native.Mathlib.Omega.{arith}
 use lib.IntN.{ℤ, _+ℤ_}
 use Rattle.arithmetic.specs.Counting.{bit, count, sum}
-use Rattle.arithmetic.proofs.Counting.{earlier, last}
+use Rattle.arithmetic.proofs.Counting.{initial, last}
 use Rattle.arithmetic.specs.Naturals.{down, total}
 use Rattle.arithmetic.proofs.Shift.{add-down, down-cong, pos-down}
 
 pub total-ext : (f g : ℕ → ℕ) (n : ℕ) → ((i : ℕ) → i < n → f i ≡ g i) → total f n ≡ total g n
 unfolding total
 total-ext f g zero h = refl
-total-ext f g (suc n) h = ap₂ (λ (a b : ℕ). a + b) (total-ext f g n (earlier h)) (last h)
+total-ext f g (suc n) h = ap₂ (λ (a b : ℕ). a + b) (total-ext f g n (initial h)) (last h)
 
 pub total-mono : (f g : ℕ → ℕ) (n : ℕ) → ((i : ℕ) → i < n → f i ≤ g i) → total f n ≤ total g n
 unfolding total
 total-mono f g zero h = zero-le
-total-mono f g (suc n) h = add-le-add (total-mono f g n (earlier h)) (last h)
+total-mono f g (suc n) h = add-le-add (total-mono f g n (initial h)) (last h)
 
 pub total-add : (f g : ℕ → ℕ) (n : ℕ) → total (λ i. f i + g i) n ≡ total f n + total g n
 unfolding total
@@ -48,7 +48,7 @@ count-total p (suc n) = ap (λ (x : ℕ). x + bit (p n)) (count-total p n)
 pub sum-ext : (f g : ℕ → ℤ) (n : ℕ) → ((i : ℕ) → i < n → f i ≡ g i) → sum f n ≡ sum g n
 unfolding sum
 sum-ext f g zero h = refl
-sum-ext f g (suc n) h = ap₂ (λ (a b : ℤ). a +ℤ b) (sum-ext f g n (earlier h)) (last h)
+sum-ext f g (suc n) h = ap₂ (λ (a b : ℤ). a +ℤ b) (sum-ext f g n (initial h)) (last h)
 
 -- the sum of numbers moved down by k is the sum moved down by k for each
 pub sum-down : (k : ℕ) (f : ℕ → ℕ) (n : ℕ) → sum (λ i. down k (f i)) n ≡ down (n * k) (total f n)

@@ -10,7 +10,7 @@ use native.Mathlib.Omega.{arith}
 use lib.ListN.{length, getD, take, drop, set, length-append, length-drop, drop-of-length-le, List·getD-append}
 use lib.Seq.{getD-at, drop-cons, set-at, take-at}
 use Rattle.arithmetic.specs.Writing.{table, overwrite}
-use Rattle.arithmetic.proofs.Counting.{earlier, last, split-last}
+use Rattle.arithmetic.proofs.Counting.{initial, last, split-last}
 
 module _ {A : Type 0} where
   pub length-table : (f : ℕ → A) (n : ℕ) → length (table f n) ≡ n
@@ -33,7 +33,7 @@ module _ {A : Type 0} where
   pub table-ext : (f g : ℕ → A) (n : ℕ) → ((i : ℕ) → i < n → f i ≡ g i) → table f n ≡ table g n
   unfolding table
   table-ext f g zero h = refl
-  table-ext f g (suc n) h = ap₂ {B = A} (λ (xs : List A) (x : A). xs ++ (x ∷ [])) (table-ext f g n (earlier h)) (last h)
+  table-ext f g (suc n) h = ap₂ {B = A} (λ (xs : List A) (x : A). xs ++ (x ∷ [])) (table-ext f g n (initial h)) (last h)
 
   -- a list is the table of its entries
   pub table-getD : (xs : List A) (d : A) → table (λ i. getD xs i d) (length xs) ≡ xs

@@ -21,7 +21,7 @@ use Rattle.model.specs.Steps.{same, decided, knownFaulty, decideRow}
 use Rattle.crusaders.proofs.Equality.{same-true, eq-same, present-inj, missing-present}
 use Rattle.crusaders.proofs.Decision.{copiesOf, copies-some, decide-value, decide-none, decide-spent}
 use Rattle.crusaders.specs.Majority.{Candidate, holds-bits}
-use Rattle.crusaders.proofs.Majority.{vote-begin, vote-raise, vote-replace, vote-keep, majority}
+use Rattle.crusaders.proofs.Majority.{candidate-begin, candidate-raise, candidate-replace, candidate-keep, majority}
 
 -- a test that passes where c has need copies, and fails only where no value has, decides the row
 decide-test : (need n : ℕ) (copy : Readings) (c : ℤ) (b : Bool) → n < need + need → (b ≡ true → need ≤ copiesOf copy c n) → (b ≡ false → (z : ℤ) → need ≤ copiesOf copy z n → ⊥) → decideRow need n copy ≡ cond b (decided c) knownFaulty
@@ -69,18 +69,18 @@ module _ (pres : ℕ → Bool) (bits : ℕ → ℕ) where
   absent i v e = ap (λ (b : Bool). b && eqb v (bits i)) e
 
   pub bits-begin : (c : ℕ) → Candidate (holds-bits pres bits) c 0 0
-  bits-begin c = vote-begin (holds-bits pres bits) c
+  bits-begin c = candidate-begin (holds-bits pres bits) c
 
   module _ (c k i : ℕ) (w : Candidate (holds-bits pres bits) c k i) where
     pub bits-agree : pres i ≡ true → bits i ≡ c → Candidate (holds-bits pres bits) c (k + 1) (i + 1)
-    bits-agree p e = vote-raise (holds-bits pres bits) c k i w holds-bits-unique (and-intro p (eq-eqb c (bits i) (sym e)))
+    bits-agree p e = candidate-raise (holds-bits pres bits) c k i w holds-bits-unique (and-intro p (eq-eqb c (bits i) (sym e)))
 
     pub bits-replace : k ≡ 0 → pres i ≡ true → Candidate (holds-bits pres bits) (bits i) 1 (i + 1)
     bits-replace z p =
-        vote-replace (holds-bits pres bits) c k i w holds-bits-unique equal-bits (bits i) z (and-intro p (eq-eqb (bits i) (bits i) refl))
+        candidate-replace (holds-bits pres bits) c k i w holds-bits-unique equal-bits (bits i) z (and-intro p (eq-eqb (bits i) (bits i) refl))
 
     pub bits-missing : k ≡ 0 → pres i ≡ false → Candidate (holds-bits pres bits) c k (i + 1)
-    bits-missing z e = vote-keep (holds-bits pres bits) c k i w z (λ v. absent i v e)
+    bits-missing z e = candidate-keep (holds-bits pres bits) c k i w z (λ v. absent i v e)
 
 -- the numbers below lim stand for one value each
 module _ (value : ℕ → ℤ) (lim : ℕ) (one : (a b : ℕ) → a < lim → b < lim → value a ≡ value b → a ≡ b) (pres : ℕ → Bool) (bits : ℕ → ℕ) where

@@ -27,14 +27,14 @@ module _ {A : Type 0} (holds : A → ℕ → Bool) where
       omega arith
 
   -- no copy is passed
-  pub vote-begin : (c : A) → Candidate holds c 0 0
+  pub candidate-begin : (c : A) → Candidate holds c 0 0
   unfolding count
-  vote-begin c = record { bounded = omega arith; others = λ v d. omega arith; own = omega arith }
+  candidate-begin c = record { bounded = omega arith; others = λ v d. omega arith; own = omega arith }
 
   module _ (c : A) (k i : ℕ) (w : Candidate holds c k i) where
     -- a copy that does not hold the candidate, and the counter is above 0
-    pub vote-lower : 0 < k → holds c i ≡ false → Candidate holds c (k - 1) (i + 1)
-    vote-lower h e =
+    pub candidate-lower : 0 < k → holds c i ≡ false → Candidate holds c (k - 1) (i + 1)
+    candidate-lower h e =
         record {
           bounded = omega (arith, w .bounded);
           others = λ v d. omega (arith, w .others v d, at-most v i);
@@ -42,8 +42,8 @@ module _ {A : Type 0} (holds : A → ℕ → Bool) where
         }
 
     -- a missing copy, and the counter is 0
-    pub vote-keep : k ≡ 0 → ((v : A) → holds v i ≡ false) → Candidate holds c k (i + 1)
-    vote-keep z f =
+    pub candidate-keep : k ≡ 0 → ((v : A) → holds v i ≡ false) → Candidate holds c k (i + 1)
+    candidate-keep z f =
         record {
           bounded = omega (arith, w .bounded);
           others = λ v d. omega (arith, w .others v d, passed v i (f v));
@@ -55,8 +55,8 @@ module _ {A : Type 0} (holds : A → ℕ → Bool) where
       other u v d e = not-true-false (holds v i) (λ q. d (unique v u i q e))
 
       -- a copy that holds the candidate
-      pub vote-raise : holds c i ≡ true → Candidate holds c (k + 1) (i + 1)
-      vote-raise e =
+      pub candidate-raise : holds c i ≡ true → Candidate holds c (k + 1) (i + 1)
+      candidate-raise e =
           record {
             bounded = omega (arith, w .bounded);
             others = λ v d. omega (arith, w .others v d, passed v i (other c v d e));
@@ -65,8 +65,8 @@ module _ {A : Type 0} (holds : A → ℕ → Bool) where
 
       module _ (equal : (u v : A) → (u ≡ v) ⊎ (u ≡ v → ⊥)) where
         -- a present copy, and the counter is 0: its value is the candidate
-        pub vote-replace : (u : A) → k ≡ 0 → holds u i ≡ true → Candidate holds u 1 (i + 1)
-        vote-replace u z e =
+        pub candidate-replace : (u : A) → k ≡ 0 → holds u i ≡ true → Candidate holds u 1 (i + 1)
+        candidate-replace u z e =
             record {
               bounded = omega arith;
               others = λ v d. omega (arith, before v, passed v i (other u v d e));

@@ -15,42 +15,42 @@ use Rattle.arithmetic.proofs.Bools.{and-left, and-right}
 use Rattle.model.specs.RoundSheet.{word}
 use Rattle.model.specs.Steps.{decided, knownFaulty, decideRow}
 use Rattle.crusaders.specs.Majority.{Candidate, holds-bits}
-use Rattle.crusaders.proofs.Majority.{vote-lower}
+use Rattle.crusaders.proofs.Majority.{candidate-lower}
 use Rattle.crusaders.proofs.Candidates.{bits-begin, bits-agree, bits-replace, bits-missing, bits-enough, bits-spent, bits-decide, toZ-one}
 use Rattle.arithmetic.proofs.Bools.{or-left, or-right}
-use Rattle.decisions.specs.Rows.{presentAt, bitsAt, copyAt, Elected, Fitting, rowDecision}
+use Rattle.decisions.specs.Rows.{markedAt, copyBits, copyAt, Elected, Fitting, rowDecision}
 
 module _ (marks row : List ℕ) where
   -- the copy t is present and holds v
-  abbrev pub holds : ℕ → ℕ → Bool
-  holds = holds-bits (presentAt marks) (bitsAt row)
+  abbrev pub holds-copy : ℕ → ℕ → Bool
+  holds-copy = holds-bits (markedAt marks) (copyBits row)
 
   -- the test that the code makes of the copy t
-  pub holds-test : (c v t : ℕ) {b : Bool} → v ≡ bitsAt row t → b ≡ (eqb (getD marks t 0) 1 && eqb c v) → b ≡ holds c t
+  pub holds-test : (c v t : ℕ) {b : Bool} → v ≡ copyBits row t → b ≡ (eqb (getD marks t 0) 1 && eqb c v) → b ≡ holds-copy c t
   holds-test c v t e f = f ∙ ap (λ (x : ℕ). eqb (getD marks t 0) 1 && eqb c x) e
 
   pub record Voted (c k t : ℕ) : Type 0 where
     pub upTo : t ≤ length marks
-    pub vote : Candidate holds c k t
+    pub vote : Candidate holds-copy c k t
 
   pub vote-none : Voted 0 0 0
-  vote-none = record { upTo = zero-le; vote = bits-begin (presentAt marks) (bitsAt row) 0 }
+  vote-none = record { upTo = zero-le; vote = bits-begin (markedAt marks) (copyBits row) 0 }
 
-  module _ (c k t : ℕ) (so-far : Voted c k t) (room : t < length marks) (v : ℕ) {b : Bool} (read : v ≡ bitsAt row t) (test : b ≡ (eqb (getD marks t 0) 1 && eqb c v)) where
+  module _ (c k t : ℕ) (so-far : Voted c k t) (room : t < length marks) (v : ℕ) {b : Bool} (read : v ≡ copyBits row t) (test : b ≡ (eqb (getD marks t 0) 1 && eqb c v)) where
     pub vote-agree : b ≡ true → Voted c (k + 1) (t + 1)
     vote-agree e =
         let both = sym (holds-test c v t read test) ∙ e in
         record {
           upTo = omega arith;
           vote =
-              bits-agree (presentAt marks) (bitsAt row) c k t (so-far .vote)
-              (and-left (presentAt marks t) (eqb c (bitsAt row t)) both)
-              (sym (eqb-true c (bitsAt row t) (and-right (presentAt marks t) (eqb c (bitsAt row t)) both)));
+              bits-agree (markedAt marks) (copyBits row) c k t (so-far .vote)
+              (and-left (markedAt marks t) (eqb c (copyBits row t)) both)
+              (sym (eqb-true c (copyBits row t) (and-right (markedAt marks t) (eqb c (copyBits row t)) both)));
         }
 
     pub vote-differ : b ≡ false → 0 < k → Voted c (k - 1) (t + 1)
     vote-differ e l =
-        record { upTo = omega arith; vote = vote-lower holds c k t (so-far .vote) l (sym (holds-test c v t read test) ∙ e) }
+        record { upTo = omega arith; vote = candidate-lower holds-copy c k t (so-far .vote) l (sym (holds-test c v t read test) ∙ e) }
 
     module _ (zero : k ≤ 0) where
       none : k ≡ 0
@@ -60,14 +60,14 @@ module _ (marks row : List ℕ) where
       vote-replace e =
           record {
             upTo = omega arith;
-            vote = rw read (bits-replace (presentAt marks) (bitsAt row) c k t (so-far .vote) none (eq-eqb (getD marks t 0) 1 e));
+            vote = rw read (bits-replace (markedAt marks) (copyBits row) c k t (so-far .vote) none (eq-eqb (getD marks t 0) 1 e));
           }
 
       pub vote-missing : (getD marks t 0 ≡ 1 → ⊥) → Voted c k (t + 1)
       vote-missing d =
           record {
             upTo = omega arith;
-            vote = bits-missing (presentAt marks) (bitsAt row) c k t (so-far .vote) none (ne-eqb (getD marks t 0) 1 d);
+            vote = bits-missing (markedAt marks) (copyBits row) c k t (so-far .vote) none (ne-eqb (getD marks t 0) 1 d);
           }
 
   pub vote-all : (c k t : ℕ) → Voted c k t → length marks ≤ t → Elected marks row c
@@ -97,36 +97,36 @@ module _ (marks row : List ℕ) where
           most = omega (arith, leb-false need (length marks / 2) half);
         }
 
-  module _ (need : ℕ) (fit : Fitting need marks row) (low : (t : ℕ) → bitsAt row t < 4294967296) where
+  module _ (need : ℕ) (fit : Fitting need marks row) (low : (t : ℕ) → copyBits row t < 4294967296) where
     row-decided : decideRow need (length marks) (copyAt marks row) ≡ rowDecision need marks row
     unfolding rowDecision
     row-decided =
         rw (le-ltb 64 (length marks) (fit .few), eq-eqb (length row) (4 * length marks) (fit .sized), lt-leb need (length marks / 2) (omega (arith, fit .most)))
 
     -- one count of a value
-    module _ (c : ℕ) (below : c < 4294967296) (n : ℕ) (counted : n ≡ count (holds c) (length marks)) where
+    module _ (c : ℕ) (below : c < 4294967296) (n : ℕ) (counted : n ≡ count (holds-copy c) (length marks)) where
       pub decision-enough : need ≤ n → decided (toZ w32 c) ≡ rowDecision need marks row
       decision-enough l =
           sym
-          (bits-enough (toZ w32) 4294967296 toZ-one (presentAt marks) (bitsAt row) (length marks) (λ t _. low t) c need below (fit .most)
+          (bits-enough (toZ w32) 4294967296 toZ-one (markedAt marks) (copyBits row) (length marks) (λ t _. low t) c need below (fit .most)
           (omega arith))
           ∙ row-decided
 
       pub decision-spent : n < need → length marks - need < n → knownFaulty ≡ rowDecision need marks row
       decision-spent l h =
           sym
-          (bits-spent (toZ w32) 4294967296 toZ-one (presentAt marks) (bitsAt row) (length marks) (λ t _. low t) c need below
+          (bits-spent (toZ w32) 4294967296 toZ-one (markedAt marks) (copyBits row) (length marks) (λ t _. low t) c need below
           (omega arith)
           (omega arith))
           ∙ row-decided
 
     -- the count of the vote's candidate
-    module _ (c : ℕ) (elected : Elected marks row c) (n : ℕ) (counted : n ≡ count (holds c) (length marks)) where
+    module _ (c : ℕ) (elected : Elected marks row c) (n : ℕ) (counted : n ≡ count (holds-copy c) (length marks)) where
       candidate-decides : cond (leb need n) (decided (toZ w32 c)) knownFaulty ≡ rowDecision need marks row
       candidate-decides =
           rw counted
           (sym
-          (bits-decide (toZ w32) 4294967296 toZ-one (presentAt marks) (bitsAt row) (length marks) (λ t _. low t) c (elected .lead) (elected .vote) need (fit .most)))
+          (bits-decide (toZ w32) 4294967296 toZ-one (markedAt marks) (copyBits row) (length marks) (λ t _. low t) c (elected .lead) (elected .vote) need (fit .most)))
           ∙ row-decided
 
       pub decision-short : n < need → knownFaulty ≡ rowDecision need marks row
@@ -136,6 +136,6 @@ module _ (marks row : List ℕ) where
       decision-bits l = rw (le-leb need n l) at candidate-decides
 
 -- four bytes make a number of 32 bits
-pub bits-low : (row : List ℕ) → ((i : ℕ) → getD row i 0 < 256) → (t : ℕ) → bitsAt row t < 4294967296
+pub bits-low : (row : List ℕ) → ((i : ℕ) → getD row i 0 < 256) → (t : ℕ) → copyBits row t < 4294967296
 unfolding word
 bits-low row f t = omega (arith, f (4 * t), f (4 * t + 1), f (4 * t + 2), f (4 * t + 3))

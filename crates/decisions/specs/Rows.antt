@@ -1,13 +1,15 @@
--- A row's copies as bytes: a mark for each copy, and four bytes of each.
---   presentAt, bitsAt   a copy's mark is 1; its number
+-- INNER: no reader needs this page to believe a public promise. A row's copies as bytes: a mark for each copy, and four bytes of each.
+--   markedAt, copyBits  a copy's mark is 1; its number
 --   copyAt              the copy
+--   decisionOf          what this crate's enum says in document 01's terms
+--   rowDecision         document 01's decision of a row of at most 64 copies, of which need are more than half
+-- What the functions below it give:
 --   Elected             the candidate of the majority vote
 --   Fitting             a row that the definition decides
 --   Tells               what the count of one value's copies tells of the decision
---   decisionOf          what this crate's enum says in document 01's terms
---   rowDecision         document 01's decision of a row of at most 64 copies, of which need are more than half
 use mathlib.Core.Bool.{Bool, cond, not, _||_}
 use mathlib.Core.List.{List}
+use mathlib.Core.Path.{_≡_}
 use Prim.Native.Nat.{ℕ, _+_, _*_, _/_, _≤_, _<_}
 use lib.Dec.{leb, ltb, eqb}
 use lib.ListN.{length, getD}
@@ -20,31 +22,32 @@ use Rattle.crusaders.specs.Majority.{Candidate, holds-bits}
 use Rattle.decisions.specs.declared.Decided.{Decided}
 use Rattle.decisions.specs.declared.Decided.the-variants.{Bits, KnownFaulty}
 use Rattle.decisions.specs.declared.Tried.{Tried}
-use mathlib.Core.Path.{_≡_}
 
-abbrev pub presentAt : List ℕ → ℕ → Bool
-presentAt marks t = eqb (getD marks t 0) 1
+abbrev pub markedAt : List ℕ → ℕ → Bool
+markedAt marks t = eqb (getD marks t 0) 1
 
-abbrev pub bitsAt : List ℕ → ℕ → ℕ
-bitsAt row t = word row (4 * t)
+abbrev pub copyBits : List ℕ → ℕ → ℕ
+copyBits row t = word row (4 * t)
 
 abbrev pub copyAt : List ℕ → List ℕ → Readings
-copyAt marks row t = cond (presentAt marks t) (present (toZ w32 (bitsAt row t))) missing
-
--- the vote's candidate, with a counter that we do not name
-pub record Elected (marks row : List ℕ) (c : ℕ) : Type 0 where
-  pub lead : ℕ
-  pub vote : Candidate (holds-bits (presentAt marks) (bitsAt row)) c lead (length marks)
+copyAt marks row t = cond (markedAt marks t) (present (toZ w32 (copyBits row t))) missing
 
 abbrev pub decisionOf : Decided → Decision
 decisionOf (Bits b) = decided (toZ w32 b)
 decisionOf KnownFaulty = knownFaulty
 
-abbrev pub unfit : ℕ → List ℕ → List ℕ → Bool
-unfit need marks row = ltb 64 (length marks) || (not (eqb (length row) (4 * length marks)) || leb need (length marks / 2))
+abbrev pub rowMisfit : ℕ → List ℕ → List ℕ → Bool
+rowMisfit need marks row = ltb 64 (length marks) || (not (eqb (length row) (4 * length marks)) || leb need (length marks / 2))
 
 unfoldable pub rowDecision : ℕ → List ℕ → List ℕ → Decision
-rowDecision need marks row = cond (unfit need marks row) knownFaulty (decideRow need (length marks) (copyAt marks row))
+rowDecision need marks row = cond (rowMisfit need marks row) knownFaulty (decideRow need (length marks) (copyAt marks row))
+
+-- ---- the functions below it
+
+-- the vote's candidate, with a counter that we do not name
+pub record Elected (marks row : List ℕ) (c : ℕ) : Type 0 where
+  pub lead : ℕ
+  pub vote : Candidate (holds-bits (markedAt marks) (copyBits row)) c lead (length marks)
 
 -- at most 64 copies, four bytes for each, of which need are more than half
 pub record Fitting (need : ℕ) (marks row : List ℕ) : Type 0 where

@@ -7,7 +7,7 @@ ghost use lib.Dec.{leb, eqb};
 ghost use lib.ListN.{length};
 ghost use Rattle.arithmetic.specs.Counting.{count};
 ghost use Rattle.crusaders.specs.Majority.{holds-bits};
-ghost use Rattle.decisions.specs.Rows.{presentAt, bitsAt, Elected, Fitting, Tells, decisionOf, rowDecision};
+ghost use Rattle.decisions.specs.Rows.{markedAt, copyBits, Elected, Fitting, Tells, decisionOf, rowDecision};
 
 // The bits of the decided value, or "known faulty".
 pub enum Decided {
@@ -18,7 +18,7 @@ pub enum Decided {
 // The number of the copy t.
 fn copy_bits(row: &[u8], t: usize) -> u32
     requires { ⌜ (4 * t + 3 < length (now row)) × (t < 64) ⌝ }
-    ensures { λ r. ⌜ r ≡ bitsAt (now (row .entry)) t ⌝ }
+    ensures { λ r. ⌜ r ≡ copyBits (now (row .entry)) t ⌝ }
 {
     let at = 4 * t;
     words::join(row[at], row[at + 1], row[at + 2], row[at + 3])
@@ -58,7 +58,7 @@ fn vote(marks: &[u8], row: &[u8]) -> u32
 // How many present copies hold a value.
 fn count_copies(marks: &[u8], row: &[u8], value: u32) -> u32
     requires { ⌜ (length (now marks) ≤ 64) × (length (now row) ≡ 4 * length (now marks)) ⌝ }
-    ensures { λ r. ⌜ r ≡ count (holds-bits (presentAt (now (marks .entry))) (bitsAt (now (row .entry))) value) (length (now (marks .entry))) ⌝ }
+    ensures { λ r. ⌜ r ≡ count (holds-bits (markedAt (now (marks .entry))) (copyBits (now (row .entry))) value) (length (now (marks .entry))) ⌝ }
 {
     let mut copies: u32 = 0;
     let mut t = 0;

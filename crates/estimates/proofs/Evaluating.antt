@@ -4,31 +4,35 @@ use mathlib.Core.Bool.{Bool, true, false, not, cond}
 use mathlib.Core.List.{List}
 use mathlib.Core.Path.{_≡_, refl, sym, ap, _∙_}
 use Prim.Native.Nat.{ℕ, zero, suc, _+_, _*_, _-_, _/_, _≤_, _<_, zero-le}
-use native.Mathlib.Nat.{mul-le-mul-left, mul-comm}
+use native.Mathlib.Nat.{mul-le-mul-left, mul-comm, pos-of-ne-zero}
 use native.Mathlib.Omega.{arith}
 use borrow.Author.Tests.{lt-ltb, le-ltb, eq-eqb, ne-eqb, ltb-true}
 use lib.ListN.{length, getD}
-use Rattle.arithmetic.specs.Counting.{bit, count}
+use Rattle.arithmetic.specs.Counting.{bit, count, sum}
 use Rattle.arithmetic.proofs.Counting.{count-le, count-not}
-use Rattle.arithmetic.specs.Naturals.{total}
+use Rattle.arithmetic.specs.Naturals.{down, up, total}
+use Rattle.arithmetic.proofs.Shift.{up-down}
 use Rattle.arithmetic.proofs.Sums.{total-ext, total-add, total-scale, count-total}
+use Rattle.model.specs.Steps.{mean, usedValue}
 use Rattle.rounds.specs.Naturals.{average-nat, median-nat, midpoint-nat, estimate-nat, mean-nat}
-use Rattle.estimates.specs.Values.{presentAt, usedAt, presentCount, numberedAt, Summarizes, estimateOf, newValueOf, nothing, evaluatedOf}
+use Rattle.rounds.specs.Held.{readingsIn}
+use Rattle.rounds.proofs.Shifted.{estimate-shifted, value-shifted}
+use Rattle.estimates.specs.Values.{valueAt, presentIn, usedAt, presentCount, numberedAt, Summarizes, estimateIn, meanIn, estimateAt, nothing, evaluatedOf}
 use Rattle.estimates.proofs.Dividing.{div-less}
 use Rattle.estimates.specs.declared.Estimated.{Estimated}
 use Rattle.estimates.specs.declared.Summary.{Summary}
 
 module _ (s : List ℕ) where
   -- the sum of the present readings is below 2^32 for each
-  present-small : (t : ℕ) → total (usedAt s 0) t ≤ 4294967295 * count (presentAt s) t
+  present-small : (t : ℕ) → total (usedAt s 0) t ≤ 4294967295 * count (presentIn s) t
   unfolding total count
   present-small zero = zero-le
   present-small (suc t) =
       let ih = present-small t in
-      let one = go (presentAt s t) refl in
+      let one = go (presentIn s t) refl in
       omega arith
     where
-      go : (b : Bool) → presentAt s t ≡ b → cond b (getD s t 0) 0 ≤ 4294967295 * bit b
+      go : (b : Bool) → presentIn s t ≡ b → cond b (getD s t 0) 0 ≤ 4294967295 * bit b
       go true e = omega (arith, ltb-true (getD s t 0) 4294967296 e)
       go false e = zero-le
 
@@ -36,9 +40,9 @@ module _ (s : List ℕ) where
   pub total-used : (e : ℕ) → total (usedAt s e) (length s) ≡ total (usedAt s 0) (length s) + (length s - presentCount s) * e
   total-used e =
       let n = length s in
-      let absent : ℕ → Bool = λ i. not (presentAt s i) in
-      let some : count absent n ≡ n - presentCount s = omega (arith, count-not (presentAt s) n) in
-      total-ext (usedAt s e) (λ i. usedAt s 0 i + bit (absent i) * e) n (λ i _. one (presentAt s i) (getD s i 0))
+      let absent : ℕ → Bool = λ i. not (presentIn s i) in
+      let some : count absent n ≡ n - presentCount s = omega (arith, count-not (presentIn s) n) in
+      total-ext (usedAt s e) (λ i. usedAt s 0 i + bit (absent i) * e) n (λ i _. one (presentIn s i) (getD s i 0))
       ∙ total-add (usedAt s 0) (λ i. bit (absent i) * e) n
       ∙ ap (λ (x : ℕ). total (usedAt s 0) n + x) (total-scale (λ i. bit (absent i)) e n ∙ ap (λ (x : ℕ). x * e) (sym (count-total absent n) ∙ some))
     where
@@ -46,9 +50,25 @@ module _ (s : List ℕ) where
       one true v = omega arith
       one false v = omega arith
 
+  -- document 01's estimate and mean, moved up, are those of the naturals
+  module _ (kind : ℕ) (some : 0 < presentCount s) where
+    estimate-down : estimateIn kind s ≡ down 2147483648 (estimateAt kind s)
+    unfolding estimateIn estimateAt
+    estimate-down = estimate-shifted 2147483648 (presentIn s) (valueAt s) (presentIn s) (length s) (λ r e. e) some kind
+
+    estimate-moved : up 2147483648 (estimateIn kind s) ≡ estimateAt kind s
+    estimate-moved = ap (up 2147483648) estimate-down ∙ up-down 2147483648 (estimateAt kind s)
+
+    value-moved : up 2147483648 (meanIn s (estimateIn kind s)) ≡ mean-nat (length s) (total (usedAt s (estimateAt kind s)) (length s))
+    unfolding meanIn
+    value-moved =
+        ap (λ z. up 2147483648 (mean (length s) (sum (usedValue (presentIn s) (readingsIn s) z) (length s)))) estimate-down
+        ∙ ap (up 2147483648) (value-shifted 2147483648 (presentIn s) (valueAt s) (presentIn s) (length s) (λ r e. e) (estimateAt kind s) (omega (arith, count-le (presentIn s) (length s))))
+        ∙ up-down 2147483648 (mean-nat (length s) (total (usedAt s (estimateAt kind s)) (length s)))
+
   module _ (r : Summary) (gathered : Summarizes r s) where
     pub count-few : r .count ≤ length s
-    count-few = omega (arith, gathered .counted, count-le (presentAt s) (length s))
+    count-few = omega (arith, gathered .counted, count-le (presentIn s) (length s))
 
     pub sum-small : r .sum ≤ 4294967295 * r .count
     sum-small = omega (arith, gathered .counted, gathered .added, present-small (length s))
@@ -76,16 +96,16 @@ module _ (s : List ℕ) where
       high-small = gathered .highest some-present .1
 
     module _ (kind : ℕ) where
-      pub estimate-average : kind ≡ 0 → (a : ℕ) → a ≡ r .sum / r .count → a ≡ estimateOf kind s
-      unfolding estimateOf estimate-nat average-nat
+      pub estimate-average : kind ≡ 0 → (a : ℕ) → a ≡ r .sum / r .count → a ≡ estimateAt kind s
+      unfolding estimateAt estimate-nat average-nat
       estimate-average e a q = rw (eq-eqb kind 0 e, ← gathered .counted, ← gathered .added) q
 
-      pub estimate-median : (kind ≡ 0 → ⊥) → kind ≡ 1 → (a : ℕ) → a ≡ numberedAt s ((r .count + 1) / 2) → a ≡ estimateOf kind s
-      unfolding estimateOf estimate-nat median-nat
+      pub estimate-median : (kind ≡ 0 → ⊥) → kind ≡ 1 → (a : ℕ) → a ≡ numberedAt s ((r .count + 1) / 2) → a ≡ estimateAt kind s
+      unfolding estimateAt estimate-nat median-nat
       estimate-median d e a q = rw (ne-eqb kind 0 d, eq-eqb kind 1 e, ← gathered .counted) q
 
-      pub estimate-midpoint : 0 < r .count → (kind ≡ 0 → ⊥) → (kind ≡ 1 → ⊥) → (r .low + r .high) / 2 ≡ estimateOf kind s
-      unfolding estimateOf estimate-nat midpoint-nat
+      pub estimate-midpoint : 0 < r .count → (kind ≡ 0 → ⊥) → (kind ≡ 1 → ⊥) → (r .low + r .high) / 2 ≡ estimateAt kind s
+      unfolding estimateAt estimate-nat midpoint-nat
       estimate-midpoint some d e =
           rw (ne-eqb kind 0 d, ne-eqb kind 1 e, ← gathered .lowest (some-present some) .0, ← gathered .highest (some-present some) .0)
 
@@ -94,10 +114,11 @@ module _ (s : List ℕ) where
         unfolding evaluatedOf
         evaluate-none e = rw (le-ltb 64 (length s) few, eq-eqb (presentCount s) 0 (sym (gathered .counted) ∙ e))
 
-        pub evaluate-some : (r .count ≡ 0 → ⊥) → (e v : ℕ) → e ≡ estimateOf kind s → v ≡ mean-nat (length s) (r .sum + (length s - r .count) * e) → _≡_ {A = Estimated} (record { count = r .count; estimate = e; value = v }) (evaluatedOf kind s)
-        unfolding evaluatedOf newValueOf
+        pub evaluate-some : (r .count ≡ 0 → ⊥) → (e v : ℕ) → e ≡ estimateAt kind s → v ≡ mean-nat (length s) (r .sum + (length s - r .count) * e) → _≡_ {A = Estimated} (record { count = r .count; estimate = e; value = v }) (evaluatedOf kind s)
+        unfolding evaluatedOf
         evaluate-some d e v p q =
-            rw (le-ltb 64 (length s) few, ne-eqb (presentCount s) 0 (λ z. d (gathered .counted ∙ z)), total-used (estimateOf kind s), q, p, gathered .counted, gathered .added)
+            let some : 0 < presentCount s = pos-of-ne-zero (λ z. d (gathered .counted ∙ z)) in
+            rw (le-ltb 64 (length s) few, ne-eqb (presentCount s) 0 (λ z. d (gathered .counted ∙ z)), estimate-moved kind some, value-moved kind some, total-used (estimateAt kind s), q, p, gathered .counted, gathered .added)
 
   pub evaluate-long : (kind : ℕ) → 64 < length s → nothing ≡ evaluatedOf kind s
   unfolding evaluatedOf

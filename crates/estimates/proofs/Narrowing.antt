@@ -15,40 +15,40 @@ use Rattle.arithmetic.specs.Counting.{count}
 use Rattle.arithmetic.proofs.Bools.{iff-eq, and-right, and-intro, clash}
 use Rattle.arithmetic.proofs.Counting.{count-ext}
 use Rattle.rounds.specs.Naturals.{is-numbered, numbered-nat}
-use Rattle.estimates.specs.Values.{valueAt, presentAt}
+use Rattle.estimates.specs.Values.{valueAt, presentIn}
 use Rattle.estimates.proofs.Selection.{under, upTo, numbered-intro, too-low, too-high, numbered-value, numbered-none}
 
 module _ (s : List ℕ) where
   -- a number below a reading is a reading
-  count-under : (v : ℕ) → v ≤ 4294967296 → count (λ j. ltb (getD s j 0) v) (length s) ≡ under (presentAt s) (length s) (valueAt s) v
+  count-under : (v : ℕ) → v ≤ 4294967296 → count (λ j. ltb (getD s j 0) v) (length s) ≡ under (presentIn s) (length s) (valueAt s) v
   count-under v h =
-      count-ext (λ j. ltb (getD s j 0) v) (λ j. presentAt s j && ltb (getD s j 0) v) (length s)
+      count-ext (λ j. ltb (getD s j 0) v) (λ j. presentIn s j && ltb (getD s j 0) v) (length s)
       (λ j _.
-      iff-eq (ltb (getD s j 0) v) (presentAt s j && ltb (getD s j 0) v)
+      iff-eq (ltb (getD s j 0) v) (presentIn s j && ltb (getD s j 0) v)
       (λ e. let l = ltb-true (getD s j 0) v e in and-intro (lt-ltb (getD s j 0) 4294967296 (omega arith)) e)
-      (λ e. and-right (presentAt s j) (ltb (getD s j 0) v) e))
+      (λ e. and-right (presentIn s j) (ltb (getD s j 0) v) e))
 
-  count-upTo : (v : ℕ) → v < 4294967296 → count (λ j. leb (getD s j 0) v) (length s) ≡ upTo (presentAt s) (length s) (valueAt s) v
+  count-upTo : (v : ℕ) → v < 4294967296 → count (λ j. leb (getD s j 0) v) (length s) ≡ upTo (presentIn s) (length s) (valueAt s) v
   count-upTo v h =
-      count-ext (λ j. leb (getD s j 0) v) (λ j. presentAt s j && leb (getD s j 0) v) (length s)
+      count-ext (λ j. leb (getD s j 0) v) (λ j. presentIn s j && leb (getD s j 0) v) (length s)
       (λ j _.
-      iff-eq (leb (getD s j 0) v) (presentAt s j && leb (getD s j 0) v)
+      iff-eq (leb (getD s j 0) v) (presentIn s j && leb (getD s j 0) v)
       (λ e. let l = leb-true (getD s j 0) v e in and-intro (lt-ltb (getD s j 0) 4294967296 (omega arith)) e)
-      (λ e. and-right (presentAt s j) (leb (getD s j 0) v) e))
+      (λ e. and-right (presentIn s j) (leb (getD s j 0) v) e))
 
   -- whether the reading at j is numbered h from below
-  abbrev pub fits : ℕ → ℕ → Bool
-  fits h j = is-numbered (presentAt s) (length s) (valueAt s) h j
+  abbrev pub numbered-here : ℕ → ℕ → Bool
+  numbered-here h j = is-numbered (presentIn s) (length s) (valueAt s) h j
 
   abbrev pub chosen : ℕ → ℕ
-  chosen h = numbered-nat 2147483648 (presentAt s) (length s) (valueAt s) h
+  chosen h = numbered-nat 2147483648 (presentIn s) (length s) (valueAt s) h
 
   pub record Narrowed (h low high t : ℕ) : Type 0 where
     pub inRange : t ≤ length s
     pub top : high ≤ 4294967296
-    pub passed : (j : ℕ) → j < t → fits h j ≡ false
-    pub lows : (j : ℕ) → getD s j 0 < low → fits h j ≡ false
-    pub highs : (j : ℕ) → high ≤ getD s j 0 → fits h j ≡ false
+    pub passed : (j : ℕ) → j < t → numbered-here h j ≡ false
+    pub lows : (j : ℕ) → getD s j 0 < low → numbered-here h j ≡ false
+    pub highs : (j : ℕ) → high ≤ getD s j 0 → numbered-here h j ≡ false
 
   pub narrow-none : (h : ℕ) → Narrowed h 0 4294967296 0
   narrow-none h =
@@ -57,12 +57,12 @@ module _ (s : List ℕ) where
         top = le-refl 4294967296;
         passed = λ j l. absurd (not-suc-le-zero l);
         lows = λ j l. absurd (not-suc-le-zero l);
-        highs = λ j l. ap (λ (b : Bool). b && (leb h (upTo (presentAt s) (length s) (valueAt s) (getD s j 0)) && ltb (under (presentAt s) (length s) (valueAt s) (getD s j 0)) h)) (le-ltb (getD s j 0) 4294967296 l);
+        highs = λ j l. ap (λ (b : Bool). b && (leb h (upTo (presentIn s) (length s) (valueAt s) (getD s j 0)) && ltb (under (presentIn s) (length s) (valueAt s) (getD s j 0)) h)) (le-ltb (getD s j 0) 4294967296 l);
       }
 
   pub narrow-all : (h low high t : ℕ) → Narrowed h low high t → length s ≤ t → 2147483648 ≡ chosen h
   narrow-all h low high t n l =
-      sym (numbered-none (presentAt s) (length s) (valueAt s) h 2147483648 (λ j m. n .passed j (omega arith)))
+      sym (numbered-none (presentIn s) (length s) (valueAt s) h 2147483648 (λ j m. n .passed j (omega arith)))
 
   module _ (h low high t : ℕ) (so-far : Narrowed h low high t) (room : t < length s) where
     -- the number at t is out of range
@@ -71,12 +71,12 @@ module _ (s : List ℕ) where
         record {
           inRange = omega arith;
           top = so-far .top;
-          passed = below-more (λ (j : ℕ). fits h j ≡ false) t (so-far .passed) (go (leb low (getD s t 0)) (ltb (getD s t 0) high) refl refl (sym e ∙ f));
+          passed = below-more (λ (j : ℕ). numbered-here h j ≡ false) t (so-far .passed) (go (leb low (getD s t 0)) (ltb (getD s t 0) high) refl refl (sym e ∙ f));
           lows = so-far .lows;
           highs = so-far .highs;
         }
       where
-        go : (a b : Bool) → leb low (getD s t 0) ≡ a → ltb (getD s t 0) high ≡ b → (a && b) ≡ false → fits h t ≡ false
+        go : (a b : Bool) → leb low (getD s t 0) ≡ a → ltb (getD s t 0) high ≡ b → (a && b) ≡ false → numbered-here h t ≡ false
         go false b p q z = so-far .lows t (leb-false low (getD s t 0) p)
         go true false p q z = so-far .highs t (ltb-false (getD s t 0) high q)
         go true true p q z = clash refl z
@@ -89,12 +89,12 @@ module _ (s : List ℕ) where
       pub narrow-high : h ≤ count (λ j. ltb (getD s j 0) (getD s t 0)) (length s) → Narrowed h low (getD s t 0) (t + 1)
       narrow-high l =
           let v = in-range in
-          let m : h ≤ under (presentAt s) (length s) (valueAt s) (getD s t 0) = rw (← count-under (getD s t 0) (omega arith)) l in
-          let beyond : (j : ℕ) → getD s t 0 ≤ getD s j 0 → fits h j ≡ false = λ j k. too-high (presentAt s) (length s) (valueAt s) h (getD s t 0) j k m in
+          let m : h ≤ under (presentIn s) (length s) (valueAt s) (getD s t 0) = rw (← count-under (getD s t 0) (omega arith)) l in
+          let beyond : (j : ℕ) → getD s t 0 ≤ getD s j 0 → numbered-here h j ≡ false = λ j k. too-high (presentIn s) (length s) (valueAt s) h (getD s t 0) j k m in
           record {
             inRange = omega arith;
             top = omega arith;
-            passed = below-more (λ (j : ℕ). fits h j ≡ false) t (so-far .passed) (beyond t (le-refl (getD s t 0)));
+            passed = below-more (λ (j : ℕ). numbered-here h j ≡ false) t (so-far .passed) (beyond t (le-refl (getD s t 0)));
             lows = so-far .lows;
             highs = beyond;
           }
@@ -103,12 +103,12 @@ module _ (s : List ℕ) where
       pub narrow-low : count (λ j. leb (getD s j 0) (getD s t 0)) (length s) < h → Narrowed h (getD s t 0 + 1) high (t + 1)
       narrow-low l =
           let v = in-range in
-          let m : upTo (presentAt s) (length s) (valueAt s) (getD s t 0) < h = rw (← count-upTo (getD s t 0) v) l in
-          let beyond : (j : ℕ) → getD s j 0 ≤ getD s t 0 → fits h j ≡ false = λ j k. too-low (presentAt s) (length s) (valueAt s) h (getD s t 0) j k m in
+          let m : upTo (presentIn s) (length s) (valueAt s) (getD s t 0) < h = rw (← count-upTo (getD s t 0) v) l in
+          let beyond : (j : ℕ) → getD s j 0 ≤ getD s t 0 → numbered-here h j ≡ false = λ j k. too-low (presentIn s) (length s) (valueAt s) h (getD s t 0) j k m in
           record {
             inRange = omega arith;
             top = so-far .top;
-            passed = below-more (λ (j : ℕ). fits h j ≡ false) t (so-far .passed) (beyond t (le-refl (getD s t 0)));
+            passed = below-more (λ (j : ℕ). numbered-here h j ≡ false) t (so-far .passed) (beyond t (le-refl (getD s t 0)));
             lows = λ j k. beyond j (omega arith);
             highs = so-far .highs;
           }
@@ -118,7 +118,7 @@ module _ (s : List ℕ) where
       narrow-fits l m =
           let v = in-range in
           sym
-          (numbered-value (presentAt s) (length s) (valueAt s) h 2147483648 t room
-          (numbered-intro (presentAt s) (length s) (valueAt s) h t (lt-ltb (getD s t 0) 4294967296 v)
+          (numbered-value (presentIn s) (length s) (valueAt s) h 2147483648 t room
+          (numbered-intro (presentIn s) (length s) (valueAt s) h t (lt-ltb (getD s t 0) 4294967296 v)
           (rw (← count-upTo (getD s t 0) v) m)
           (rw (← count-under (getD s t 0) (omega arith)) l)))

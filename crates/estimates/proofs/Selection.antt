@@ -11,7 +11,7 @@ use borrow.Author.Tests.{lt-ltb, le-ltb, le-leb, lt-leb, ltb-true, leb-true, leb
 use lib.Dec.{leb, ltb}
 use Rattle.arithmetic.specs.Counting.{bit, count}
 use Rattle.arithmetic.proofs.Bools.{clash, and-left, and-right, and-intro}
-use Rattle.arithmetic.proofs.Counting.{earlier, last, split-last, bit-le, count-mono, count-pos, count-some, lowest-none, lowest-cases}
+use Rattle.arithmetic.proofs.Counting.{initial, last, split-last, bit-le, count-mono, count-pos, count-some, lowest-none, lowest-cases}
 use Rattle.arithmetic.proofs.Bools.{and-false}
 use Rattle.rounds.specs.Naturals.{nat-at, is-numbered, numbered-nat}
 
@@ -21,9 +21,9 @@ unfolding count
 count-less p q zero i h a b f = absurd (not-suc-le-zero h)
 count-less p q (suc n) i h a b f =
     ⊎-elim
-    (λ l. let ih = count-less p q n i l a b (earlier f) in omega (arith, bit-le (p n) (q n) (last f)))
+    (λ l. let ih = count-less p q n i l a b (initial f) in omega (arith, bit-le (p n) (q n) (last f)))
     (λ e.
-    let c = count-mono p q n (earlier f) in
+    let c = count-mono p q n (initial f) in
     let u : bit (p n) ≡ 0 = ap bit (ap p (sym e) ∙ a) in
     let v : bit (q n) ≡ 1 = ap bit (ap q (sym e) ∙ b) in
     omega arith)

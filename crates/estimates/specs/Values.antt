@@ -1,39 +1,67 @@
--- Readings as naturals in a list: a reading moved up by 2^31 is below 2^32, and any number from 2^32 on is a missing reading.
---   valueAt, presentAt    the natural of a cabinet; whether its reading is present
---   usedAt                a present reading, or what replaces it
+-- INNER: no reader needs this page to believe a public promise. Document 01's estimate and mean of the readings that a list of naturals holds: a
+-- reading moved up by 2^31 is below 2^32, and a number from 2^32 on is a missing reading.
+--   valueAt, presentIn    the natural of a cabinet; whether its reading is present
 --   presentCount          how many readings are present
+--   estimateIn            document 01's estimate of the present readings
+--   meanIn                document 01's mean of the readings, the missing ones replaced
+--   evaluatedOf           what `evaluate` gives of at most 64 readings; all 0 where none is present or there are more
+-- What the functions below it give, over naturals:
+--   usedAt                a present reading, or what replaces it
 --   countBelow, countUpTo how many numbers are below one, and at or below it
 --   numberedAt            the present reading numbered h from below
 --   Summarizes            what one pass over the readings gathers of the present ones
---   estimateOf            document 01's estimate of the present readings
---   newValueOf            the mean of the used values
---   evaluatedOf           count, estimate and new value of at most 64 readings; all 0 where none is present
+--   estimateAt            the estimate of the present readings
 use mathlib.Core.Bool.{Bool, cond}
 use mathlib.Core.List.{List}
 use mathlib.Core.Path.{_≡_}
 use Prim.Native.Nat.{ℕ, _<_}
 use lib.Dec.{leb, ltb, eqb}
+use lib.IntN.{ℤ}
 use lib.ListN.{length, getD}
-use Rattle.arithmetic.specs.Counting.{count}
-use Rattle.arithmetic.specs.Naturals.{total}
-use Rattle.rounds.specs.Naturals.{numbered-nat, estimate-nat, mean-nat}
+use Rattle.arithmetic.specs.Counting.{count, sum}
+use Rattle.arithmetic.specs.Naturals.{up, total}
+use Rattle.model.specs.Steps.{estimate, mean, usedValue}
+use Rattle.rounds.specs.Held.{readingsIn}
+use Rattle.rounds.specs.Naturals.{numbered-nat, estimate-nat}
 use Rattle.estimates.specs.declared.Estimated.{Estimated}
 use Rattle.estimates.specs.declared.Summary.{Summary}
 
 abbrev pub valueAt : List ℕ → ℕ → ℕ
 valueAt s t = getD s t 0
 
-abbrev pub presentAt : List ℕ → ℕ → Bool
-presentAt s t = ltb (getD s t 0) 4294967296
+abbrev pub presentIn : List ℕ → ℕ → Bool
+presentIn s t = ltb (getD s t 0) 4294967296
+
+abbrev pub presentCount : List ℕ → ℕ
+presentCount s = count (presentIn s) (length s)
+
+-- "Estimate, over accepted readings only": those that are present in the list
+unfoldable pub estimateIn : ℕ → List ℕ → ℤ
+estimateIn kind s = estimate kind (presentIn s) (length s) (readingsIn s)
+
+-- "Missing or unaccepted readings are replaced by the estimate. The new value is the mean of N used values"
+unfoldable pub meanIn : List ℕ → ℤ → ℤ
+meanIn s e = mean (length s) (sum (usedValue (presentIn s) (readingsIn s) e) (length s))
+
+abbrev pub nothing : Estimated
+nothing = record { count = 0; estimate = 0; value = 0 }
+
+-- the estimate and the mean are moved up by 2^31
+unfoldable pub evaluatedOf : ℕ → List ℕ → Estimated
+evaluatedOf kind s =
+    cond (ltb 64 (length s)) nothing
+    (cond (eqb (presentCount s) 0) nothing
+    (record {
+      count = presentCount s;
+      estimate = up 2147483648 (estimateIn kind s);
+      value = up 2147483648 (meanIn s (estimateIn kind s));
+    }))
+
+-- ---- the functions below it
 
 abbrev pub usedAt : List ℕ → ℕ → ℕ → ℕ
 usedAt s e t = cond (ltb (getD s t 0) 4294967296) (getD s t 0) e
 
--- how many readings are present
-abbrev pub presentCount : List ℕ → ℕ
-presentCount s = count (presentAt s) (length s)
-
--- how many numbers are below v, and at or below it
 abbrev pub countBelow : List ℕ → ℕ → ℕ
 countBelow s v = count (λ t. ltb (getD s t 0) v) (length s)
 
@@ -42,7 +70,7 @@ countUpTo s v = count (λ t. leb (getD s t 0) v) (length s)
 
 -- the present reading numbered h from below, or the reading 0 where there is none
 abbrev pub numberedAt : List ℕ → ℕ → ℕ
-numberedAt s h = numbered-nat 2147483648 (presentAt s) (length s) (valueAt s) h
+numberedAt s h = numbered-nat 2147483648 (presentIn s) (length s) (valueAt s) h
 
 -- the count and the sum of the present readings; the lowest and the highest, where one is present
 pub record Summarizes (r : Summary) (s : List ℕ) : Type 0 where
@@ -51,21 +79,5 @@ pub record Summarizes (r : Summary) (s : List ℕ) : Type 0 where
   pub lowest : 0 < presentCount s → (r .low ≡ numberedAt s 1) × (r .low < 4294967296)
   pub highest : 0 < presentCount s → (r .high ≡ numberedAt s (presentCount s)) × (r .high < 4294967296)
 
-unfoldable pub estimateOf : ℕ → List ℕ → ℕ
-estimateOf kind s = estimate-nat 2147483648 kind (presentAt s) (length s) (valueAt s)
-
-unfoldable pub newValueOf : List ℕ → ℕ → ℕ
-newValueOf s e = mean-nat (length s) (total (usedAt s e) (length s))
-
-abbrev pub nothing : Estimated
-nothing = record { count = 0; estimate = 0; value = 0 }
-
-unfoldable pub evaluatedOf : ℕ → List ℕ → Estimated
-evaluatedOf kind s =
-    cond (ltb 64 (length s)) nothing
-    (cond (eqb (presentCount s) 0) nothing
-    (record {
-      count = presentCount s;
-      estimate = estimateOf kind s;
-      value = newValueOf s (estimateOf kind s);
-    }))
+unfoldable pub estimateAt : ℕ → List ℕ → ℕ
+estimateAt kind s = estimate-nat 2147483648 kind (presentIn s) (length s) (valueAt s)

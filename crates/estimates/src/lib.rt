@@ -5,7 +5,7 @@ ghost use Prim.Native.Nat.{_*_, _/_, min, max, _≤_, _<_};
 ghost use lib.Dec.{leb, ltb};
 ghost use lib.ListN.{length};
 ghost use Rattle.rounds.specs.Naturals.{mean-nat};
-ghost use Rattle.estimates.specs.Values.{countBelow, countUpTo, numberedAt, Summarizes, estimateOf, evaluatedOf};
+ghost use Rattle.estimates.specs.Values.{countBelow, countUpTo, numberedAt, Summarizes, estimateAt, evaluatedOf};
 
 // The first number that is no reading.
 pub const LIMIT: u64 = 4_294_967_296;
@@ -152,7 +152,7 @@ fn mean(n: u64, sum: u64) -> u64
 // Document 01's estimate of the present readings: average, median or midpoint.
 fn estimate(kind: u8, values: &[u64], summary: Summary) -> u64
     requires { ⌜ (length (now values) ≤ 64) × (0 < summary .count) × Summarizes summary (now values) ⌝ }
-    ensures { λ r. ⌜ (r ≡ estimateOf kind (now (values .entry))) × (r < 4294967296) ⌝ }
+    ensures { λ r. ⌜ (r ≡ estimateAt kind (now (values .entry))) × (r < 4294967296) ⌝ }
 {
     if kind == AVERAGE {
         return divide(summary.sum, summary.count as u64);

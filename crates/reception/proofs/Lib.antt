@@ -1,2 +1,3 @@
-pub mod Standing
+pub mod Squares
 pub mod Sheets
+pub mod Holding

@@ -4,6 +4,7 @@ use mathlib.Core.Bool.{true, false, cond, _&&_}
 use mathlib.Core.List.{List}
 use mathlib.Core.Path.{_≡_, refl, sym, ap, ap₂, _∙_}
 use Prim.Native.Nat.{ℕ, _+_, _*_, _-_, _/_, _≤_, _<_}
+use native.Mathlib.Nat.{le-of-eq}
 use native.Mathlib.Omega.{arith}
 use borrow.Author.Tests.{eq-eqb, lt-ltb, le-ltb, le-leb, lt-leb, eqb-true, leb-true, ltb-true}
 use lib.Dec.{eqb, leb, ltb}
@@ -11,6 +12,9 @@ use lib.ListN.{length, take, drop, length-drop}
 use lib.Seq.{getD-take, getD-drop, length-take-le}
 use mir.Syntax.{w32}
 use mir.Val.{toZ}
+use Rattle.arithmetic.specs.Writing.{table, overwrite}
+use Rattle.arithmetic.proofs.Bools.{and-left, and-right}
+use Rattle.arithmetic.proofs.Writing.{length-table, overwrite-whole, table-ext}
 use Rattle.crusaders.proofs.Decision.{decide-ext}
 use Rattle.crusaders.proofs.Rows.{read-direct, read-decided}
 use Rattle.model.specs.declared.Settings.{Settings}
@@ -18,11 +22,11 @@ use Rattle.model.specs.Ensemble.{missing, present}
 use Rattle.model.specs.RoundSheet.{cca, byte, word, entryCount, entryAt, rowEntries, rowPart}
 use Rattle.model.specs.Steps.{decidedReading, decideRow, readingsOf}
 use Rattle.sheets.proofs.Words.{word-ext}
+use Rattle.rounds.specs.Held.{heldOf}
 use Rattle.decisions.specs.Rows.{copyAt, rowDecision}
 use Rattle.rows.specs.Parts.{partAt}
-use Rattle.arithmetic.proofs.Bools.{and-left, and-right}
-use Rattle.reception.specs.Standing.{Stands, rowReading, Received, fitting}
-use Rattle.reception.proofs.Standing.{stands-ext, row-room}
+use Rattle.reception.specs.Receiving.{rowReading, heldAt, fitting, receivedOf}
+use Rattle.reception.proofs.Squares.{row-room}
 
 -- ---- bytes and words of a part
 
@@ -65,19 +69,26 @@ unfolding rowDecision
 row-fit need n marks row a b h most =
     rw (a, b, le-ltb 64 n h, eq-eqb (4 * n) (4 * n) refl, lt-leb need (n / 2) most)
 
-module _ (s : List ℕ) (c : Settings) (values : List ℕ) where
+-- a list as long as the table that is stored in it
+stored-whole : (f g : ℕ → ℕ) (n : ℕ) (old : List ℕ) → length old ≡ n → ((r : ℕ) → r < n → f r ≡ g r) → overwrite (table f n) old ≡ table g n
+stored-whole f g n old long e = overwrite-whole (table f n) old (le-of-eq (long ∙ sym (length-table f n))) ∙ table-ext f g n e
+
+module _ (s : List ℕ) (c : Settings) (values old : List ℕ) (room : length old ≡ c .n) where
   -- FCA: the marks and the readings as they stand
-  pub direct-received : eqb (c .rule) cca ≡ false → Stands (copyAt (take (c .n) (drop 8 s)) (take (4 * c .n) (drop (8 + c .n) s))) values (c .n) → Received s c values
+  direct-received : eqb (c .rule) cca ≡ false → values ≡ overwrite (table (λ t. heldOf (copyAt (take (c .n) (drop 8 s)) (take (4 * c .n) (drop (8 + c .n) s)) t)) (c .n)) old → values ≡ table (heldAt s c) (c .n)
   unfolding entryCount
   direct-received b st =
-      stands-ext (readingsOf c (entryAt s (entryCount c))) (copyAt (take (c .n) (drop 8 s)) (take (4 * c .n) (drop (8 + c .n) s))) values (c .n)
-      (λ r l.
-      read-direct c (entryAt s (entryCount c)) r b
-      ∙ rw b (entry-part s (c .n) 8 (c .n) (8 + c .n) (4 * c .n) r r l (omega arith) refl refl))
       st
+      ∙ stored-whole (λ t. heldOf (copyAt (take (c .n) (drop 8 s)) (take (4 * c .n) (drop (8 + c .n) s)) t)) (heldAt s c) (c .n) old room
+      (λ r l. ap heldOf (sym (copied r l)))
+    where
+      copied : (r : ℕ) → r < c .n → readingsOf c (entryAt s (entryCount c)) r ≡ copyAt (take (c .n) (drop 8 s)) (take (4 * c .n) (drop (8 + c .n) s)) r
+      copied r l =
+          read-direct c (entryAt s (entryCount c)) r b
+          ∙ rw b (entry-part s (c .n) 8 (c .n) (8 + c .n) (4 * c .n) r r l (omega arith) refl refl)
 
   -- the same, of the parts as the code cuts them
-  pub direct-cut : eqb (c .rule) cca ≡ false → 8 + c .n ≤ length s → Stands (copyAt (take (8 + c .n - 8) (drop 8 s)) (take (8 + c .n + 4 * c .n - (8 + c .n)) (drop (8 + c .n) s))) values (length (take (8 + c .n - 8) (drop 8 s))) → Received s c values
+  pub direct-cut : eqb (c .rule) cca ≡ false → 8 + c .n ≤ length s → values ≡ overwrite (table (λ t. heldOf (copyAt (take (8 + c .n - 8) (drop 8 s)) (take (8 + c .n + 4 * c .n - (8 + c .n)) (drop (8 + c .n) s)) t)) (length (take (8 + c .n - 8) (drop 8 s)))) old → values ≡ table (heldAt s c) (c .n)
   direct-cut b h st =
       direct-received b (rw (cut 8 (c .n), cut (8 + c .n) (4 * c .n), length-part s 8 (c .n) h) at st)
 
@@ -124,8 +135,10 @@ module _ (s : List ℕ) (c : Settings) (values : List ℕ) where
             (there (r * c .n) (c .n * c .n) t)
             (behind (r * c .n) (c .n * c .n) t)
 
-    pub relayed-received : Stands (rowReading s c (c .n - c .m)) values (c .n) → Received s c values
-    relayed-received st = stands-ext (readingsOf c (entryAt s (entryCount c))) (rowReading s c (c .n - c .m)) values (c .n) row-decided st
+    pub relayed-received : values ≡ overwrite (table (λ r. heldOf (rowReading s c (c .n - c .m) r)) (c .n)) old → values ≡ table (heldAt s c) (c .n)
+    relayed-received st =
+        st
+        ∙ stored-whole (λ r. heldOf (rowReading s c (c .n - c .m) r)) (heldAt s c) (c .n) old room (λ r l. ap heldOf (sym (row-decided r l)))
 
 -- ---- sizes that fit
 
@@ -146,6 +159,15 @@ fit c sheet values e =
       long = eqb-true sheet (8 + 5 * entryCount c) (and-left (eqb sheet (8 + 5 * entryCount c)) _ b);
       room = eqb-true values (c .n) (and-right (eqb sheet (8 + 5 * entryCount c)) (eqb values (c .n)) b);
     }
+
+-- what is left in the list, by what the sizes are
+pub received-fit : (s : List ℕ) (c : Settings) (old values : List ℕ) → fitting c (length s) (length old) ≡ true → values ≡ table (heldAt s c) (c .n) → values ≡ receivedOf s c old
+unfolding receivedOf
+received-fit s c old values e filled = filled ∙ rw e
+
+pub received-not : (s : List ℕ) (c : Settings) (old : List ℕ) → fitting c (length s) (length old) ≡ false → old ≡ receivedOf s c old
+unfolding receivedOf
+received-not s c old e = rw e
 
 pub entries-relayed : (c : Settings) → eqb (c .rule) cca ≡ true → entryCount c ≡ c .n * c .n
 unfolding entryCount

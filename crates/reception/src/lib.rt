@@ -1,19 +1,19 @@
 // What a cabinet reads of the others: the readings of a sheet as naturals, by FCA as sent, by CCA as decided.
 ghost use mathlib.Core.Path.{_≡_};
 ghost use Prim.Native.Nat.{_+_, _*_, _≤_, _<_};
-ghost use lib.Dec.{ltb};
 ghost use lib.ListN.{length};
+ghost use Rattle.arithmetic.specs.Writing.{table, overwrite};
 ghost use Rattle.model.specs.Steps.{decidedReading};
-ghost use Rattle.rounds.specs.Naturals.{shift};
+ghost use Rattle.rounds.specs.Held.{heldOf};
 ghost use Rattle.decisions.specs.Rows.{copyAt, rowDecision};
-ghost use Rattle.reception.specs.Standing.{Stands, rowReading, fitting, Filled};
+ghost use Rattle.reception.specs.Receiving.{rowReading, fitting, receivedOf};
 use decisions::Decided;
 use model::Settings;
 
 // The readings as sent: their marks, and four bytes each.
 fn receive_direct(marks: &[u8], row: &[u8], values: &mut [u64])
     requires { ⌜ (length (now marks) ≤ length (now values)) × (length (now marks) ≤ 64) × (length (now row) ≡ 4 * length (now marks)) ⌝ }
-    ensures { λ _. ⌜ Stands (copyAt (now (marks .entry)) (now (row .entry))) (now (values .exit)) (length (now (marks .entry))) ⌝ }
+    ensures { λ _. ⌜ now (values .exit) ≡ overwrite (table (λ t. heldOf (copyAt (now (marks .entry)) (now (row .entry)) t)) (length (now (marks .entry)))) (now (values .entry)) ⌝ }
 {
     let mut t: usize = 0;
     'readings: while t < marks.len() {
@@ -26,7 +26,7 @@ fn receive_direct(marks: &[u8], row: &[u8], values: &mut [u64])
 
 // The reading that a row of copies decides.
 fn receive_row(marks: &[u8], row: &[u8], need: u32) -> u64
-    ensures { λ r. ⌜ decidedReading (rowDecision need (now (marks .entry)) (now (row .entry))) ≡ shift 2147483648 (ltb r 4294967296) r ⌝ }
+    ensures { λ r. ⌜ r ≡ heldOf (decidedReading (rowDecision need (now (marks .entry)) (now (row .entry)))) ⌝ }
 {
     match decisions::decide(marks, row, need) {
         Decided::Bits(bits) => agreement::entry_value(1, bits),
@@ -37,7 +37,7 @@ fn receive_row(marks: &[u8], row: &[u8], need: u32) -> u64
 // The readings as decided, a row for each cabinet.
 fn receive_relayed(sheet: &[u8], settings: Settings, need: u32, values: &mut [u64])
     requires { ⌜ (settings .n ≤ 64) × (8 + settings .n * settings .n ≤ length (now sheet)) × (settings .n ≤ length (now values)) ⌝ }
-    ensures { λ _. ⌜ Stands (rowReading (now (sheet .entry)) settings need) (now (values .exit)) (settings .n) ⌝ }
+    ensures { λ _. ⌜ now (values .exit) ≡ overwrite (table (λ r. heldOf (rowReading (now (sheet .entry)) settings need r)) (settings .n)) (now (values .entry)) ⌝ }
 {
     let n = settings.n as usize;
     let mut r: usize = 0;
@@ -65,7 +65,7 @@ fn fits(settings: Settings, sheet: usize, values: usize) -> bool
 // Fills the list with the sheet's readings. Where the sizes do not fit it changes nothing, and answers false.
 pub fn receive(sheet: &[u8], settings: Settings, values: &mut [u64]) -> bool
     ensures { λ r. ⌜ r ≡ fitting settings (length (now (sheet .entry))) (length (now (values .entry))) ⌝ }
-    ensures { λ r. ⌜ Filled (now (sheet .entry)) settings (now (values .entry)) r (now (values .exit)) ⌝ }
+    ensures { λ _. ⌜ now (values .exit) ≡ receivedOf (now (sheet .entry)) settings (now (values .entry)) ⌝ }
 {
     let n = settings.n as usize;
     if !fits(settings, sheet.len(), values.len()) {

@@ -15,7 +15,7 @@ use Rattle.model.specs.AnswerSheet.{headerBytes, answerHeader, answerBytes}
 use Rattle.sheets.specs.Storing.{putWord}
 use Rattle.sheets.proofs.Readings.{length-bytes4}
 use Rattle.sheets.proofs.Storing.{put-word-next, tail-written}
-use Rattle.round.specs.Rounds.{markIn, usedIn, roundIn}
+use Rattle.round.specs.Rounds.{markOfKept, usedOfKept, roundOfKept}
 
 pub length-header : (n count e v : ℕ) → length (headerBytes n count e v) ≡ 10
 unfolding bytes4
@@ -34,14 +34,14 @@ header-stored b n count e v h =
     six = ap (λ (k : ℕ). Prim.Native.Nat.suc (Prim.Native.Nat.suc k)) (length-bytes4 e)
 
 -- the header's bits are those of the round
-pub answer-parts : (n count e v : ℕ) (kept : List ℕ) → (headerBytes n count (ofZ w32 (down 2147483648 e)) (ofZ w32 (down 2147483648 v)) ++ table (markIn kept) n) ++ readingBytes (table (usedIn kept e) n) ≡ answerBytes n (roundIn count e v kept)
+pub answer-parts : (n count e v : ℕ) (kept : List ℕ) → (headerBytes n count (ofZ w32 (down 2147483648 e)) (ofZ w32 (down 2147483648 v)) ++ table (markOfKept kept) n) ++ readingBytes (table (usedOfKept kept e) n) ≡ answerBytes n (roundOfKept count e v kept)
 unfolding answerBytes answerHeader
 answer-parts n count e v kept =
-    append-assoc (headerBytes n count (ofZ w32 (down 2147483648 e)) (ofZ w32 (down 2147483648 v))) (table (markIn kept) n) (readingBytes (table (usedIn kept e) n))
+    append-assoc (headerBytes n count (ofZ w32 (down 2147483648 e)) (ofZ w32 (down 2147483648 v))) (table (markOfKept kept) n) (readingBytes (table (usedOfKept kept e) n))
 
-pub length-front : (n count e v : ℕ) (kept : List ℕ) → length (headerBytes n count e v ++ table (markIn kept) n) ≡ 10 + n
+pub length-front : (n count e v : ℕ) (kept : List ℕ) → length (headerBytes n count e v ++ table (markOfKept kept) n) ≡ 10 + n
 length-front n count e v kept =
-    length-append (headerBytes n count e v) (table (markIn kept) n) ∙ ap₂ (λ (a k : ℕ). a + k) (length-header n count e v) (length-table (markIn kept) n)
+    length-append (headerBytes n count e v) (table (markOfKept kept) n) ∙ ap₂ (λ (a k : ℕ). a + k) (length-header n count e v) (length-table (markOfKept kept) n)
 
 -- ---- the answer sheet, as the calls write it
 
@@ -62,9 +62,9 @@ pub answer-written :
     → v-bits ≡ ofZ w32 (down 2147483648 (v % 4294967296))
     → (after-header marked filled : List ℕ)
     → after-header ≡ overwrite (headerBytes (length kept) count e-bits v-bits) old
-    → marked ≡ overwrite (table (markIn kept) (length kept)) (take (length after-header - 10) (drop 10 after-header))
-    → filled ≡ overwrite (readingBytes (table (usedIn kept e) (length kept))) (take (length (spliced 10 after-header marked) - (10 + length kept)) (drop (10 + length kept) (spliced 10 after-header marked)))
-    → spliced (10 + length kept) (spliced 10 after-header marked) filled ≡ overwrite (answerBytes (length kept) (roundIn count e v kept)) old
+    → marked ≡ overwrite (table (markOfKept kept) (length kept)) (take (length after-header - 10) (drop 10 after-header))
+    → filled ≡ overwrite (readingBytes (table (usedOfKept kept e) (length kept))) (take (length (spliced 10 after-header marked) - (10 + length kept)) (drop (10 + length kept) (spliced 10 after-header marked)))
+    → spliced (10 + length kept) (spliced 10 after-header marked) filled ≡ overwrite (answerBytes (length kept) (roundOfKept count e v kept)) old
 answer-written kept old count e v e-bits v-bits l m p q after-header marked filled h r u =
     tail-written (header ++ marks) used old (spliced 10 after-header marked) filled (10 + length kept) (length-front (length kept) count e-bits v-bits kept)
     (tail-written header marks old after-header marked 10 (length-header (length kept) count e-bits v-bits) h r)
@@ -79,7 +79,7 @@ answer-written kept old count e v e-bits v-bits l m p q after-header marked fill
     header = headerBytes (length kept) count e-bits v-bits
 
     marks : List ℕ
-    marks = table (markIn kept) (length kept)
+    marks = table (markOfKept kept) (length kept)
 
     used : List ℕ
-    used = readingBytes (table (usedIn kept e) (length kept))
+    used = readingBytes (table (usedOfKept kept e) (length kept))

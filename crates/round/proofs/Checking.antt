@@ -10,14 +10,28 @@ use Rattle.model.specs.declared.Settings.{Settings}
 use Rattle.model.specs.declared.Refusal.{Refusal}
 use Rattle.model.specs.RoundSheet.{settingsAt, entryCount, sheetLength, markAt, bitsAt}
 use Rattle.model.specs.AnswerSheet.{answerLength}
-use Rattle.model.specs.Refusals.{Check, refusal, orNext, firstOf, sheetChecks, entryChecks, settleChecks, noRoom, badLength, arrayChecks, tooManyFaults}
+use Rattle.model.specs.Refusals.{Check, refusal, orNext, firstOf, sheetChecks, entryChecks, rowChecks, settleChecks, noRoom, badLength, arrayChecks, tooManyFaults}
 use Rattle.model.specs.Calls.{granted, refused, verdict, settleAfter, settle}
 use Rattle.model.specs.Steps.{roundAt}
+use Rattle.refusals.proofs.Checks.{next-none-left, next-none-right}
 use Rattle.sheets.proofs.Checks.{room-pass}
 use Rattle.sheets.proofs.Outcomes.{refused-some, granted-none, granted-same}
-use Rattle.sheets.proofs.Orders.{settle-checks}
+use Rattle.sheets.proofs.Orders.{row-checks, settle-checks}
 use Rattle.sheets.proofs.Inspection.{inspected}
 use Rattle.inspection.proofs.Body.{body-entries}
+
+-- where checks 1 to 9 pass only check 10 is left
+pub sheet-passed : (s : List ℕ) → firstOf (rowChecks s) ≡ none → firstOf (sheetChecks s) ≡ none
+sheet-passed s pass = next-none-left (firstOf (sheetChecks s)) (firstOf (entryChecks s)) (sym (row-checks s) ∙ pass)
+
+pub passes-settle : (s answer : List ℕ) → firstOf (rowChecks s) ≡ none → 10 + 5 * settingsAt s .n ≤ length answer → settleAfter (tooManyFaults (roundAt s .count)) s answer ≡ settle s answer
+unfolding settle
+passes-settle s answer pass room = ap (λ (r : Check). settleAfter r s answer) (sym left)
+  where
+    left : firstOf (settleChecks s (length answer)) ≡ tooManyFaults (roundAt s .count)
+    left =
+        settle-checks s (length answer)
+        ∙ rw (sheet-passed s pass, room-pass (length answer) (answerLength (settingsAt s .n)) room, next-none-right (firstOf (sheetChecks s)) (firstOf (entryChecks s)) (sym (row-checks s) ∙ pass))
 
 module _ (s answer : List ℕ) where
   -- settling by its checks
@@ -66,8 +80,6 @@ module _ (s answer : List ℕ) where
           by-checks (some r)
           (last ∙ ap (λ (check : Check). orNext check (tooManyFaults (roundAt s .count))) (sym (e ∙ entries)))
 
-      -- only check 10 is left
-      pub passes-settle : none ≡ firstOf (badLength (length s) (sheetLength c) ∷ arrayChecks (markAt s) (bitsAt s (entryCount c)) (entryCount c)) → settleAfter (tooManyFaults (roundAt s .count)) s answer ≡ settle s answer
-      passes-settle e =
-          by-checks (tooManyFaults (roundAt s .count))
-          (last ∙ ap (λ (check : Check). orNext check (tooManyFaults (roundAt s .count))) (sym (e ∙ entries)))
+      -- checks 1 to 9 pass
+      pub checks-pass : none ≡ firstOf (badLength (length s) (sheetLength c) ∷ arrayChecks (markAt s) (bitsAt s (entryCount c)) (entryCount c)) → firstOf (rowChecks s) ≡ none
+      checks-pass e = row-checks s ∙ ap (λ (check : Check). orNext check (firstOf (entryChecks s))) opened-passes ∙ sym (e ∙ entries)

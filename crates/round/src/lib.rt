@@ -11,11 +11,10 @@ ghost use Rattle.arithmetic.specs.Writing.{table, overwrite};
 ghost use Rattle.arithmetic.specs.Naturals.{down};
 ghost use Rattle.model.specs.RoundSheet.{readingBytes, settingsAt};
 ghost use Rattle.model.specs.AnswerSheet.{headerBytes, answerBytes};
-ghost use Rattle.model.specs.Refusals.{firstOf, sheetChecks, tooManyFaults};
-ghost use Rattle.model.specs.Calls.{settleAfter, settle};
-ghost use Rattle.model.specs.Steps.{roundAt};
+ghost use Rattle.model.specs.Refusals.{firstOf, rowChecks};
+ghost use Rattle.model.specs.Calls.{settle};
 ghost use Rattle.round.specs.Answers.{settlingOf};
-ghost use Rattle.round.specs.Rounds.{markIn, usedIn, roundIn};
+ghost use Rattle.round.specs.Rounds.{markOfKept, usedOfKept, roundOfKept};
 use ensemble::Screened;
 use estimates::Estimated;
 use estimates::LIMIT;
@@ -57,7 +56,7 @@ fn used(kept: u64, estimate: u64) -> u32
 // Fills the tail of the answer sheet with the used values.
 fn put_used(kept: &[u64], estimate: u64, tail: &mut [u8])
     requires { ⌜ (length (now kept) ≤ 64) × (4 * length (now kept) ≤ length (now tail)) × (estimate < 4294967296) ⌝ }
-    ensures { λ _. ⌜ now (tail .exit) ≡ overwrite (readingBytes (table (usedIn (now (kept .entry)) estimate) (length (now (kept .entry))))) (now (tail .entry)) ⌝ }
+    ensures { λ _. ⌜ now (tail .exit) ≡ overwrite (readingBytes (table (usedOfKept (now (kept .entry)) estimate) (length (now (kept .entry))))) (now (tail .entry)) ⌝ }
 {
     let mut r: usize = 0;
     'values: while r < kept.len() {
@@ -69,7 +68,7 @@ fn put_used(kept: &[u64], estimate: u64, tail: &mut [u8])
 // Fills the marks.
 fn put_marks(kept: &[u64], marks: &mut [u8])
     requires { ⌜ length (now kept) ≤ length (now marks) ⌝ }
-    ensures { λ _. ⌜ now (marks .exit) ≡ overwrite (table (markIn (now (kept .entry))) (length (now (kept .entry)))) (now (marks .entry)) ⌝ }
+    ensures { λ _. ⌜ now (marks .exit) ≡ overwrite (table (markOfKept (now (kept .entry))) (length (now (kept .entry)))) (now (marks .entry)) ⌝ }
 {
     let mut r: usize = 0;
     'marks: while r < kept.len() {
@@ -93,7 +92,7 @@ fn put_header(n: u8, count: u8, estimate: u32, value: u32, answer: &mut [u8])
 fn put_answer(settled: Estimated, kept: &[u64], answer: &mut [u8])
     requires { ⌜ (length (now kept) ≤ 64) × (10 + 5 * length (now kept) ≤ length (now answer)) ⌝ }
     requires { ⌜ (settled .count ≤ 64) × (settled .estimate < 4294967296) × (settled .value < 4294967296) ⌝ }
-    ensures { λ _. ⌜ now (answer .exit) ≡ overwrite (answerBytes (length (now (kept .entry))) (roundIn (settled .count) (settled .estimate) (settled .value) (now (kept .entry)))) (now (answer .entry)) ⌝ }
+    ensures { λ _. ⌜ now (answer .exit) ≡ overwrite (answerBytes (length (now (kept .entry))) (roundOfKept (settled .count) (settled .estimate) (settled .value) (now (kept .entry)))) (now (answer .entry)) ⌝ }
 {
     let n = kept.len();
     let estimate = settled.estimate;
@@ -111,11 +110,9 @@ fn put_answer(settled: Estimated, kept: &[u64], answer: &mut [u8])
 
 // Settles a sheet that passes checks 1 to 9, with a lent place for each cabinet's reading.
 fn settle_in(sheet: &[u8], settings: Settings, values: &mut [u64], answer: &mut [u8]) -> Settled
-    requires { ⌜ (firstOf (sheetChecks (now sheet)) ≡ none) × (settings ≡ settingsAt (now sheet)) × (10 + 5 * settings .n ≤ length (now answer)) ⌝ }
+    requires { ⌜ (firstOf (rowChecks (now sheet)) ≡ none) × (settings ≡ settingsAt (now sheet)) × (10 + 5 * settings .n ≤ length (now answer)) ⌝ }
     requires { ⌜ length (now values) ≡ settings .n ⌝ }
-    ensures { λ r.
-        ⌜ settlingOf r (now (answer .exit))
-        ≡ settleAfter (tooManyFaults (roundAt (now (sheet .entry)) .count)) (now (sheet .entry)) (now (answer .entry)) ⌝ }
+    ensures { λ r. ⌜ settlingOf r (now (answer .exit)) ≡ settle (now (sheet .entry)) (now (answer .entry)) ⌝ }
 {
     reception::receive(sheet, settings, &mut *values);
     let need = settings.n - settings.m;
@@ -137,10 +134,8 @@ fn settle_in(sheet: &[u8], settings: Settings, values: &mut [u64], answer: &mut 
 
 // Settles a sheet that passes checks 1 to 9.
 fn settle_valid(sheet: &[u8], settings: Settings, answer: &mut [u8]) -> Settled
-    requires { ⌜ (firstOf (sheetChecks (now sheet)) ≡ none) × (settings ≡ settingsAt (now sheet)) × (10 + 5 * settings .n ≤ length (now answer)) ⌝ }
-    ensures { λ r.
-        ⌜ settlingOf r (now (answer .exit))
-        ≡ settleAfter (tooManyFaults (roundAt (now (sheet .entry)) .count)) (now (sheet .entry)) (now (answer .entry)) ⌝ }
+    requires { ⌜ (firstOf (rowChecks (now sheet)) ≡ none) × (settings ≡ settingsAt (now sheet)) × (10 + 5 * settings .n ≤ length (now answer)) ⌝ }
+    ensures { λ r. ⌜ settlingOf r (now (answer .exit)) ≡ settle (now (sheet .entry)) (now (answer .entry)) ⌝ }
 {
     let n = settings.n as usize;
     let mut values = [LIMIT; 64];

@@ -2,3 +2,4 @@ pub mod Shifted
 pub mod Local
 pub mod Represent
 pub mod Natural
+pub mod Held

@@ -1,6 +1,6 @@
 -- A round depends on the readings of the cabinets below N alone: readings that agree there give the same round and the same answer sheet.
 -- Assumes nothing.
-use mathlib.Core.Bool.{Bool, cond, _&&_}
+use mathlib.Core.Bool.{Bool, true, cond, _&&_}
 use mathlib.Core.Option.{Option, none, some}
 use mathlib.Core.Path.{_≡_, refl, ap, ap₂, _∙_}
 use Prim.Native.Nat.{ℕ, _+_, _/_, _<_}
@@ -8,6 +8,7 @@ use lib.Dec.{leb, ltb, eqb}
 use lib.IntN.{ℤ, pos, _+ℤ_}
 use lib.Signed.{leZ, ltZ, shrZ}
 use Rattle.arithmetic.specs.Counting.{count, lowest}
+use Rattle.arithmetic.proofs.Bools.{and-left, and-ext, cond-ext}
 use Rattle.arithmetic.proofs.Counting.{count-ext, any-ext, lowest-ext, lowest-found}
 use Rattle.arithmetic.proofs.Sums.{sum-ext}
 use Rattle.arithmetic.proofs.Writing.{table-ext}
@@ -35,64 +36,60 @@ module _ (n : ℕ) (v u : Readings) (same : EqualBelow n v u) where
       (ap₂ (within w) (same s l) (same r h))
       (count-ext (λ t. within w (v s) (v t)) (λ t. within w (u s) (u t)) n (λ t k. ap₂ (within w) (same s l) (same t k))))
 
-  module _ (acc bcc : ℕ → Bool) (both : EqualBelow n acc bcc) where
-    pub count-local : count acc n ≡ count bcc n
-    count-local = count-ext acc bcc n both
+-- an estimate and the used values depend on the readings of the cabinets that are admitted alone
+module _ (n : ℕ) (v u : Readings) (acc bcc : ℕ → Bool) (both : EqualBelow n acc bcc) (same : (r : ℕ) → r < n → acc r ≡ true → v r ≡ u r) where
+  pub count-local : count acc n ≡ count bcc n
+  count-local = count-ext acc bcc n both
 
-    -- how many accepted readings pass a test against r's
-    ranks-local : (test : ℤ → ℤ → Bool) (r : ℕ) → r < n → count (λ s. acc s && test (ticks (v s)) (ticks (v r))) n ≡ count (λ s. bcc s && test (ticks (u s)) (ticks (u r))) n
-    ranks-local test r h =
-        count-ext
-        (λ s. acc s && test (ticks (v s)) (ticks (v r)))
-        (λ s. bcc s && test (ticks (u s)) (ticks (u r)))
-        n
-        (λ s l. ap₂ (λ (a b : Bool). a && b) (both s l) (ap₂ test (ap ticks (same s l)) (ap ticks (same r h))))
+  -- how many admitted readings pass a test against r's
+  ranks-local : (test : ℤ → ℤ → Bool) (r : ℕ) → r < n → acc r ≡ true → count (λ s. acc s && test (ticks (v s)) (ticks (v r))) n ≡ count (λ s. bcc s && test (ticks (u s)) (ticks (u r))) n
+  ranks-local test r h a =
+      count-ext
+      (λ s. acc s && test (ticks (v s)) (ticks (v r)))
+      (λ s. bcc s && test (ticks (u s)) (ticks (u r)))
+      n
+      (λ s l. and-ext (both s l) (λ b. ap₂ test (ap ticks (same s l b)) (ap ticks (same r h a))))
 
-    ticks-local : (o : Option ℕ) → ((r : ℕ) → o ≡ some r → r < n) → ticksAt v o ≡ ticksAt u o
-    ticks-local (some r) f = ap ticks (same r (f r refl))
-    ticks-local none f = refl
+  ticks-local : (o : Option ℕ) → ((r : ℕ) → o ≡ some r → (r < n) × (acc r ≡ true)) → ticksAt v o ≡ ticksAt u o
+  ticks-local (some r) f = ap ticks (same r (f r refl .0) (f r refl .1))
+  ticks-local none f = refl
 
-    pub numbered-local : (h : ℕ) → numbered acc n v h ≡ numbered bcc n u h
-    unfolding numbered
-    numbered-local h =
-        ticks-local (lowest test n) (λ r e. lowest-found test n r e .inRange)
-        ∙ ap (ticksAt u)
-        (lowest-ext test test' n
-        (λ r l.
-        ap₂ (λ (a b : Bool). a && b) (both r l)
-        (ap₂ (λ (i j : ℕ). leb h i && ltb j h) (ranks-local leZ r l) (ranks-local ltZ r l))))
-      where
-        test : ℕ → Bool
-        test r =
-            acc r
-            && (leb h (count (λ s. acc s && leZ (ticks (v s)) (ticks (v r))) n)
-            && ltb (count (λ s. acc s && ltZ (ticks (v s)) (ticks (v r))) n) h)
+  pub numbered-local : (h : ℕ) → numbered acc n v h ≡ numbered bcc n u h
+  unfolding numbered
+  numbered-local h =
+      ticks-local (lowest test n) (λ r e. let f = lowest-found test n r e in (f .inRange, and-left (acc r) _ (f .passes)))
+      ∙ ap (ticksAt u)
+      (lowest-ext test test' n
+      (λ r l. and-ext (both r l) (λ a. ap₂ (λ (i j : ℕ). leb h i && ltb j h) (ranks-local leZ r l a) (ranks-local ltZ r l a))))
+    where
+      test : ℕ → Bool
+      test r =
+          acc r
+          && (leb h (count (λ s. acc s && leZ (ticks (v s)) (ticks (v r))) n)
+          && ltb (count (λ s. acc s && ltZ (ticks (v s)) (ticks (v r))) n) h)
 
-        test' : ℕ → Bool
-        test' r =
-            bcc r
-            && (leb h (count (λ s. bcc s && leZ (ticks (u s)) (ticks (u r))) n)
-            && ltb (count (λ s. bcc s && ltZ (ticks (u s)) (ticks (u r))) n) h)
+      test' : ℕ → Bool
+      test' r =
+          bcc r
+          && (leb h (count (λ s. bcc s && leZ (ticks (u s)) (ticks (u r))) n)
+          && ltb (count (λ s. bcc s && ltZ (ticks (u s)) (ticks (u r))) n) h)
 
-    pub estimate-local : (kind : ℕ) → estimate kind acc n v ≡ estimate kind bcc n u
-    unfolding estimate averageOf medianOf midpointOf
-    estimate-local kind =
-        ap₂
-        (λ (a b : ℤ). cond (eqb kind average) a b)
-        (ap₂ shrZ
-        (sum-ext (λ r. cond (acc r) (ticks (v r)) (pos 0)) (λ r. cond (bcc r) (ticks (u r)) (pos 0)) n
-        (λ r l. ap₂ (λ (a : Bool) (z : ℤ). cond a z (pos 0)) (both r l) (ap ticks (same r l))))
-        count-local)
-        (ap₂
-        (λ (a b : ℤ). cond (eqb kind median) a b)
-        (ap (λ (c : ℕ). numbered acc n v ((c + 1) / 2)) count-local ∙ numbered-local ((count bcc n + 1) / 2))
-        (ap₂ (λ (a b : ℤ). shrZ (a +ℤ b) 2) (numbered-local 1) (ap (numbered acc n v) count-local ∙ numbered-local (count bcc n))))
+  pub estimate-local : (kind : ℕ) → estimate kind acc n v ≡ estimate kind bcc n u
+  unfolding estimate averageOf medianOf midpointOf
+  estimate-local kind =
+      ap₂
+      (λ (a b : ℤ). cond (eqb kind average) a b)
+      (ap₂ shrZ
+      (sum-ext (λ r. cond (acc r) (ticks (v r)) (pos 0)) (λ r. cond (bcc r) (ticks (u r)) (pos 0)) n
+      (λ r l. cond-ext (both r l) (λ a. ap ticks (same r l a)) refl))
+      count-local)
+      (ap₂
+      (λ (a b : ℤ). cond (eqb kind median) a b)
+      (ap (λ (c : ℕ). numbered acc n v ((c + 1) / 2)) count-local ∙ numbered-local ((count bcc n + 1) / 2))
+      (ap₂ (λ (a b : ℤ). shrZ (a +ℤ b) 2) (numbered-local 1) (ap (numbered acc n v) count-local ∙ numbered-local (count bcc n))))
 
-    pub used-local : {d e : ℤ} → d ≡ e → EqualBelow n (usedValue acc v d) (usedValue bcc u e)
-    used-local p r l = rw (both r l, same r l, p)
-
-    pub mark-local : EqualBelow n (λ r. markOf (acc r) (v r)) (λ r. markOf (bcc r) (u r))
-    mark-local r l = ap₂ markOf (both r l) (same r l)
+  pub used-local : {d e : ℤ} → d ≡ e → EqualBelow n (usedValue acc v d) (usedValue bcc u e)
+  used-local p r l = cond-ext (both r l) (λ a. ap ticks (same r l a)) p
 
 -- what two rounds that agree below n have in common
 pub record EqualRounds (n : ℕ) (a b : Round) : Type 0 where
@@ -102,17 +99,27 @@ pub record EqualRounds (n : ℕ) (a b : Round) : Type 0 where
   pub mark : EqualBelow n (a .mark) (b .mark)
   pub used : EqualBelow n (a .used) (b .used)
 
+pub rounds-trans : {n : ℕ} {a b c : Round} → EqualRounds n a b → EqualRounds n b c → EqualRounds n a c
+rounds-trans p q =
+    record {
+      count = p .count ∙ q .count;
+      estimate = p .estimate ∙ q .estimate;
+      value = p .value ∙ q .value;
+      mark = λ r l. p .mark r l ∙ q .mark r l;
+      used = λ r l. p .used r l ∙ q .used r l;
+    }
+
 pub round-local : (c : Settings) (v u : Readings) → EqualBelow (c .n) v u → EqualRounds (c .n) (roundOf c v) (roundOf c u)
 unfolding roundOf acceptedAt
 round-local c v u same =
     let both : EqualBelow (c .n) (λ r. accepted (c .window) (quorum c) (c .n) v r) (λ r. accepted (c .window) (quorum c) (c .n) u r) = λ r l. accepted-local (c .n) v u same (c .window) (quorum c) r l in
-    let e = estimate-local (c .n) v u same _ _ both (c .estimator) in
-    let used = used-local (c .n) v u same _ _ both e in
+    let e = estimate-local (c .n) v u _ _ both (λ r l _. same r l) (c .estimator) in
+    let used = used-local (c .n) v u _ _ both (λ r l _. same r l) e in
     record {
-      count = count-local (c .n) v u same _ _ both;
+      count = count-local (c .n) v u _ _ both (λ r l _. same r l);
       estimate = e;
       value = ap (mean (c .n)) (sum-ext _ _ (c .n) used);
-      mark = mark-local (c .n) v u same _ _ both;
+      mark = λ r l. ap₂ markOf (both r l) (same r l);
       used = used;
     }
 

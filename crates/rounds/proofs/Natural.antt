@@ -54,7 +54,7 @@ module _ (c : Settings) (pres : ℕ → Bool) (x : ℕ → ℕ) where
     pub estimate-of-round : roundOf c (shifted k pres x) .estimate ≡ down k (estimate-of k)
     unfolding roundOf
     estimate-of-round =
-        estimate-local (c .n) (shifted k pres x) (shifted k pres x) (λ _ _. refl) (acceptedAt c (shifted k pres x)) acc-of (λ r _. accepted-at k r) (c .estimator)
+        estimate-local (c .n) (shifted k pres x) (shifted k pres x) (acceptedAt c (shifted k pres x)) acc-of (λ r _. accepted-at k r) (λ _ _ _. refl) (c .estimator)
         ∙ estimate-shifted k pres x acc-of (c .n) sub some-acc (c .estimator)
 
     pub used-of-round : (r : ℕ) → roundOf c (shifted k pres x) .used r ≡ down k (used-of k r)

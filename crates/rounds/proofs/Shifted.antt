@@ -13,10 +13,11 @@ use lib.Dec.{leb, ltb, eqb}
 use lib.IntN.{ℤ, pos, _+ℤ_}
 use lib.Signed.{leZ, ltZ, shrZ}
 use Rattle.arithmetic.specs.Counting.{bit, count, anyBelow, lowest, sum}
-use Rattle.arithmetic.proofs.Bools.{and-left}
+use Rattle.arithmetic.proofs.Bools.{and-left, and-ext}
 use Rattle.arithmetic.proofs.Counting.{count-ext, any-ext, lowest-ext, lowest-found}
 use Rattle.arithmetic.specs.Naturals.{down, total}
 use Rattle.arithmetic.proofs.Shift.{down-cong, pos-down, le-down, lt-down, add-down, add-pos-down, shr-down}
+use Rattle.arithmetic.proofs.Sums.{sum-ext, sum-down}
 use Rattle.model.specs.Ensemble.{ticks}
 use Rattle.model.specs.RoundSheet.{average, median}
 use Rattle.model.specs.Steps.{within, accepted, numbered, ticksAt, averageOf, medianOf, midpointOf, estimate, mean, usedValue}
@@ -48,12 +49,24 @@ module _ (w : ℕ) (pres : ℕ → Bool) (x : ℕ → ℕ) where
       n
       (λ t _. within-shift k w (pres s) (x s) (pres t) (x t))))
 
--- ---- estimates, over cabinets acc that are present
+-- ---- the mean
 
--- two conjunctions are equal where their second parts are whenever the first part passes
-and-ext : (a b c : Bool) → (a ≡ true → b ≡ c) → (a && b) ≡ (a && c)
-and-ext true b c f = f refl
-and-ext false b c f = refl
+pub mean-down : (k n s : ℕ) → 0 < n → mean n (down (n * k) s) ≡ down k (mean-nat n s)
+unfolding mean mean-nat
+mean-down k n s h =
+    ap (λ z. shrZ z (2 * n))
+    (ap (λ z. z +ℤ pos n) (add-down (n * k) s (n * k) s)
+    ∙ add-pos-down (n * k + n * k) (s + s) n
+    ∙ ap (λ (y : ℕ). down y (s + s + n)) moved)
+    ∙ shr-down k (s + s + n) (2 * n) (omega arith)
+  where
+    moved : n * k + n * k ≡ k * (2 * n)
+    moved =
+        let a = mul-comm k (2 * n) in
+        let b = mul-assoc 2 n k in
+        omega arith
+
+-- ---- estimates, over cabinets acc that are present
 
 module _ (k : ℕ) (pres : ℕ → Bool) (x : ℕ → ℕ) where
   ticks-shift : (r : ℕ) → pres r ≡ true → ticks (shifted k pres x r) ≡ down k (x r)
@@ -66,7 +79,7 @@ module _ (k : ℕ) (pres : ℕ → Bool) (x : ℕ → ℕ) where
   module _ (acc : ℕ → Bool) (n : ℕ) (sub : (r : ℕ) → acc r ≡ true → pres r ≡ true) where
     is-numbered-shifted : (h r : ℕ) → _≡_ {A = Bool} (acc r && (leb h (count (λ s. acc s && leZ (ticks (shifted k pres x s)) (ticks (shifted k pres x r))) n) && ltb (count (λ s. acc s && ltZ (ticks (shifted k pres x s)) (ticks (shifted k pres x r))) n) h)) (is-numbered acc n x h r)
     is-numbered-shifted h r =
-        and-ext (acc r) _ _
+        and-ext refl
         (λ a.
         ap₂
         (λ (i j : ℕ). leb h i && ltb j h)
@@ -74,12 +87,12 @@ module _ (k : ℕ) (pres : ℕ → Bool) (x : ℕ → ℕ) where
         (λ s. acc s && leZ (ticks (shifted k pres x s)) (ticks (shifted k pres x r)))
         (λ s. acc s && leb (x s) (x r))
         n
-        (λ s _. and-ext (acc s) _ _ (λ b. ap₂ leZ (ticks-shift s (sub s b)) (ticks-shift r (sub r a)) ∙ le-down k (x s) (x r))))
+        (λ s _. and-ext refl (λ b. ap₂ leZ (ticks-shift s (sub s b)) (ticks-shift r (sub r a)) ∙ le-down k (x s) (x r))))
         (count-ext
         (λ s. acc s && ltZ (ticks (shifted k pres x s)) (ticks (shifted k pres x r)))
         (λ s. acc s && ltb (x s) (x r))
         n
-        (λ s _. and-ext (acc s) _ _ (λ b. ap₂ ltZ (ticks-shift s (sub s b)) (ticks-shift r (sub r a)) ∙ lt-down k (x s) (x r)))))
+        (λ s _. and-ext refl (λ b. ap₂ ltZ (ticks-shift s (sub s b)) (ticks-shift r (sub r a)) ∙ lt-down k (x s) (x r)))))
 
     pub numbered-shifted : (h : ℕ) → numbered acc n (shifted k pres x) h ≡ down k (numbered-nat k acc n x h)
     unfolding numbered numbered-nat
@@ -144,19 +157,7 @@ module _ (k : ℕ) (pres : ℕ → Bool) (x : ℕ → ℕ) where
         go true p = ticks-shift r (sub r p)
         go false p = refl
 
--- ---- the mean
-
-pub mean-down : (k n s : ℕ) → 0 < n → mean n (down (n * k) s) ≡ down k (mean-nat n s)
-unfolding mean mean-nat
-mean-down k n s h =
-    ap (λ z. shrZ z (2 * n))
-    (ap (λ z. z +ℤ pos n) (add-down (n * k) s (n * k) s)
-    ∙ add-pos-down (n * k + n * k) (s + s) n
-    ∙ ap (λ (y : ℕ). down y (s + s + n)) moved)
-    ∙ shr-down k (s + s + n) (2 * n) (omega arith)
-  where
-    moved : n * k + n * k ≡ k * (2 * n)
-    moved =
-        let a = mul-comm k (2 * n) in
-        let b = mul-assoc 2 n k in
-        omega arith
+    pub value-shifted : (e : ℕ) → 0 < n → mean n (sum (usedValue acc (shifted k pres x) (down k e)) n) ≡ down k (mean-nat n (total (used-nat acc x e) n))
+    value-shifted e h =
+        ap (mean n) (sum-ext (usedValue acc (shifted k pres x) (down k e)) (λ r. down k (used-nat acc x e r)) n (λ r _. used-shifted e r) ∙ sum-down k (used-nat acc x e) n)
+        ∙ mean-down k n (total (used-nat acc x e) n) h

@@ -9,7 +9,7 @@ use lib.ListN.{length, length-append}
 use mir.Syntax.{w32}
 use mir.Val.{SFits}
 use Rattle.arithmetic.specs.Writing.{overwrite}
-use Rattle.arithmetic.proofs.Counting.{earlier, last}
+use Rattle.arithmetic.proofs.Counting.{initial, last}
 use Rattle.model.specs.RoundSheet.{byte, word}
 use Rattle.model.specs.AnswerSheet.{answerBytes}
 use Rattle.model.specs.Steps.{Round}
@@ -64,7 +64,7 @@ module _ (a b : Round) where
       → cabinetLines a n ≡ cabinetLines b n
   unfolding cabinetLines
   cabinets-alike zero marks used = refl
-  cabinets-alike (suc n) marks used = rw (cabinets-alike n (earlier marks) (earlier used), last marks, last used)
+  cabinets-alike (suc n) marks used = rw (cabinets-alike n (initial marks) (initial used), last marks, last used)
 
   pub text-alike : (n : ℕ) → a .count ≡ b .count → a .estimate ≡ b .estimate → a .value ≡ b .value
       → ((r : ℕ) → r < n → a .mark r ≡ b .mark r)

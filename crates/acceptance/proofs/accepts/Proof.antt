@@ -11,7 +11,7 @@ use Rattle.arithmetic.specs.Counting.{bit}
 use Rattle.arithmetic.proofs.Bools.{and-intro}
 use Rattle.acceptance.specs.Values.{spansAt}
 use mathlib.Core.Logic.{⊎-elim}
-use Rattle.acceptance.proofs.Spans.{Tried, Counted, held-small, untried, count-small, tried-holds, start-present, held-spans, begin, count-on, count-enough, pass-counted, pass-untried, known-enough, admitted, not-admitted, remember}
+use Rattle.acceptance.proofs.Spans.{Tried, Counted, held-small, untried, count-small, tried-holds, start-present, held-spans, count-begin, count-on, count-enough, pass-counted, pass-untried, known-enough, admitted, not-admitted, remember}
 use Rattle.acceptance.proofs.accepts.Statement.{statement}
 use Rattle.acceptance.proofs.accepts.Tie as tie
 
@@ -64,7 +64,7 @@ readings-holds : tie.Need-readings-holds Inv-readings μ-readings Inv-starts μ-
 readings-holds c =
     let a = c .before .before .before .before .before .before .before .before .before .before .before .args in
     let s = c .before .before .before .before .before .before .before .starts in
-    begin (a .window) (a .need) (a .values .now) (a .r) (s .known) (s .found) (s .s) (c .before .before .before .before .before .before .starts-test .taken) (s .inv)
+    count-begin (a .window) (a .need) (a .values .now) (a .r) (s .known) (s .found) (s .s) (c .before .before .before .before .before .before .starts-test .taken) (s .inv)
 
 mul-held : tie.Need-mul-held Inv-readings μ-readings Inv-starts μ-starts
 mul-held c = search needs

@@ -2,7 +2,9 @@
 -- Assumes nothing.
 use mathlib.Core.Path.{sym, ap, _∙_}
 use native.Mathlib.Omega.{arith}
-use Rattle.arithmetic.specs.Naturals.{down}
+use Prim.Native.Nat.{_+_, _%_}
+use Rattle.arithmetic.specs.Naturals.{up}
+use Rattle.arithmetic.proofs.Shift.{up-down}
 use Rattle.agreement.proofs.Biasing.{wrapped-up}
 use borrow.Author.Needs.{needs}
 use Rattle.agreement.proofs.bias.Statement.{statement}
@@ -15,7 +17,7 @@ cast-result : tie.Need-cast-result
 cast-result c = search needs
 
 returns : tie.Need-returns
-returns c = (wrapped-up (c .before .args .bits) (omega arith) ∙ ap (down 2147483648) (sym (c .wrapping-add-u32 .ensures)), omega arith)
+returns c = c .wrapping-add-u32 .ensures ∙ sym (ap (up 2147483648) (wrapped-up (c .before .args .bits) (omega arith)) ∙ up-down 2147483648 ((c .before .args .bits + 2147483648) % 4294967296))
 
 pub bias-spec : {M : Type 1} → statement M
 bias-spec = tie.close (tie.spec wrapping-add-u32-requires cast-result returns)

@@ -1,6 +1,6 @@
 -- `agreement::entry_value` meets its contract: a present entry is its number moved up, and any other is missing.
 -- Assumes nothing.
-use borrow.Author.Tests.{lt-ltb, eq-eqb, ne-eqb}
+use borrow.Author.Tests.{eq-eqb, ne-eqb}
 use borrow.Author.Needs.{needs}
 use Rattle.agreement.proofs.entry_value.Statement.{statement}
 use Rattle.agreement.proofs.entry_value.Tie as tie
@@ -9,9 +9,7 @@ bias-requires : tie.Need-bias-requires
 bias-requires c κs = search needs
 
 returns : tie.Need-returns
-returns c =
-    let r = c .bias .result in
-    rw (eq-eqb (c .before .before .args .mark) 1 (c .before .if1 .taken), lt-ltb r 4294967296 (c .bias .ensures .1), c .bias .ensures .0)
+returns c = rw (eq-eqb (c .before .before .args .mark) 1 (c .before .if1 .taken)) (c .bias .ensures)
 
 returns-2 : tie.Need-returns-2
 returns-2 c = rw (ne-eqb (c .before .args .mark) 1 (c .if1 .left))

@@ -5,12 +5,12 @@ use native.Mathlib.Omega.{arith}
 use Prim.Native.Nat.{_-_}
 use lib.ListN.{length}
 use Rattle.loops.proofs.Loops.{flag-small, Counts, count-none, count-small, count-one, count-all}
-use Rattle.decisions.proofs.Voting.{holds, holds-test}
+use Rattle.decisions.proofs.Voting.{holds-copy, holds-test}
 use Rattle.decisions.proofs.count_copies.Statement.{statement}
 use Rattle.decisions.proofs.count_copies.Tie as tie
 
 abbrev Inv-copies : tie.InvT-copies
-Inv-copies marks row value copies₀ t₀ copies t = Counts (holds marks row value) (length marks) copies t
+Inv-copies marks row value copies₀ t₀ copies t = Counts (holds-copy marks row value) (length marks) copies t
 
 abbrev μ-copies : tie.MeasureT-copies
 μ-copies marks row value copies₀ t₀ copies t = length marks - t
@@ -18,7 +18,7 @@ abbrev μ-copies : tie.MeasureT-copies
 copies-holds : tie.Need-copies-holds Inv-copies μ-copies
 copies-holds c =
     let a = c .before .before .args in
-    count-none (holds (a .marks .now) (a .row .now) (a .value)) (length (a .marks .now))
+    count-none (holds-copy (a .marks .now) (a .row .now) (a .value)) (length (a .marks .now))
 
 shared-slice-read-holds : tie.Need-shared-slice-read-holds Inv-copies μ-copies
 shared-slice-read-holds c = search needs
@@ -35,7 +35,7 @@ cast-copies c = search needs
 add-copies : tie.Need-add-copies Inv-copies μ-copies
 add-copies c =
     let a = c .before .before .before .before .before .before .before .args in
-    omega (arith, count-small (holds (a .marks .now) (a .row .now) (a .value)) (length (a .marks .now)) (c .before .before .before .before .copies .inv), flag-small (c .holds .result))
+    omega (arith, count-small (holds-copy (a .marks .now) (a .row .now) (a .value)) (length (a .marks .now)) (c .before .before .before .before .copies .inv), flag-small (c .holds .result))
 
 add-t : tie.Need-add-t Inv-copies μ-copies
 add-t c = search needs
@@ -48,12 +48,12 @@ copies-again c =
     let a = c .before .before .before .before .before .before .before .args in
     let r = c .before .before .before .before .copies in
     rw (holds-test (a .marks .now) (a .row .now) (a .value) (c .before .copy-bits .result) (r .t) (c .before .copy-bits .ensures) (c .holds .ensures))
-    (count-one (holds (a .marks .now) (a .row .now) (a .value)) (length (a .marks .now)) (r .inv) (c .before .before .before .copies-test .taken))
+    (count-one (holds-copy (a .marks .now) (a .row .now) (a .value)) (length (a .marks .now)) (r .inv) (c .before .before .before .copies-test .taken))
 
 returns : tie.Need-returns Inv-copies μ-copies
 returns c =
     let a = c .before .before .before .before .args in
-    count-all (holds (a .marks .now) (a .row .now) (a .value)) (length (a .marks .now)) (c .before .copies .inv) (c .copies-test .left)
+    count-all (holds-copy (a .marks .now) (a .row .now) (a .value)) (length (a .marks .now)) (c .before .copies .inv) (c .copies-test .left)
 
 pub count-copies-spec : {M : Type 1} → statement M
 count-copies-spec =

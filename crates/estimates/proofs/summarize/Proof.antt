@@ -6,7 +6,7 @@ use Prim.Native.Nat.{_-_}
 use lib.ListN.{length}
 use mathlib.Core.Logic.{⊎-elim}
 use Rattle.loops.proofs.Loops.{count-small}
-use Rattle.estimates.specs.Values.{presentAt}
+use Rattle.estimates.specs.Values.{presentIn}
 use Rattle.estimates.proofs.Gathering.{Gathered, gather-none, gather-present, gather-missing, gather-all}
 use Rattle.estimates.proofs.summarize.Statement.{statement}
 use Rattle.estimates.proofs.summarize.Tie as tie
@@ -29,7 +29,7 @@ shared-slice-read-v c = search needs
 add-count : tie.Need-add-count Inv-readings μ-readings
 add-count c =
     let a = c .before .before .before .before .before .args .values .now in
-    omega (arith, count-small (presentAt a) (length a) (c .before .before .before .readings .inv .counts))
+    omega (arith, count-small (presentIn a) (length a) (c .before .before .before .readings .inv .counts))
 
 add-sum : tie.Need-add-sum Inv-readings μ-readings
 add-sum c = search needs

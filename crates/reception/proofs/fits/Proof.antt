@@ -6,7 +6,7 @@ use native.Mathlib.Omega.{arith}
 use Prim.Native.Nat.{ℕ, _+_, _*_, _≤_}
 use lib.Dec.{leb, ltb, eqb}
 use Rattle.inspection.proofs.Body.{byte-entries-most}
-use Rattle.reception.specs.Standing.{fitting}
+use Rattle.reception.specs.Receiving.{fitting}
 use borrow.Author.Needs.{needs}
 use Rattle.reception.proofs.fits.Statement.{statement}
 use Rattle.reception.proofs.fits.Tie as tie

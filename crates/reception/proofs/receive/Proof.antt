@@ -1,19 +1,24 @@
 -- `reception::receive` meets its contract: the tests say whether the sizes fit, and each rule's parts of the sheet hold its entries.
 -- Assumes nothing.
 use borrow.Author.Tests.{not-true, not-false, eq-eqb, ne-eqb}
-use mathlib.Core.Path.{refl, sym, _∙_}
+use mathlib.Core.Bool.{true}
+use mathlib.Core.Path.{_≡_, sym, _∙_}
 use native.Mathlib.Omega.{arith}
 use lib.ListN.{length}
-use Rattle.reception.proofs.Sheets.{Fit, fit, entries-relayed, entries-direct, marks-long, row-long, direct-cut, relayed-received}
+use Rattle.reception.specs.Receiving.{fitting}
+use Rattle.reception.proofs.Sheets.{Fit, fit, entries-relayed, entries-direct, marks-long, row-long, direct-cut, relayed-received, received-fit, received-not}
 use borrow.Author.Needs.{needs}
 use Rattle.reception.proofs.receive.Statement.{statement}
 use Rattle.reception.proofs.receive.Tie as tie
 
 -- the sizes fit
+fits-here : (c : tie.Else1) → fitting (c .before .before .before .before .before .args .settings) (length (c .before .before .before .before .before .args .sheet .now)) (length (c .before .before .before .before .before .args .values .now)) ≡ true
+fits-here c = sym (c .before .fits2 .ensures) ∙ not-false (c .before .fits2 .result) (c .if1 .left)
+
 fit-here : (c : tie.Else1) → Fit (c .before .before .before .before .before .args .settings) (length (c .before .before .before .before .before .args .sheet .now)) (length (c .before .before .before .before .before .args .values .now))
 fit-here c =
-    fit (c .before .before .before .before .before .args .settings) (length (c .before .before .before .before .before .args .sheet .now)) (length (c .before .before .before .before .before .args .values .now))
-    (sym (c .before .fits2 .ensures) ∙ not-false (c .before .fits2 .result) (c .if1 .left))
+    let a = c .before .before .before .before .before .args in
+    fit (a .settings) (length (a .sheet .now)) (length (a .values .now)) (fits-here c)
 
 cast-n : tie.Need-cast-n
 cast-n c = search needs
@@ -22,7 +27,10 @@ fits-requires : tie.Need-fits-requires
 fits-requires c κs = search needs
 
 returns : tie.Need-returns
-returns c = (sym (not-true (c .before .fits2 .result) (c .if1 .taken)) ∙ c .before .fits2 .ensures, refl)
+returns c =
+    let a = c .before .before .before .before .before .args in
+    let no = sym (not-true (c .before .fits2 .result) (c .if1 .taken)) ∙ c .before .fits2 .ensures in
+    (no, received-not (a .sheet .now) (a .settings) (a .values .now) (sym no))
 
 sub-need : tie.Need-sub-need
 sub-need c = let f = fit-here (c .before .before .before) in omega (arith, f .few)
@@ -76,12 +84,16 @@ same-length c = search needs
 
 returns-2 : tie.Need-returns-2
 returns-2 c =
-    let f = fit-here (c .before .before .before .before .before .before .before) in
-    let rule = eq-eqb (c .before .before .before .before .before .before .before .before .before .before .before .before .args .settings .rule) 1 (c .before .before .before .before .before .if2 .taken) in
-    let e = entries-relayed (c .before .before .before .before .before .before .before .before .before .before .before .before .args .settings) rule in (
-      sym (not-false (c .before .before .before .before .before .before .before .before .fits2 .result) (c .before .before .before .before .before .before .before .if1 .left)) ∙ c .before .before .before .before .before .before .before .before .fits2 .ensures,
-      relayed-received (c .before .before .before .before .before .before .before .before .before .before .before .before .args .sheet .now) (c .before .before .before .before .before .before .before .before .before .before .before .before .args .settings) (c .before .before .receive-relayed .last .1 .1 .1 .0) rule (f .few) (f .small) (omega (arith, f .long))
-          (c .before .before .receive-relayed .ensures),
+    let at-if1 = c .before .before .before .before .before .before .before in
+    let a = at-if1 .before .before .before .before .before .args in
+    let f = fit-here at-if1 in
+    let yes = fits-here at-if1 in
+    let rule = eq-eqb (a .settings .rule) 1 (c .before .before .before .before .before .if2 .taken) in
+    let e = entries-relayed (a .settings) rule in
+    let r = c .before .before .receive-relayed in (
+      sym yes,
+      received-fit (a .sheet .now) (a .settings) (a .values .now) (r .last .1 .1 .1 .0) yes
+          (relayed-received (a .sheet .now) (a .settings) (r .last .1 .1 .1 .0) (a .values .now) (f .room) rule (f .few) (f .small) (omega (arith, f .long)) (r .ensures)),
     )
 
 same-length-2 : tie.Need-same-length-2
@@ -89,11 +101,16 @@ same-length-2 c = search needs
 
 returns-3 : tie.Need-returns-3
 returns-3 c =
-    let f = fit-here (c .before .before .before .before .before .before .before .before) in
-    let rule = ne-eqb (c .before .before .before .before .before .before .before .before .before .before .before .before .before .args .settings .rule) 1 (c .before .before .before .before .before .before .if2 .left) in
-    let e = entries-direct (c .before .before .before .before .before .before .before .before .before .before .before .before .before .args .settings) rule in (
-      sym (not-false (c .before .before .before .before .before .before .before .before .before .fits2 .result) (c .before .before .before .before .before .before .before .before .if1 .left)) ∙ c .before .before .before .before .before .before .before .before .before .fits2 .ensures,
-      direct-cut (c .before .before .before .before .before .before .before .before .before .before .before .before .before .args .sheet .now) (c .before .before .before .before .before .before .before .before .before .before .before .before .before .args .settings) (c .before .before .receive-direct .last .1 .1 .0) rule (omega (arith, f .long)) (c .before .before .receive-direct .ensures),
+    let at-if1 = c .before .before .before .before .before .before .before .before in
+    let a = at-if1 .before .before .before .before .before .args in
+    let f = fit-here at-if1 in
+    let yes = fits-here at-if1 in
+    let rule = ne-eqb (a .settings .rule) 1 (c .before .before .before .before .before .before .if2 .left) in
+    let e = entries-direct (a .settings) rule in
+    let r = c .before .before .receive-direct in (
+      sym yes,
+      received-fit (a .sheet .now) (a .settings) (a .values .now) (r .last .1 .1 .0) yes
+          (direct-cut (a .sheet .now) (a .settings) (r .last .1 .1 .0) (a .values .now) (f .room) rule (omega (arith, f .long)) (r .ensures)),
     )
 
 pub receive-spec : {M : Type 1} → statement M

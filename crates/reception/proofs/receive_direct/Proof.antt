@@ -1,25 +1,22 @@
--- `reception::receive_direct` meets its contract. The loop's invariant: the first t values stand for the first t copies. The measure is what is left
--- of the copies.
+-- `reception::receive_direct` meets its contract. The loop's invariant: the first t copies are held, and the other values are as they were. The
+-- measure is what is left of the copies.
 -- Assumes nothing.
 use borrow.Author.Needs.{needs}
-use mathlib.Core.Bool.{cond}
-use mathlib.Core.Path.{_≡_, refl, sym, ap, _∙_}
+use mathlib.Core.Path.{_≡_, refl, ap, _∙_}
 use native.Mathlib.Omega.{arith}
-use Prim.Native.Nat.{ℕ, _*_, _-_, _≤_}
-use lib.Dec.{eqb}
+use Prim.Native.Nat.{_*_, _-_, _≤_}
 use lib.ListN.{length, getD, length-set}
-use mir.Syntax.{w32}
-use mir.Val.{toZ}
-use Rattle.model.specs.Ensemble.{missing, present}
+use Rattle.arithmetic.specs.Writing.{table, overwrite}
 use Rattle.model.specs.RoundSheet.{word}
 use Rattle.decisions.specs.Rows.{copyAt}
-use Rattle.reception.specs.Standing.{Stands}
-use Rattle.reception.proofs.Standing.{stands-none, stands-next, stands-ended}
+use Rattle.rounds.specs.Held.{heldOf}
+use Rattle.agreement.specs.Values.{entryHeld}
+use Rattle.loops.proofs.Loops.{store-none, store-next, store-ended}
 use Rattle.reception.proofs.receive_direct.Statement.{statement}
 use Rattle.reception.proofs.receive_direct.Tie as tie
 
 abbrev Inv-readings : tie.InvT-readings
-Inv-readings marks row values₀ t₀ values t = (t ≤ length marks) × Stands (copyAt marks row) values t × (length values ≡ length values₀)
+Inv-readings marks row values₀ t₀ values t = (t ≤ length marks) × (values ≡ overwrite (table (λ i. heldOf (copyAt marks row i)) t) values₀) × (length values ≡ length values₀)
 
 abbrev μ-readings : tie.MeasureT-readings
 μ-readings marks row values₀ t₀ values t = length marks - t
@@ -32,7 +29,9 @@ unfolding word
 read c = c .join .ensures
 
 readings-holds : tie.Need-readings-holds Inv-readings μ-readings
-readings-holds c = (search needs, stands-none (copyAt (c .before .before .before .args .marks .now) (c .before .before .before .args .row .now)) (c .before .before .before .args .values .now), refl)
+readings-holds c =
+    let a = c .before .before .before .args in
+    (search needs, store-none (λ i. heldOf (copyAt (a .marks .now) (a .row .now) i)) (a .values .now), refl)
 
 mul-at : tie.Need-mul-at Inv-readings μ-readings
 mul-at c = search needs
@@ -84,10 +83,10 @@ readings-again c =
     let a = c .before .before .before .before .before .before .before .before .before .before .before .before .args in
     let readings = c .before .before .before .before .before .before .before .before .readings in (
       search needs,
-      stands-next (copyAt (a .marks .now) (a .row .now)) (readings .values) (readings .t) (c .entry-value .result)
+      store-next (λ i. heldOf (copyAt (a .marks .now) (a .row .now) i)) (readings .t) (a .values .now) (readings .values) (c .entry-value .result)
           (readings .inv .1)
-          (omega (arith, c .before .before .before .before .before .before .before .readings-test .taken, c .before .before .before .before .before .before .before .before .before .before .before .before .pre .0, readings .inv .2))
-          (ap (λ (bits : ℕ). cond (eqb (getD (a .marks .now) (readings .t) 0) 1) (present (toZ w32 bits)) missing) (sym (read (c .before .before))) ∙ c .entry-value .ensures),
+          (c .entry-value .ensures ∙ ap (entryHeld (getD (a .marks .now) (readings .t) 0)) (read (c .before .before)))
+          (omega (arith, c .before .before .before .before .before .before .before .readings-test .taken, c .before .before .before .before .before .before .before .before .before .before .before .before .pre .0)),
       length-set (readings .values) (readings .t) (c .entry-value .result) ∙ readings .inv .2,
     )
 
@@ -96,10 +95,9 @@ same-length c = search needs
 
 returns : tie.Need-returns Inv-readings μ-readings
 returns c =
-    stands-ended (copyAt (c .before .before .before .before .before .args .marks .now) (c .before .before .before .before .before .args .row .now)) (c .before .readings .values) (length (c .before .before .before .before .before .args .marks .now)) (c .before .readings .t)
-    (c .before .readings .inv .0)
-    (c .readings-test .left)
-    (c .before .readings .inv .1)
+    let a = c .before .before .before .before .before .args in
+    let readings = c .before .readings in
+    store-ended (λ i. heldOf (copyAt (a .marks .now) (a .row .now) i)) (length (a .marks .now)) (readings .t) (a .values .now) (readings .values) (readings .inv .0) (c .readings-test .left) (readings .inv .1)
 
 pub receive-direct-spec : {M : Type 1} → statement M
 receive-direct-spec =

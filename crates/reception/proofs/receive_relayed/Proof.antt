@@ -1,21 +1,24 @@
--- `reception::receive_relayed` meets its contract. The loop's invariant: the first r values stand for the first r decisions. The measure is what is
--- left of the rows.
+-- `reception::receive_relayed` meets its contract. The loop's invariant: the first r decisions are held, and the other values are as they were. The
+-- measure is what is left of the rows.
 -- Assumes nothing.
 use borrow.Author.Needs.{needs}
 use mathlib.Core.List.{List}
-use mathlib.Core.Path.{_≡_, refl, sym, ap₂, _∙_}
+use mathlib.Core.Path.{_≡_, refl, ap₂, _∙_}
 use native.Mathlib.Omega.{arith}
 use Prim.Native.Nat.{ℕ, _+_, _*_, _-_, _≤_}
 use lib.ListN.{length, take, drop, length-set}
+use Rattle.arithmetic.specs.Writing.{table, overwrite}
 use Rattle.model.specs.Steps.{decidedReading}
+use Rattle.rounds.specs.Held.{heldOf}
 use Rattle.decisions.specs.Rows.{rowDecision}
-use Rattle.reception.specs.Standing.{Stands, rowReading}
-use Rattle.reception.proofs.Standing.{stands-none, stands-next, stands-ended, row-room, square-most}
+use Rattle.loops.proofs.Loops.{store-none, store-next, store-ended}
+use Rattle.reception.specs.Receiving.{rowReading}
+use Rattle.reception.proofs.Squares.{row-room, square-most}
 use Rattle.reception.proofs.receive_relayed.Statement.{statement}
 use Rattle.reception.proofs.receive_relayed.Tie as tie
 
 abbrev Inv-rows : tie.InvT-rows
-Inv-rows sheet settings need values₀ n r₀ values r = (n ≡ settings .n) × (r ≤ n) × Stands (rowReading sheet settings need) values r × (length values ≡ length values₀)
+Inv-rows sheet settings need values₀ n r₀ values r = (n ≡ settings .n) × (r ≤ n) × (values ≡ overwrite (table (λ i. heldOf (rowReading sheet settings need i)) r) values₀) × (length values ≡ length values₀)
 
 abbrev μ-rows : tie.MeasureT-rows
 μ-rows sheet settings need values₀ n r₀ values r = n - r
@@ -24,7 +27,9 @@ cast-n : tie.Need-cast-n Inv-rows μ-rows
 cast-n c = search needs
 
 rows-holds : tie.Need-rows-holds Inv-rows μ-rows
-rows-holds c = (refl, search needs, stands-none (rowReading (c .before .before .before .args .sheet .now) (c .before .before .before .args .settings) (c .before .before .before .args .need)) (c .before .before .before .args .values .now), refl)
+rows-holds c =
+    let a = c .before .before .before .args in
+    (refl, search needs, store-none (λ i. heldOf (rowReading (a .sheet .now) (a .settings) (a .need) i)) (a .values .now), refl)
 
 -- the row lies within the marks
 within : (c : tie.In-rows Inv-rows μ-rows) → (c .before .rows .r * c .before .before .before .before .before .args .settings .n + c .before .before .before .before .before .args .settings .n ≤ 4096) × (8 + (c .before .rows .r * c .before .before .before .before .before .args .settings .n + c .before .before .before .before .before .args .settings .n) ≤ length (c .before .before .before .before .before .args .sheet .now))
@@ -70,18 +75,21 @@ rows-less : tie.Need-rows-less Inv-rows μ-rows
 rows-less c = search needs
 
 rows-again : tie.Need-rows-again Inv-rows μ-rows
-rows-again c = (
-  refl,
-  search needs,
-  stands-next (rowReading (c .before .before .before .before .before .before .before .before .args .sheet .now) (c .before .before .before .before .before .before .before .before .args .settings) (c .before .before .before .before .before .before .before .before .args .need)) (c .before .before .before .before .rows .values) (c .before .before .before .before .rows .r) (c .receive-row .result)
-      (c .before .before .before .before .rows .inv .2)
-      (omega (arith, c .before .before .before .rows-test .taken, c .before .before .before .before .before .before .before .before .pre .2, c .before .before .before .before .rows .inv .3))
-      (ap₂ (λ (k : ℕ) (part : List ℕ). decidedReading (rowDecision (c .before .before .before .before .before .before .before .before .args .need) (take k (drop (8 + c .before .before .before .before .rows .r * c .before .before .before .before .before .before .before .before .args .settings .n) (c .before .before .before .before .before .before .before .before .args .sheet .now))) part))
-      (sym (width-back (8 + c .before .before .before .before .rows .r * c .before .before .before .before .before .before .before .before .args .settings .n) (c .before .before .before .before .before .before .before .before .args .settings .n)))
-      (sym (c .before .row-part .ensures))
-      ∙ c .receive-row .ensures),
-  length-set (c .before .before .before .before .rows .values) (c .before .before .before .before .rows .r) (c .receive-row .result) ∙ c .before .before .before .before .rows .inv .3,
-)
+rows-again c =
+    let start = c .before .before .before .before .before .before .before .before in
+    let a = start .args in
+    let rows = c .before .before .before .before .rows in (
+      refl,
+      search needs,
+      store-next (λ i. heldOf (rowReading (a .sheet .now) (a .settings) (a .need) i)) (rows .r) (a .values .now) (rows .values) (c .receive-row .result)
+          (rows .inv .2)
+          (c .receive-row .ensures
+          ∙ ap₂ (λ (k : ℕ) (part : List ℕ). heldOf (decidedReading (rowDecision (a .need) (take k (drop (8 + rows .r * a .settings .n) (a .sheet .now))) part)))
+          (width-back (8 + rows .r * a .settings .n) (a .settings .n))
+          (c .before .row-part .ensures))
+          (omega (arith, c .before .before .before .rows-test .taken, start .pre .2)),
+      length-set (rows .values) (rows .r) (c .receive-row .result) ∙ rows .inv .3,
+    )
   where
     width-back : (a w : ℕ) → a + w - a ≡ w
     width-back a w = omega arith
@@ -91,10 +99,9 @@ same-length c = search needs
 
 returns : tie.Need-returns Inv-rows μ-rows
 returns c =
-    stands-ended (rowReading (c .before .before .before .before .before .args .sheet .now) (c .before .before .before .before .before .args .settings) (c .before .before .before .before .before .args .need)) (c .before .rows .values) (c .before .before .before .before .before .args .settings .n) (c .before .rows .r)
-    (c .before .rows .inv .1)
-    (c .rows-test .left)
-    (c .before .rows .inv .2)
+    let a = c .before .before .before .before .before .args in
+    let rows = c .before .rows in
+    store-ended (λ i. heldOf (rowReading (a .sheet .now) (a .settings) (a .need) i)) (a .settings .n) (rows .r) (a .values .now) (rows .values) (rows .inv .1) (c .rows-test .left) (rows .inv .2)
 
 pub receive-relayed-spec : {M : Type 1} → statement M
 receive-relayed-spec =

@@ -1,7 +1,8 @@
--- `reception::receive_row` meets its contract: a decided value stands as an entry that is present, an undecided row as one that is missing.
+-- `reception::receive_row` meets its contract: a decided value is held as an entry that is present, an undecided row as one that is missing.
 -- Assumes nothing.
 use mathlib.Core.Path.{sym, ap, _∙_}
 use Rattle.model.specs.Steps.{decidedReading}
+use Rattle.rounds.specs.Held.{heldOf}
 use Rattle.decisions.specs.Rows.{decisionOf}
 use borrow.Author.Needs.{needs}
 use Rattle.reception.proofs.receive_row.Statement.{statement}
@@ -23,10 +24,14 @@ entry-value-requires-2 : tie.Need-entry-value-requires-2
 entry-value-requires-2 c κs = search needs
 
 returns : tie.Need-returns
-returns c = ap decidedReading (sym (c .before .before .before .before .decide .ensures) ∙ ap decisionOf (c .before .before .bits .given .1)) ∙ c .entry-value .ensures
+returns c =
+    c .entry-value .ensures
+    ∙ ap (λ d. heldOf (decidedReading d)) (sym (ap decisionOf (c .before .before .bits .given .1)) ∙ c .before .before .before .before .decide .ensures)
 
 returns-2 : tie.Need-returns-2
-returns-2 c = ap decidedReading (sym (c .before .before .before .decide .ensures) ∙ ap decisionOf (c .before .enum-told .given .1)) ∙ c .entry-value2 .ensures
+returns-2 c =
+    c .entry-value2 .ensures
+    ∙ ap (λ d. heldOf (decidedReading d)) (sym (ap decisionOf (c .before .enum-told .given .1)) ∙ c .before .before .before .decide .ensures)
 
 pub receive-row-spec : {M : Type 1} → statement M
 receive-row-spec =

@@ -8,18 +8,18 @@ use Prim.Native.Nat.{_-_, _≤_}
 use lib.ListN.{length, length-set}
 use Rattle.arithmetic.specs.Writing.{table, overwrite}
 use Rattle.loops.proofs.Loops.{store-none, store-next, store-ended}
-use Rattle.round.specs.Rounds.{markIn}
+use Rattle.round.specs.Rounds.{markOfKept}
 use Rattle.round.proofs.put_marks.Statement.{statement}
 use Rattle.round.proofs.put_marks.Tie as tie
 
 abbrev Inv-marks : tie.InvT-marks
-Inv-marks kept marks₀ r₀ marks r = (r ≤ length kept) × (marks ≡ overwrite (table (markIn kept) r) marks₀) × (length marks ≡ length marks₀)
+Inv-marks kept marks₀ r₀ marks r = (r ≤ length kept) × (marks ≡ overwrite (table (markOfKept kept) r) marks₀) × (length marks ≡ length marks₀)
 
 abbrev μ-marks : tie.MeasureT-marks
 μ-marks kept marks₀ r₀ marks r = length kept - r
 
 marks-holds : tie.Need-marks-holds Inv-marks μ-marks
-marks-holds c = (search needs, store-none (markIn (c .before .before .args .kept .now)) (c .before .before .args .marks .now), refl)
+marks-holds c = (search needs, store-none (markOfKept (c .before .before .args .kept .now)) (c .before .before .args .marks .now), refl)
 
 mul-mark : tie.Need-mul-mark Inv-marks μ-marks
 mul-mark c = search needs
@@ -42,7 +42,7 @@ marks-less c = search needs
 marks-again : tie.Need-marks-again Inv-marks μ-marks
 marks-again c = (
   search needs,
-  store-next (markIn (c .before .before .before .before .before .before .args .kept .now)) (c .before .before .before .marks .r) (c .before .before .before .before .before .before .args .marks .now) (c .before .before .before .marks .marks) (c .mark .result)
+  store-next (markOfKept (c .before .before .before .before .before .before .args .kept .now)) (c .before .before .before .marks .r) (c .before .before .before .before .before .before .args .marks .now) (c .before .before .before .marks .marks) (c .mark .result)
       (c .before .before .before .marks .inv .1)
       (c .mark .ensures)
       (omega (arith, c .before .before .marks-test .taken, c .before .before .before .before .before .before .pre)),
@@ -54,7 +54,7 @@ same-length c = search needs
 
 returns : tie.Need-returns Inv-marks μ-marks
 returns c =
-    store-ended (markIn (c .before .before .before .before .args .kept .now)) (length (c .before .before .before .before .args .kept .now)) (c .before .marks .r) (c .before .before .before .before .args .marks .now) (c .before .marks .marks)
+    store-ended (markOfKept (c .before .before .before .before .args .kept .now)) (length (c .before .before .before .before .args .kept .now)) (c .before .marks .r) (c .before .before .before .before .args .marks .now) (c .before .marks .marks)
     (c .before .marks .inv .0)
     (c .marks-test .left)
     (c .before .marks .inv .1)

@@ -13,18 +13,18 @@ use Rattle.arithmetic.specs.Writing.{table, overwrite}
 use Rattle.arithmetic.proofs.Writing.{length-table, getD-table}
 use Rattle.model.specs.RoundSheet.{readingBytes}
 use Rattle.sheets.proofs.Storing.{put-none, put-next, put-ended}
-use Rattle.round.specs.Rounds.{usedIn}
+use Rattle.round.specs.Rounds.{usedOfKept}
 use Rattle.round.proofs.put_used.Statement.{statement}
 use Rattle.round.proofs.put_used.Tie as tie
 
 abbrev Inv-values : tie.InvT-values
-Inv-values kept estimate tail₀ r₀ tail r = (r ≤ length kept) × (tail ≡ overwrite (readingBytes (take r (table (usedIn kept estimate) (length kept)))) tail₀) × (length tail ≡ length tail₀)
+Inv-values kept estimate tail₀ r₀ tail r = (r ≤ length kept) × (tail ≡ overwrite (readingBytes (take r (table (usedOfKept kept estimate) (length kept)))) tail₀) × (length tail ≡ length tail₀)
 
 abbrev μ-values : tie.MeasureT-values
 μ-values kept estimate tail₀ r₀ tail r = length kept - r
 
 values-holds : tie.Need-values-holds Inv-values μ-values
-values-holds c = (search needs, put-none (table (usedIn (c .before .before .args .kept .now) (c .before .before .args .estimate)) (length (c .before .before .args .kept .now))) (c .before .before .args .tail .now), refl)
+values-holds c = (search needs, put-none (table (usedOfKept (c .before .before .args .kept .now) (c .before .before .args .estimate)) (length (c .before .before .args .kept .now))) (c .before .before .args .tail .now), refl)
 
 mul-put-word : tie.Need-mul-put-word Inv-values μ-values
 mul-put-word c = search needs
@@ -49,13 +49,13 @@ values-less c = search needs
 
 values-again : tie.Need-values-again Inv-values μ-values
 values-again c =
-    let long = length-table (usedIn (c .before .before .before .before .before .before .before .before .before .before .args .kept .now) (c .before .before .before .before .before .before .before .before .before .before .args .estimate)) (length (c .before .before .before .before .before .before .before .before .before .before .args .kept .now)) in (
+    let long = length-table (usedOfKept (c .before .before .before .before .before .before .before .before .before .before .args .kept .now) (c .before .before .before .before .before .before .before .before .before .before .args .estimate)) (length (c .before .before .before .before .before .before .before .before .before .before .args .kept .now)) in (
       search needs,
       c .before .before .put-word .ensures
-          ∙ put-next (table (usedIn (c .before .before .before .before .before .before .before .before .before .before .args .kept .now) (c .before .before .before .before .before .before .before .before .before .before .args .estimate)) (length (c .before .before .before .before .before .before .before .before .before .before .args .kept .now))) (c .before .before .before .before .before .before .before .values .r) (c .before .before .before .before .before .before .before .before .before .before .args .tail .now) (c .before .before .before .before .before .before .before .values .tail) (c .before .before .before .used .result)
+          ∙ put-next (table (usedOfKept (c .before .before .before .before .before .before .before .before .before .before .args .kept .now) (c .before .before .before .before .before .before .before .before .before .before .args .estimate)) (length (c .before .before .before .before .before .before .before .before .before .before .args .kept .now))) (c .before .before .before .before .before .before .before .values .r) (c .before .before .before .before .before .before .before .before .before .before .args .tail .now) (c .before .before .before .before .before .before .before .values .tail) (c .before .before .before .used .result)
           (c .before .before .before .before .before .before .before .values .inv .1)
           (omega (arith, c .before .before .before .before .before .before .values-test .taken))
-          (c .before .before .before .used .ensures ∙ ap (ofZ w32) (sym (getD-table (usedIn (c .before .before .before .before .before .before .before .before .before .before .args .kept .now) (c .before .before .before .before .before .before .before .before .before .before .args .estimate)) (length (c .before .before .before .before .before .before .before .before .before .before .args .kept .now)) (c .before .before .before .before .before .before .before .values .r) (pos 0) (c .before .before .before .before .before .before .values-test .taken))))
+          (c .before .before .before .used .ensures ∙ ap (ofZ w32) (sym (getD-table (usedOfKept (c .before .before .before .before .before .before .before .before .before .before .args .kept .now) (c .before .before .before .before .before .before .before .before .before .before .args .estimate)) (length (c .before .before .before .before .before .before .before .before .before .before .args .kept .now)) (c .before .before .before .before .before .before .before .values .r) (pos 0) (c .before .before .before .before .before .before .values-test .taken))))
           (omega (arith, c .before .before .before .before .before .before .before .before .before .before .pre .1)),
       c .before .before .put-word .kept .0 ∙ c .before .before .before .before .before .before .before .values .inv .2,
     )
@@ -65,8 +65,8 @@ same-length c = search needs
 
 returns : tie.Need-returns Inv-values μ-values
 returns c =
-    let long = length-table (usedIn (c .before .before .before .before .args .kept .now) (c .before .before .before .before .args .estimate)) (length (c .before .before .before .before .args .kept .now)) in
-    put-ended (table (usedIn (c .before .before .before .before .args .kept .now) (c .before .before .before .before .args .estimate)) (length (c .before .before .before .before .args .kept .now))) (c .before .values .r) (c .before .before .before .before .args .tail .now) (c .before .values .tail) (omega (arith, c .values-test .left)) (c .before .values .inv .1)
+    let long = length-table (usedOfKept (c .before .before .before .before .args .kept .now) (c .before .before .before .before .args .estimate)) (length (c .before .before .before .before .args .kept .now)) in
+    put-ended (table (usedOfKept (c .before .before .before .before .args .kept .now) (c .before .before .before .before .args .estimate)) (length (c .before .before .before .before .args .kept .now))) (c .before .values .r) (c .before .before .before .before .args .tail .now) (c .before .values .tail) (omega (arith, c .values-test .left)) (c .before .values .inv .1)
 
 pub put-used-spec : {M : Type 1} → statement M
 put-used-spec =

@@ -7,7 +7,7 @@ use Rattle.model.specs.Refusals.{firstOf, sheetChecks}
 use Rattle.model.specs.Calls.{granted, verdict}
 use Rattle.ensemble.specs.Answers.{checkOf}
 use Rattle.inspection.specs.Answers.{openedOf}
-use Rattle.round.proofs.Checking.{inspection-refuses, opened-passes, opened-settings, room-refuses, entries-refuse, passes-settle}
+use Rattle.round.proofs.Checking.{inspection-refuses, opened-settings, room-refuses, entries-refuse, checks-pass}
 use borrow.Author.Needs.{needs}
 use Rattle.round.proofs.settle.Statement.{statement}
 use Rattle.round.proofs.settle.Tie as tie
@@ -52,11 +52,16 @@ enum-told : tie.Need-enum-told
 enum-told c = search needs
 
 settle-valid-requires : tie.Need-settle-valid-requires
-settle-valid-requires c κs = (
-  opened-passes (c .before .before .before .before .before .before .before .before .before .before .before .before .args .sheet .now) (c .before .before .before .before .before .before .before .before .before .before .before .before .args .answer .now) (c .before .before .before .before .before .before .before .settings .given .0 .0) (opened (c .before .before .before .before .before .before .before)),
-  opened-settings (c .before .before .before .before .before .before .before .before .before .before .before .before .args .sheet .now) (c .before .before .before .before .before .before .before .before .before .before .before .before .args .answer .now) (c .before .before .before .before .before .before .before .settings .given .0 .0) (opened (c .before .before .before .before .before .before .before)),
-  c .before .before .before .before .if1 .left,
-)
+settle-valid-requires c κs =
+    let at-settings = c .before .before .before .before .before .before .before in
+    let a = at-settings .before .before .before .before .before .args in
+    let granted-here = opened at-settings in
+    let room = c .before .before .before .before .if1 .left in (
+      checks-pass (a .sheet .now) (a .answer .now) (at-settings .settings .given .0 .0) granted-here room
+          (sym (ap checkOf (c .before .enum-told .given .1)) ∙ c .before .before .before .check-entries .ensures),
+      opened-settings (a .sheet .now) (a .answer .now) (at-settings .settings .given .0 .0) granted-here,
+      room,
+    )
 
 returns-2 : tie.Need-returns-2
 returns-2 c =
@@ -73,11 +78,7 @@ same-length : tie.Need-same-length
 same-length c = search needs
 
 returns-4 : tie.Need-returns-4
-returns-4 c =
-    c .before .before .settle-valid .ensures
-    ∙ passes-settle (c .before .before .before .before .before .before .before .before .before .before .before .before .before .before .before .args .sheet .now) (c .before .before .before .before .before .before .before .before .before .before .before .before .before .before .before .args .answer .now) (c .before .before .before .before .before .before .before .before .before .before .settings .given .0 .0) (opened (c .before .before .before .before .before .before .before .before .before .before))
-    (c .before .before .before .before .before .before .before .if1 .left)
-    (sym (ap checkOf (c .before .before .before .before .enum-told .given .1)) ∙ c .before .before .before .before .before .before .check-entries .ensures)
+returns-4 c = c .before .before .settle-valid .ensures
 
 pub settle-spec : {M : Type 1} → statement M
 settle-spec =

@@ -1,4 +1,4 @@
--- `round::settle_in` meets its contract: what is received stands for the sheet's readings, so the round that is agreed on and written is the
+-- `round::settle_in` meets its contract: what is received holds the sheet's readings, so the round that is agreed on and written is the
 -- sheet's, and none is where nothing is accepted.
 -- Assumes nothing.
 use mathlib.Core.List.{List}
@@ -7,7 +7,7 @@ use native.Mathlib.Omega.{arith}
 use Prim.Native.Nat.{ℕ, _+_, _*_}
 use Rattle.round.specs.Answers.{settlingOf}
 use Rattle.round.specs.declared.Settled.the-variants.{Granted}
-use Rattle.round.proofs.Settling.{Settles, refuses, settles, kept-long, few-faults}
+use Rattle.round.proofs.Settling.{CallsLeave, refuses, settles, kept-long, few-faults}
 use borrow.Author.Needs.{needs}
 use Rattle.round.proofs.settle_in.Statement.{statement}
 use Rattle.round.proofs.settle_in.Tie as tie
@@ -15,14 +15,13 @@ use Rattle.round.proofs.settle_in.Tie as tie
 -- what the calls leave
 left :
     (c : tie.After-agree)
-    → Settles (c .before .before .before .before .before .before .before .before .before .before .args .sheet .now) (c .before .before .before .before .before .before .before .before .before .before .args .settings) (c .before .before .before .before .before .before .before .before .before .before .args .values .now) (c .before .before .before .before .before .receive .last .1 .1 .0) (c .agree .last .0) (c .before .before .before .before .before .receive .result) (c .agree .result)
+    → CallsLeave (c .before .before .before .before .before .before .before .before .before .before .args .sheet .now) (c .before .before .before .before .before .before .before .before .before .before .args .settings) (c .before .before .before .before .before .before .before .before .before .before .args .values .now) (c .before .before .before .before .before .receive .last .1 .1 .0) (c .agree .last .0) (c .agree .result)
 left c =
-    let s = c .before .before .before .before .before .before .before .before .before .before in
+    let known = c .before .before .before .before .before .before .before .before .before in
     let r = c .before .before .before .before .before .receive in
     record {
-      room = s .pre .1;
-      long = r .kept .1 .1 .0;
-      fits = r .ensures .0;
+      small = λ j. known .shared-slice-known .given j .fits;
+      room = known .before .pre .1;
       fills = r .ensures .1;
       agrees = c .agree .ensures .0;
       keeps = c .agree .ensures .1 .0;
@@ -50,15 +49,15 @@ returns c =
     let s = c .before .before .before .before .before .before .before .before .before .before .before .before .before .before in
     let r = c .before .before .before .before .before .before .before .before .before .receive in
     let a = c .before .before .before .before .agree in
-    refuses (s .args .sheet .now) (s .args .settings) (s .pre .0 .1) (s .pre .0 .0) (s .args .values .now) (r .last .1 .1 .0) (a .last .0) (r .result) (a .result)
-    (left (c .before .before .before .before)) (s .args .answer .now) (c .if1 .taken)
+    refuses (s .args .sheet .now) (s .args .settings) (s .pre .0 .1) (s .pre .0 .0) (s .args .values .now) (r .last .1 .1 .0) (a .last .0) (a .result)
+    (left (c .before .before .before .before)) (s .args .answer .now) (s .pre .0 .2) (c .if1 .taken)
 
 put-answer-requires : tie.Need-put-answer-requires
 put-answer-requires c κs =
     let s = c .before .before .before .before .before .before .before .before .before .before .before .before .before .before .before .before in
     let r = c .before .before .before .before .before .before .before .before .before .before .before .receive in
     let a = c .before .before .before .before .before .before .agree in
-    let long = kept-long (s .args .sheet .now) (s .args .settings) (s .pre .0 .1) (s .pre .0 .0) (s .args .values .now) (r .last .1 .1 .0) (a .last .0) (r .result) (a .result)
+    let long = kept-long (s .args .sheet .now) (s .args .settings) (s .pre .0 .1) (s .pre .0 .0) (s .args .values .now) (r .last .1 .1 .0) (a .last .0) (a .result)
     (left (c .before .before .before .before .before .before)) (c .before .before .if1 .left) in
     let few = few-faults (s .args .sheet .now) (s .args .settings) (s .pre .0 .1) (s .pre .0 .0) in
     ((omega (arith, few .1), omega (arith, s .pre .0 .2)), a .ensures .1 .1)
@@ -84,8 +83,8 @@ returns-2 c =
     let r = c .before .before .before .before .before .before .before .before .before .before .before .before .before .before .before .receive in
     let a = c .before .before .before .before .before .before .before .before .before .before .agree in
     ap (λ (l : List ℕ). settlingOf (Granted (10 + 5 * s .args .settings .n)) l) (c .before .before .before .put-answer .ensures)
-    ∙ settles (s .args .sheet .now) (s .args .settings) (s .pre .0 .1) (s .pre .0 .0) (s .args .values .now) (r .last .1 .1 .0) (a .last .0) (r .result) (a .result)
-    (left (c .before .before .before .before .before .before .before .before .before .before)) (s .args .answer .now) (c .before .before .before .before .before .before .if1 .left)
+    ∙ settles (s .args .sheet .now) (s .args .settings) (s .pre .0 .1) (s .pre .0 .0) (s .args .values .now) (r .last .1 .1 .0) (a .last .0) (a .result)
+    (left (c .before .before .before .before .before .before .before .before .before .before)) (s .args .answer .now) (s .pre .0 .2) (c .before .before .before .before .before .before .if1 .left)
 
 pub settle-in-spec : {M : Type 1} → statement M
 settle-in-spec =

@@ -22,7 +22,7 @@ use Rattle.refusals.proofs.Limits.{Limits}
 use Rattle.sheets.proofs.Outcomes.{granted-none, granted-same}
 use Rattle.sheets.proofs.Answer.{length-answerBytes, answer-cabinets, answer-count, answer-estimate, answer-value, answer-mark, answer-used}
 use Rattle.sheets.proofs.Inspection.{inspected}
-use Rattle.listing.proofs.Sheets.{settled-estimate, settled-value, settled-used}
+use Rattle.demands.proofs.Sheets.{settled-estimate, settled-value, settled-used}
 use Rattle.answer_sheet.specs.Fields.{answerChecks, cabinetChecks, cabinetsIn, countIn, estimateIn, valueIn, markIn, usedIn}
 use Rattle.answer_laws.specs.ReadBack.{ReadsBack, Settled, answerSheet, SettledReadsBack}
 

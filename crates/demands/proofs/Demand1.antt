@@ -1,38 +1,46 @@
 -- Demand 1 holds: each call gives what the first of its checks that applies says, and a refusal leaves what was lent.
 -- Assumes nothing.
-use mathlib.Core.Bool.{Bool, true, false, _||_}
+use mathlib.Core.Bool.{_||_}
 use mathlib.Core.List.{List, [], _∷_, _++_}
 use mathlib.Core.Logic.{⊎-elim}
 use mathlib.Core.Option.{none, some}
-use mathlib.Core.Path.{_≡_, refl, sym, ap, _∙_}
-use Prim.Native.Nat.{ℕ, _+_, _*_, _≤_, _<_}
+use mathlib.Core.Path.{_≡_, refl, ap}
+use Prim.Native.Nat.{ℕ, _+_, _≤_}
 use native.Mathlib.Nat.{le-refl}
 use native.Mathlib.Omega.{arith}
 use borrow.Author.Tests.{ltb-true, ltb-false}
 use lib.Dec.{ltb, leb}
-use lib.IntN.{ℤ, pos}
-use lib.ListN.{length, getD}
+use lib.IntN.{ℤ}
+use lib.ListN.{length}
 use mir.Syntax.{w32}
-use mir.Val.{toZ, ofZ}
+use mir.Val.{toZ}
 use Rattle.arithmetic.specs.Writing.{overwrite}
 use Rattle.arithmetic.proofs.Bools.{both-ways}
 use Rattle.arithmetic.proofs.Writing.{length-table, length-overwrite, take-overwrite, drop-overwrite}
 use Rattle.model.specs.declared.Settings.{Settings}
 use Rattle.model.specs.declared.Refusal.{Refusal}
-use Rattle.model.specs.RoundSheet.{settingsAt, entryCount, sheetLength, markAt, bitsAt, sheetBytes}
+use Rattle.model.specs.RoundSheet.{byte, settingsAt, entryCount, sheetLength, markAt, bitsAt, bitsIn, sheetBytes}
 use Rattle.model.specs.AnswerSheet.{answerLength, answerBytes}
 use Rattle.model.specs.Steps.{roundAt}
-use Rattle.model.specs.Planner.{Plan, planFrom, advance, after, windowAfter, Reaches, maxAccuracy, maxRounds, maxStepAccuracy}
-use Rattle.model.specs.Refusals.{refusal, Check, firstOf, noRoom, badLength, tooManyFaults, badPlan, targetMissed, settingsChecks, sheetChecks, entryChecks, readChecks, writeChecks, rowChecks, settleChecks, planChecks, stepChecks, targetChecks}
-use Rattle.model.specs.Calls.{Verdict, granted, refused, verdict, lent, marksOf, ticksOf, read, write, row, settle, plan, step, Target}
+use Rattle.model.specs.Planner.{Plan, planFrom, advance, after, windowAfter, Reaches, maxAccuracy, maxRounds}
+use Rattle.model.specs.Planner.{maxStepAccuracy}
+use Rattle.model.specs.Refusals.{refusal, Check, firstOf, noRoom, badLength, tooManyFaults}
+use Rattle.model.specs.Refusals.{settingsChecks, sheetChecks, entryChecks, readChecks, writeChecks, rowChecks}
+use Rattle.model.specs.Refusals.{settleChecks, planChecks, stepChecks, targetChecks}
+use Rattle.model.specs.Calls.{Verdict, granted, refused, verdict, lent, marksOf, ticksOf, read, write, settle}
+use Rattle.model.specs.Calls.{plan, step, Target}
 use Rattle.refusals.proofs.Checks.{none-at}
 use Rattle.sheets.proofs.Answer.{length-answerBytes}
 use Rattle.sheets.proofs.Checks.{length-passed, room-passed}
 use Rattle.sheets.proofs.Outcomes.{refused-some, row-refused}
 use Rattle.sheets.proofs.Written.{written-length}
 use Rattle.planning.proofs.Targets.{start-refuses-target, target-missed, target-reached}
-use Rattle.demands.specs.Demand1.{NoneApplies, FirstThatApplies, InOrder, Gives, Begins, Leaves, Placed, OfSettle, OfRead, OfWrite, OfRow, OfPlan, OfStep, OfTarget, Demand1}
-use Rattle.demands.proofs.Orders.{no-refusal, Plain, row-more, no-rows, first-applies, applies-first, plain-append, plain-order, plain-one, plain-first, plain-settings, plain-sheet, short-says, length-says, room-says, faults-says, plan-says, target-says, each, entry-order, entry-placed}
+use Rattle.demands.specs.Demand1.{InOrder, Gives, Leaves, Placed}
+use Rattle.demands.specs.Demand1.{OfSettle, OfRead, OfWrite, OfRow, OfPlan, OfStep, OfTarget, Demand1}
+use Rattle.demands.proofs.Orders.{no-refusal, Plain, row-more, no-rows, first-applies, applies-first}
+use Rattle.demands.proofs.Orders.{plain-append, plain-order, plain-one, plain-first, plain-settings}
+use Rattle.demands.proofs.Orders.{plain-sheet, length-says, room-says, faults-says, plan-says}
+use Rattle.demands.proofs.Orders.{target-says, each, entry-order, entry-placed}
 
 -- ---- any call
 
@@ -46,11 +54,18 @@ module _ {A : Type 0} (checks : List Check) (a : A) where
       go (some r) e = first-applies checks r e
 
   -- and leaves what is new, or what was there
-  leaves-first : {B : Type 0} (new before : List B) → (firstOf checks ≡ none → length new ≤ length before) → Leaves (verdict (firstOf checks) a) new before (lent (firstOf checks) (overwrite new before) before)
+  leaves-first :
+      {B : Type 0} (new before : List B) → (firstOf checks ≡ none → length new ≤ length before)
+      → Leaves (verdict (firstOf checks) a) new before (lent (firstOf checks) (overwrite new before) before)
   leaves-first new before room = go (firstOf checks) refl
     where
       go : (x : Check) → firstOf checks ≡ x → Leaves (verdict x a) new before (lent x (overwrite new before) before)
-      go none e = record { start = take-overwrite new before; later = drop-overwrite new before; long = length-overwrite new before (room e) }
+      go none e =
+          record {
+            start = take-overwrite new before;
+            later = drop-overwrite new before;
+            long = length-overwrite new before (room e);
+          }
       go (some r) e = refl
 
 -- ---- sheets
@@ -60,8 +75,11 @@ module _ (s : List ℕ) where
   E = entryCount (settingsAt s)
 
   module _ (answer : List ℕ) where
-    pub before-settle : Plain (1 ∷ 2 ∷ 3 ∷ 4 ∷ 5 ∷ 6 ∷ 7 ∷ []) (sheetChecks s ++ (noRoom (length answer) (answerLength (settingsAt s .n)) ∷ []))
-    before-settle = plain-append (plain-sheet s) (plain-one (room-says (length answer) (answerLength (settingsAt s .n))))
+    pub before-settle :
+        Plain (1 ∷ 2 ∷ 3 ∷ 4 ∷ 5 ∷ 6 ∷ 7 ∷ [])
+        (sheetChecks s ++ (noRoom (length answer) (answerLength (settingsAt s .n)) ∷ []))
+    before-settle =
+        plain-append (plain-sheet s) (plain-one (room-says (length answer) (answerLength (settingsAt s .n))))
 
     behind-settle : Plain (10 ∷ []) (tooManyFaults (roundAt s .count) ∷ [])
     behind-settle = plain-one (faults-says (roundAt s .count))
@@ -76,10 +94,14 @@ module _ (s : List ℕ) where
         entry-placed (markAt s) (bitsAt s E) E before-settle behind-settle refl refl r
         (refused-some (firstOf (settleChecks s (length answer))) (answerLength (settingsAt s .n)) r h)
 
-    settle-room : firstOf (settleChecks s (length answer)) ≡ none → length (answerBytes (settingsAt s .n) (roundAt s)) ≤ length answer
+    settle-room :
+        firstOf (settleChecks s (length answer)) ≡ none
+        → length (answerBytes (settingsAt s .n) (roundAt s)) ≤ length answer
     unfolding settleChecks sheetChecks settingsChecks entryChecks
     settle-room h =
-        let room = room-passed (length answer) (answerLength (settingsAt s .n)) (none-at (settleChecks s (length answer)) h 6) in
+        let room =
+        room-passed (length answer) (answerLength (settingsAt s .n))
+        (none-at (settleChecks s (length answer)) h 6) in
         let long = length-answerBytes (settingsAt s .n) (roundAt s) in
         omega arith
 
@@ -89,13 +111,19 @@ module _ (s : List ℕ) where
         record {
           order = settle-order;
           gives = gives-first (settleChecks s (length answer)) (answerLength (settingsAt s .n));
-          leaves = leaves-first (settleChecks s (length answer)) (answerLength (settingsAt s .n)) (answerBytes (settingsAt s .n) (roundAt s)) answer settle-room;
+          leaves =
+              leaves-first (settleChecks s (length answer)) (answerLength (settingsAt s .n))
+              (answerBytes (settingsAt s .n) (roundAt s)) answer settle-room;
           place = settle-placed;
         }
 
   module _ (marks : List ℕ) (readings : List ℤ) where
-    before-read : Plain (1 ∷ 2 ∷ 3 ∷ 4 ∷ 5 ∷ 6 ∷ 7 ∷ 7 ∷ []) (sheetChecks s ++ (noRoom (length marks) E ∷ noRoom (length readings) E ∷ []))
-    before-read = plain-append (plain-sheet s) (row-more (room-says (length marks) E) (plain-one (room-says (length readings) E)))
+    before-read :
+        Plain (1 ∷ 2 ∷ 3 ∷ 4 ∷ 5 ∷ 6 ∷ 7 ∷ 7 ∷ [])
+        (sheetChecks s ++ (noRoom (length marks) E ∷ noRoom (length readings) E ∷ []))
+    before-read =
+        plain-append (plain-sheet s)
+        (row-more (room-says (length marks) E) (plain-one (room-says (length readings) E)))
 
     read-order : InOrder (1 ∷ 2 ∷ 3 ∷ 4 ∷ 5 ∷ 6 ∷ 7 ∷ 7 ∷ 8 ∷ 9 ∷ []) (readChecks s (length marks) (length readings))
     unfolding readChecks sheetChecks settingsChecks entryChecks
@@ -114,7 +142,8 @@ module _ (s : List ℕ) where
         let long = length-table (markAt s) E in
         omega arith
 
-    readings-room : firstOf (readChecks s (length marks) (length readings)) ≡ none → length (ticksOf s) ≤ length readings
+    readings-room :
+        firstOf (readChecks s (length marks) (length readings)) ≡ none → length (ticksOf s) ≤ length readings
     unfolding readChecks sheetChecks settingsChecks entryChecks
     readings-room h =
         let room = room-passed (length readings) E (none-at (readChecks s (length marks) (length readings)) h 7) in
@@ -127,8 +156,12 @@ module _ (s : List ℕ) where
         record {
           order = read-order;
           gives = gives-first (readChecks s (length marks) (length readings)) (settingsAt s);
-          leavesMarks = leaves-first (readChecks s (length marks) (length readings)) (settingsAt s) (marksOf s) marks marks-room;
-          leavesReadings = leaves-first (readChecks s (length marks) (length readings)) (settingsAt s) (ticksOf s) readings readings-room;
+          leavesMarks =
+              leaves-first (readChecks s (length marks) (length readings)) (settingsAt s) (marksOf s) marks
+              marks-room;
+          leavesReadings =
+              leaves-first (readChecks s (length marks) (length readings)) (settingsAt s) (ticksOf s) readings
+              readings-room;
           place = read-placed;
         }
 
@@ -137,15 +170,10 @@ module _ (s : List ℕ) where
   row-order = entry-order (markAt s) (bitsAt s E) E (plain-sheet s) no-rows
 
   row-empty : OfRow s
-  row-empty = record { order = row-order; empty = λ r h cabinet. row-refused s cabinet r (applies-first (rowChecks s) r h) }
+  row-empty =
+      record { order = row-order; empty = λ r h cabinet. row-refused s cabinet r (applies-first (rowChecks s) r h) }
 
 module _ (c : Settings) (marks : List ℕ) (readings : List ℤ) (buffer : List ℕ) where
-  abbrev mark : ℕ → ℕ
-  mark e = getD marks e 0
-
-  abbrev bits : ℕ → ℕ
-  bits e = ofZ w32 (getD readings e (pos 0))
-
   before-write :
       Plain (2 ∷ 3 ∷ 4 ∷ 5 ∷ 6 ∷ 6 ∷ 7 ∷ [])
       (settingsChecks c
@@ -160,20 +188,25 @@ module _ (c : Settings) (marks : List ℕ) (readings : List ℤ) (buffer : List 
 
   write-order : InOrder (2 ∷ 3 ∷ 4 ∷ 5 ∷ 6 ∷ 6 ∷ 7 ∷ 8 ∷ 9 ∷ []) (writeChecks c marks readings (length buffer))
   unfolding writeChecks settingsChecks
-  write-order = entry-order mark bits (entryCount c) before-write no-rows
+  write-order = entry-order (byte marks) (bitsIn readings) (entryCount c) before-write no-rows
 
-  write-placed : (r : Refusal) → write c marks readings buffer .verdict ≡ refused r → Placed mark bits (entryCount c) r
+  write-placed :
+      (r : Refusal) → write c marks readings buffer .verdict ≡ refused r
+      → Placed (byte marks) (bitsIn readings) (entryCount c) r
   unfolding write writeChecks settingsChecks each
   write-placed r h =
-      entry-placed mark bits (entryCount c) before-write no-rows refl refl r
+      entry-placed (byte marks) (bitsIn readings) (entryCount c) before-write no-rows refl refl r
       (refused-some (firstOf (writeChecks c marks readings (length buffer))) (sheetLength c) r h)
 
-  write-room : firstOf (writeChecks c marks readings (length buffer)) ≡ none → length (sheetBytes c marks readings) ≤ length buffer
+  write-room :
+      firstOf (writeChecks c marks readings (length buffer)) ≡ none
+      → length (sheetBytes c marks readings) ≤ length buffer
   unfolding writeChecks settingsChecks
   write-room h =
       let rows = none-at (writeChecks c marks readings (length buffer)) h in
       let long =
-      written-length c marks readings (length-passed (length marks) (entryCount c) (rows 4)) (length-passed (length readings) (entryCount c) (rows 5)) in
+      written-length c marks readings (length-passed (length marks) (entryCount c) (rows 4))
+      (length-passed (length readings) (entryCount c) (rows 5)) in
       let room = room-passed (length buffer) (sheetLength c) (rows 6) in
       omega arith
 
@@ -183,7 +216,10 @@ module _ (c : Settings) (marks : List ℕ) (readings : List ℤ) (buffer : List 
       record {
         order = write-order;
         gives = gives-first (writeChecks c marks readings (length buffer)) (sheetLength c);
-        leaves = leaves-first (writeChecks c marks readings (length buffer)) (sheetLength c) (sheetBytes c marks readings) buffer write-room;
+        leaves =
+            leaves-first (writeChecks c marks readings (length buffer)) (sheetLength c) (sheetBytes c marks readings)
+            buffer
+            write-room;
         place = write-placed;
       }
 
@@ -209,7 +245,8 @@ module _ (c : Settings) (κ : ℕ) where
       record {
         order = plain-order (plain-plan k);
         gives = gives-first (planChecks c κ k) (after k (planFrom c κ));
-        place = λ r h. plain-place (plain-plan k) r (refused-some (firstOf (planChecks c κ k)) (after k (planFrom c κ)) r h);
+        place = λ r h.
+            plain-place (plain-plan k) r (refused-some (firstOf (planChecks c κ k)) (after k (planFrom c κ)) r h);
       }
 
   module _ (target : ℕ) where
@@ -219,7 +256,8 @@ module _ (c : Settings) (κ : ℕ) where
         plain-append (plain-settings c)
         (row-more (plan-says (ltb maxAccuracy κ)) (plain-one (target-says (windowAfter maxRounds c κ) target)))
 
-    target-gives : (answer : Verdict ℕ) → Target c κ target answer → Gives (targetChecks c κ target) (Reaches c κ target) answer
+    target-gives :
+        (answer : Verdict ℕ) → Target c κ target answer → Gives (targetChecks c κ target) (Reaches c κ target) answer
     target-gives (granted k) (e, fits) = (none-at (targetChecks c κ target) e, fits)
     target-gives (refused r) e = first-applies (targetChecks c κ target) r e
 
@@ -232,7 +270,9 @@ module _ (c : Settings) (κ : ℕ) where
         go none e =
             ⊎-elim
             (λ t. (refused (refusal 12 0), target-missed c κ target e (ltb-true target (windowAfter maxRounds c κ) t)))
-            (λ f. (granted 32, target-reached c κ target e 32 (le-refl 32) (ltb-false target (windowAfter maxRounds c κ) f)))
+            (λ f.
+            let fits = ltb-false target (windowAfter maxRounds c κ) f in
+            (granted maxRounds, target-reached c κ target e maxRounds (le-refl maxRounds) fits))
             (both-ways (ltb target (windowAfter maxRounds c κ)))
 
     counts : OfTarget c κ target
@@ -248,7 +288,8 @@ module _ (p : Plan) where
   plain-step : Plain (2 ∷ 3 ∷ 4 ∷ 5 ∷ 11 ∷ []) (stepChecks p)
   unfolding stepChecks
   plain-step =
-      plain-append (plain-settings (p .settings)) (plain-one (plan-says (leb maxRounds (p .rounds) || ltb maxStepAccuracy (p .accuracy))))
+      plain-append (plain-settings (p .settings))
+      (plain-one (plan-says (leb maxRounds (p .rounds) || ltb maxStepAccuracy (p .accuracy))))
 
   steps : OfStep p
   unfolding step
@@ -263,4 +304,12 @@ module _ (p : Plan) where
 
 pub demand-1 : Demand1
 demand-1 =
-    record { ofSettle = settling; ofRead = reader; ofWrite = writer; ofCheck = row-empty; ofPlan = plans; ofStep = steps; ofTarget = counts }
+    record {
+      ofSettle = settling;
+      ofRead = reader;
+      ofWrite = writer;
+      ofRow = row-empty;
+      ofPlan = plans;
+      ofStep = steps;
+      ofTarget = counts;
+    }

@@ -1,35 +1,44 @@
--- Demand 2 holds: the steps of a round, the planner, "too many faults" and the round trips are as the paper and document 01 say.
+-- Demand 2 holds: the steps of a round, the planner, "too many faults" and the round trips are as the paper and
+-- document 01 say.
 -- Assumes nothing.
 use mathlib.Core.Bool.{Bool, true, false, cond, _&&_}
 use mathlib.Core.List.{List}
-use mathlib.Core.Logic.{_↔_, ⊎-elim}
+use mathlib.Core.Logic.{_↔_}
+use mathlib.Core.Option.{none}
 use mathlib.Core.Path.{_≡_, refl, sym, ap, _∙_, subst⁻¹}
 use Prim.Native.Nat.{ℕ, _+_, _*_, _≤_, _<_}
 use native.Mathlib.Nat.{one-mul, lt-of-not-le}
 use native.Mathlib.Omega.{arith}
 use borrow.Author.Tests.{eqb-true, eq-eqb}
 use lib.Dec.{eqb}
-use lib.IntN.{ℤ, pos}
-use Rattle.arithmetic.specs.Counting.{count, sum}
-use Rattle.arithmetic.proofs.Bools.{both-ways, clash, and-left, and-right, and-intro}
+use lib.IntN.{ℤ}
+use lib.ListN.{length}
+use Rattle.arithmetic.specs.Counting.{sum}
+use Rattle.arithmetic.specs.Writing.{overwrite}
+use Rattle.arithmetic.proofs.Bools.{clash, and-left, and-right, and-intro}
 use Rattle.model.specs.declared.Settings.{Settings}
-use Rattle.model.specs.Ensemble.{Reading, missing, present, Readings, ticks, quorum}
-use Rattle.model.specs.RoundSheet.{fca, cca, median}
-use Rattle.model.specs.Steps.{Decision, decided, knownFaulty, decidedReading, decideRow, readingsOf, acceptedAt, markOf, roundOf}
+use Rattle.model.specs.Ensemble.{missing, present, Readings, quorum}
+use Rattle.model.specs.RoundSheet.{cca, median, settingsAt}
+use Rattle.model.specs.AnswerSheet.{answerLength, answerBytes}
+use Rattle.model.specs.Steps.{Decision, knownFaulty, decidedReading, decideRow, readingsOf, Round, roundOf, roundAt}
 use Rattle.model.specs.Planner.{Plan, planFrom, ceilDiv, windowFactor, nextWindow, growth, advance, after}
-use Rattle.model.specs.Refusals.{firstOf, stepChecks}
-use Rattle.model.specs.Calls.{granted, plan, step}
+use Rattle.model.specs.Refusals.{Check, firstOf, settleChecks, stepChecks}
+use Rattle.model.specs.Calls.{granted, lent, settle, step}
 use Rattle.crusaders.proofs.Decision.{decided-need, decide-value, decide-none}
 use Rattle.crusaders.proofs.Equality.{missing-present}
 use Rattle.crusaders.proofs.Rows.{reading-decided, read-direct, read-decided}
 use Rattle.planning.proofs.Checks.{none-may-step}
 use Rattle.planning.proofs.Steps.{plan-granted-check, plan-steps}
 use Rattle.planning.proofs.Verdicts.{granted-check}
+use Rattle.sheets.proofs.Answer.{answer-cabinets, answer-count, answer-estimate, answer-value, answer-mark, answer-used}
+use Rattle.sheets.proofs.Outcomes.{granted-none}
 use Rattle.sheets.proofs.RoundTrips.{read-write, write-read}
-use Rattle.demands.specs.Demand2.{Accepted, copiesEqual, Decided, Used, RoundedUp, Forward, PlannedRounds, Demand2}
+use Rattle.demands.specs.Demand2.{Accepted, copiesEqual, Decided, Used, Bytes, Shown, RoundedUp, Forward}
+use Rattle.demands.specs.Demand2.{PlannedRounds, Demand2}
 use Rattle.demands.proofs.Estimated.{estimated}
 use Rattle.demands.proofs.Refused.{too-many-said}
 use Rattle.demands.proofs.Roundings.{mean-nearest-whole, rounded-up}
+use Rattle.demands.proofs.Sheets.{settled-estimate, settled-value, settled-used}
 use Rattle.demands.proofs.Spans.{accepted-span}
 
 -- ---- accepted readings and used values
@@ -43,7 +52,7 @@ module _ (c : Settings) (v : Readings) where
         counted = refl;
         markMissing = λ r e. rw e;
         markAccepted = λ r z e a. rw (e, a);
-        markRefused = λ r z e a. rw (e, a);
+        markNotAccepted = λ r z e a. rw (e, a);
       }
 
   used : Used c v
@@ -94,6 +103,34 @@ module _ (c : Settings) (entry : Readings) (r : ℕ) (three : 3 * c .m + 1 ≤ c
         knownFaulty = known-faulty;
       }
 
+-- ---- the answer sheet
+
+module _ (s answer : List ℕ) (small : Bytes s) (size : ℕ) (g : settle s answer .verdict ≡ granted size) where
+  abbrev round : Round
+  round = roundAt s
+
+  passed : firstOf (settleChecks s (length answer)) ≡ none
+  unfolding settle
+  passed = granted-none (firstOf (settleChecks s (length answer))) (answerLength (settingsAt s .n)) size g
+
+  left : settle s answer .buffer ≡ overwrite (answerBytes (settingsAt s .n) (roundAt s)) answer
+  unfolding settle
+  left = ap (λ (x : Check). lent x (overwrite (answerBytes (settingsAt s .n) round) answer) answer) passed
+
+  answer-shown : Shown s (overwrite (answerBytes (settingsAt s .n) (roundAt s)) answer)
+  answer-shown =
+      record {
+        cabinets = answer-cabinets (settingsAt s .n) round answer;
+        counted = answer-count (settingsAt s .n) round answer;
+        estimate = answer-estimate (settingsAt s .n) round answer (settled-estimate s small answer passed);
+        value = answer-value (settingsAt s .n) round answer (settled-value s small answer passed);
+        mark = answer-mark (settingsAt s .n) round answer;
+        used = λ r l. answer-used (settingsAt s .n) round answer r l (settled-used s small answer passed r l);
+      }
+
+  shown : Shown s (settle s answer .buffer)
+  shown = subst⁻¹ (Shown s) left answer-shown
+
 -- ---- the planner
 
 module _ (p : Plan) where
@@ -105,25 +142,30 @@ module _ (p : Plan) where
   advanced some-n =
       record {
         window = λ other. direct (eqb (c .rule) cca && eqb (c .estimator) median) refl other;
-        medianWindow = λ a b. crusaders (eqb (c .rule) cca && eqb (c .estimator) median) (and-intro (eq-eqb (c .rule) cca a) (eq-eqb (c .estimator) median b));
+        medianWindow = λ a b.
+            crusaders (eqb (c .rule) cca && eqb (c .estimator) median)
+            (and-intro (eq-eqb (c .rule) cca a) (eq-eqb (c .estimator) median b));
         growth = growth c;
         accuracy = refl;
         share = rounded-up (c .m * c .window) (c .n) some-n;
         rounds = refl;
-        n = refl;
-        m = refl;
-        rule = refl;
-        estimator = refl;
+        kept = refl;
       }
     where
       direct :
-          (b : Bool) → (eqb (c .rule) cca && eqb (c .estimator) median) ≡ b → ((c .rule ≡ cca) × (c .estimator ≡ median) → ⊥)
+          (b : Bool) → (eqb (c .rule) cca && eqb (c .estimator) median) ≡ b
+          → ((c .rule ≡ cca) × (c .estimator ≡ median) → ⊥)
           → RoundedUp (2 * (c .m * c .window)) (c .n) (ceilDiv (cond b 1 2 * (c .m * c .window)) (c .n))
       direct false e other = rounded-up (2 * (c .m * c .window)) (c .n) some-n
       direct true e other =
-          absurd (other (eqb-true (c .rule) cca (and-left (eqb (c .rule) cca) _ e), eqb-true (c .estimator) median (and-right (eqb (c .rule) cca) _ e)))
+          absurd (other (
+            eqb-true (c .rule) cca (and-left (eqb (c .rule) cca) _ e),
+            eqb-true (c .estimator) median (and-right (eqb (c .rule) cca) _ e),
+          ))
 
-      crusaders : (b : Bool) → b ≡ true → RoundedUp (c .m * c .window) (c .n) (ceilDiv (cond b 1 2 * (c .m * c .window)) (c .n))
+      crusaders :
+          (b : Bool) → b ≡ true
+          → RoundedUp (c .m * c .window) (c .n) (ceilDiv (cond b 1 2 * (c .m * c .window)) (c .n))
       crusaders true e = rw (one-mul (c .m * c .window)) (rounded-up (c .m * c .window) (c .n) some-n)
       crusaders false e = clash e refl
 
@@ -138,7 +180,6 @@ planned c κ =
     record {
       fresh = λ p e. start p (plan-granted-check c κ 0 (sym e) .1);
       stepwise = plan-steps c κ;
-      forward = forward;
     }
   where
     start : (p : Plan) → p ≡ after 0 (planFrom c κ) → p ≡ planFrom c κ
@@ -153,7 +194,9 @@ demand-2 =
       estimate = estimated;
       decision = decision;
       mean = used;
+      shown = shown;
       planned = planned;
+      forward = forward;
       tooManyFaults = too-many-said;
       readThenWritten = λ s marks readings buffer small room c g. read-write s marks readings c small g buffer room;
       writtenThenRead = λ c marks readings buffer fits size g. write-read c marks readings buffer size fits g;

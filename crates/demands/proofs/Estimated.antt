@@ -1,17 +1,17 @@
--- The estimate among the accepted readings: the average is their sum over their count, the median the one numbered half of them, the
--- midpoint half of the lowest plus the highest.
+-- The estimate among the accepted readings: the average is their sum over their count, the median the one numbered
+-- half of them, the midpoint half of the lowest plus the highest.
 -- Assumes nothing.
-use mathlib.Core.Bool.{Bool, true, false, not, cond, _&&_}
+use mathlib.Core.Bool.{Bool, not, cond, _&&_}
 use mathlib.Core.Logic.{⊎-elim}
 use mathlib.Core.Option.{some}
-use mathlib.Core.Path.{_≡_, refl, sym, ap, ap₂, _∙_, subst⁻¹}
+use mathlib.Core.Path.{_≡_, ap, ap₂, _∙_, subst⁻¹}
 use Prim.Native.Nat.{ℕ, _+_, _*_, _/_, _≤_, _<_}
 use native.Mathlib.Nat.{le-refl}
 use native.Mathlib.Omega.{arith}
 use borrow.Author.Tests.{leb-true, ltb-true}
-use lib.Dec.{leb, ltb, eqb}
+use lib.Dec.{leb, ltb}
 use lib.IntN.{ℤ, pos, _+ℤ_}
-use lib.Signed.{leZ, ltZ, mag, _≤ℤ_, ltZ-no}
+use lib.Signed.{leZ, ltZ, mag, ltZ-no}
 use Rattle.arithmetic.specs.Counting.{count, sum, lowest}
 use Rattle.arithmetic.proofs.Bools.{both-ways, clash, to-T, and-left, and-right, and-intro}
 use Rattle.arithmetic.proofs.Counting.{count-ext, count-pos, lowest-cases, Lowest}
@@ -54,7 +54,8 @@ module _ (c : Settings) (v : Readings) where
       near : (s : ℕ) → s < c .n → mag (ticks (v s)) < reach v (c .n)
       near s i = reach-above v (c .n) s i
 
-  pub numbered-from-below : (h : ℕ) → 0 < h → h ≤ count (acceptedAt c v) (c .n) → FromBelow c v h (numbered (acceptedAt c v) (c .n) v h)
+  pub numbered-from-below :
+      (h : ℕ) → 0 < h → h ≤ count (acceptedAt c v) (c .n) → FromBelow c v h (numbered (acceptedAt c v) (c .n) v h)
   unfolding numbered
   numbered-from-below h some-h most =
       ⊎-elim
@@ -64,12 +65,20 @@ module _ (c : Settings) (v : Readings) where
       clash (test-up h (there .0) (there .1) ∙ there .2) (w .1 (there .0) (there .1)))
       (lowest-cases (test h) (c .n))
     where
-      found : (r : ℕ) → lowest (test h) (c .n) ≡ some r → Lowest (test h) (c .n) r → FromBelow c v h (ticksAt v (lowest (test h) (c .n)))
+      found :
+          (r : ℕ) → lowest (test h) (c .n) ≡ some r → Lowest (test h) (c .n) r
+          → FromBelow c v h (ticksAt v (lowest (test h) (c .n)))
       found r e w =
           let rest = and-right (acc r) _ (w .passes) in
           subst⁻¹ (FromBelow c v h) (ap (ticksAt v) e)
           (record {
-            reading = record { cabinet = r; inRange = w .inRange; accepted = and-left (acc r) _ (w .passes); reads = accepted-present c v r (and-left (acc r) _ (w .passes)) };
+            reading =
+                record {
+                  cabinet = r;
+                  inRange = w .inRange;
+                  accepted = and-left (acc r) _ (w .passes);
+                  reads = accepted-present c v r (and-left (acc r) _ (w .passes));
+                };
             atOrBelow = leb-true h _ (and-left (leb h _) _ rest);
             below = ltb-true _ h (and-right (leb h _) _ rest);
           })
@@ -81,7 +90,9 @@ module _ (c : Settings) (v : Readings) where
         reading = f .reading;
         noneBelow = λ r l e.
             ⊎-elim
-            (λ t. let some-below = count-pos (λ s. acc s && ltZ (ticks (v s)) z) (c .n) r l (and-intro e t) in absurd (omega (arith, f .below)))
+            (λ t.
+            let some-below = count-pos (λ s. acc s && ltZ (ticks (v s)) z) (c .n) r l (and-intro e t) in
+            absurd (omega (arith, f .below)))
             (λ t. ltZ-no (to-T (ap not t)))
             (both-ways (ltZ (ticks (v r)) z));
       }
@@ -109,11 +120,17 @@ module _ (c : Settings) (v : Readings) where
     unfolding roundOf
     by e = ap (λ (kind : ℕ). estimate kind acc (c .n) v) e
 
-    by-average : RoundedDown (sum (λ r. cond (acceptedAt c v r) (ticks (v r)) (pos 0)) (c .n)) (roundOf c v .count) (estimate average acc (c .n) v)
-    unfolding roundOf estimate averageOf
-    by-average = rounded-down (sum (λ r. cond (acc r) (ticks (v r)) (pos 0)) (c .n)) (count acc (c .n)) counted
+    -- an accepted reading, and 0 for any other
+    abbrev picked : ℕ → ℤ
+    picked r = cond (acc r) (ticks (v r)) (pos 0)
 
-    by-median : (h : ℕ) → roundOf c v .count ≤ 2 * h → 2 * h ≤ roundOf c v .count + 1 → FromBelow c v h (estimate median acc (c .n) v)
+    by-average : RoundedDown (sum picked (c .n)) (roundOf c v .count) (estimate average acc (c .n) v)
+    unfolding roundOf estimate averageOf
+    by-average = rounded-down (sum picked (c .n)) (count acc (c .n)) counted
+
+    by-median :
+        (h : ℕ) → roundOf c v .count ≤ 2 * h → 2 * h ≤ roundOf c v .count + 1
+        → FromBelow c v h (estimate median acc (c .n) v)
     unfolding roundOf estimate medianOf
     by-median h low high =
         let half : (count acc (c .n) + 1) / 2 ≡ h = omega arith in
@@ -126,14 +143,16 @@ module _ (c : Settings) (v : Readings) where
           low = numbered acc (c .n) v 1;
           high = numbered acc (c .n) v (count acc (c .n));
           isLowest = from-below-lowest _ (numbered-from-below 1 (omega arith) counted);
-          isHighest = from-below-highest _ (numbered-from-below (count acc (c .n)) counted (le-refl (count acc (c .n))));
+          isHighest =
+              from-below-highest _ (numbered-from-below (count acc (c .n)) counted (le-refl (count acc (c .n))));
           half = rounded-down (numbered acc (c .n) v 1 +ℤ numbered acc (c .n) v (count acc (c .n))) 2 (omega arith);
         }
 
     pub estimated : Estimate c v (roundOf c v .estimate)
     estimated =
         record {
-          average = λ e. subst⁻¹ (RoundedDown (sum (λ r. cond (acceptedAt c v r) (ticks (v r)) (pos 0)) (c .n)) (roundOf c v .count)) (by e) by-average;
-          median = λ e h low high. subst⁻¹ (FromBelow c v h) (by e) (by-median h low high);
-          midpoint = λ e. subst⁻¹ (Midpoint c v) (by e) by-midpoint;
+          byAverage = λ e.
+              subst⁻¹ (RoundedDown (sum picked (c .n)) (roundOf c v .count)) (by e) by-average;
+          byMedian = λ e h low high. subst⁻¹ (FromBelow c v h) (by e) (by-median h low high);
+          byMidpoint = λ e. subst⁻¹ (Midpoint c v) (by e) by-midpoint;
         }

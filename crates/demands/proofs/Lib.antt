@@ -1,9 +1,10 @@
 pub mod Represented
 pub mod Spans
+pub mod Values
+pub mod Sheets
 pub mod Orders
 pub mod Demand1
 pub mod Refused
 pub mod Roundings
 pub mod Estimated
 pub mod Demand2
-pub mod Values

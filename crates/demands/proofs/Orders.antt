@@ -6,22 +6,24 @@ use mathlib.Core.List.{List, [], _∷_, _++_}
 use mathlib.Core.Logic.{_⊎_, inl, inr, ⊎-elim}
 use mathlib.Core.Option.{Option, none, some}
 use mathlib.Core.Path.{_≡_, refl, sym, ap, _∙_}
-use Prim.Native.Nat.{ℕ, zero, suc, _+_, _*_, _≤_, _<_}
+use Prim.Native.Nat.{ℕ, zero, suc, _+_, _*_, _<_}
 use native.Mathlib.Nat.{not-suc-le-zero, le-of-suc-le-suc}
 use native.Mathlib.Omega.{arith}
-use borrow.Author.Tests.{ltb-true, lt-ltb, eqb-true, eq-eqb, ne-eqb, not-true}
-use lib.Dec.{eqb, ltb, leb}
+use borrow.Author.Tests.{ltb-true, lt-ltb, eqb-true, eq-eqb, ne-eqb}
+use lib.Dec.{eqb, ltb}
 use lib.ListN.{length, getD}
 use Rattle.arithmetic.specs.Counting.{lowest}
 use Rattle.arithmetic.proofs.Bools.{clash, and-left, and-right, and-intro}
-use Rattle.arithmetic.proofs.Counting.{lowest-found, Lowest}
+use Rattle.arithmetic.proofs.Counting.{lowest-found}
 use Rattle.model.specs.declared.Settings.{Settings}
 use Rattle.model.specs.declared.Refusal.{Refusal}
-use Rattle.model.specs.Refusals.{refusal, Check, refuseIf, atEntry, orNext, firstOf, tooShort, badCabinets, badFaults, badMethod, badWindow, badLength, noRoom, badMark, badMissing, tooManyFaults, badPlan, targetMissed, settingsChecks, sheetChecks}
-use Rattle.model.specs.RoundSheet.{settingsAt, sheetLength}
-use Rattle.refusals.proofs.Checks.{next-none-left}
+use Rattle.model.specs.Refusals.{refusal, Check, refuseIf, atEntry, orNext, firstOf, tooShort, badCabinets, badFaults}
+use Rattle.model.specs.Refusals.{badMethod, badWindow, badLength, noRoom, badMark, badMissing, tooManyFaults, badPlan}
+use Rattle.model.specs.Refusals.{targetMissed, settingsChecks, sheetChecks}
+use Rattle.model.specs.Ensemble.{maxCabinets, maxWindow}
+use Rattle.model.specs.RoundSheet.{cca, midpoint, headerSize, settingsAt, sheetLength}
 use Rattle.sheets.proofs.Checks.{marks-passed}
-use Rattle.demands.specs.Demand1.{NoneApplies, FirstThatApplies, InOrder, LowestAtFault, Placed}
+use Rattle.demands.specs.Demand1.{FirstThatApplies, InOrder, LowestAtFault, Placed}
 
 pub no-refusal {ℓ} : {X : Type ℓ} {r : Refusal} → _≡_ {A = Check} none (some r) → X
 no-refusal e = let z : _≡_ {A = ℕ} 0 1 = cc in absurd (omega arith)
@@ -36,7 +38,9 @@ first-applies (none ∷ checks) r h =
     let rest = first-applies checks r h in
     record { index = suc (rest .index); applies = rest .applies; earlier = before (rest .index) (rest .earlier) }
   where
-    before : (k : ℕ) → ((i : ℕ) → i < k → getD checks i none ≡ none) → (i : ℕ) → i < suc k → getD {A = Check} (none ∷ checks) i none ≡ none
+    before :
+        (k : ℕ) → ((i : ℕ) → i < k → getD checks i none ≡ none) → (i : ℕ) → i < suc k
+        → getD {A = Check} (none ∷ checks) i none ≡ none
     before k f zero l = refl
     before k f (suc i) l = f i (le-of-suc-le-suc l)
 
@@ -45,11 +49,14 @@ pub applies-first : (checks : List Check) (r : Refusal) → FirstThatApplies che
 unfolding firstOf
 applies-first checks r h = go checks (h .index) (h .applies) (h .earlier)
   where
-    go : (checks : List Check) (k : ℕ) → getD checks k none ≡ some r → ((i : ℕ) → i < k → getD checks i none ≡ none) → firstOf checks ≡ some r
+    go :
+        (checks : List Check) (k : ℕ) → getD checks k none ≡ some r → ((i : ℕ) → i < k → getD checks i none ≡ none)
+        → firstOf checks ≡ some r
     go [] k a e = a
     go (x ∷ checks) zero a e = ap (λ (y : Check). orNext y (firstOf checks)) a
     go (x ∷ checks) (suc k) a e =
-        ap (λ (y : Check). orNext y (firstOf checks)) (e 0 (omega arith)) ∙ go checks k a (λ i l. e (suc i) (omega arith))
+        ap (λ (y : Check). orNext y (firstOf checks)) (e 0 (omega arith))
+        ∙ go checks k a (λ i l. e (suc i) (omega arith))
 
 -- none applies where the first so many pass, which are all
 pub all-pass : (checks : List Check) → ((i : ℕ) → i < length checks → getD checks i none ≡ none) → firstOf checks ≡ none
@@ -68,9 +75,12 @@ says-if : (b : Bool) (number : ℕ) → Says number (refuseIf b number)
 says-if true number r e = cc
 says-if false number r e = no-refusal e
 
-entry-says : (o : Option ℕ) (number : ℕ) (r : Refusal) → atEntry o number ≡ some r → (o ≡ some (r .place)) × (r .number ≡ number)
+entry-says :
+    (o : Option ℕ) (number : ℕ) (r : Refusal) → atEntry o number ≡ some r
+    → (o ≡ some (r .place)) × (r .number ≡ number)
 entry-says none number r e = no-refusal e
-entry-says (some i) number r e = (ap {B = Option ℕ} (λ (x : Refusal). some (x .place)) same, ap (λ (x : Refusal). x .number) (sym same))
+entry-says (some i) number r e =
+    (ap {B = Option ℕ} (λ (x : Refusal). some (x .place)) same, ap (λ (x : Refusal). x .number) (sym same))
   where
     same : refusal number i ≡ r
     same = cc
@@ -79,23 +89,33 @@ entry-says (some i) number r e = (ap {B = Option ℕ} (λ (x : Refusal). some (x
 
 pub data Plain : List ℕ → List Check → Type 0 where
   no-rows : Plain [] []
-  row-more : {number : ℕ} {x : Check} {numbers : List ℕ} {checks : List Check} → Says number x → Plain numbers checks → Plain (number ∷ numbers) (x ∷ checks)
+  row-more :
+      {number : ℕ} {x : Check} {numbers : List ℕ} {checks : List Check} → Says number x → Plain numbers checks
+      → Plain (number ∷ numbers) (x ∷ checks)
 
 pub plain-append : {ns ms : List ℕ} {xs ys : List Check} → Plain ns xs → Plain ms ys → Plain (ns ++ ms) (xs ++ ys)
 plain-append no-rows q = q
 plain-append (row-more f p) q = row-more f (plain-append p q)
 
 no-order : InOrder [] []
-no-order i r e = no-refusal e
+no-order = record { asMany = refl; says = λ i r e. no-refusal e }
 
-order-more : (number : ℕ) (x : Check) (ns : List ℕ) (xs : List Check) → ((r : Refusal) → x ≡ some r → r .number ≡ number) → InOrder ns xs → InOrder (number ∷ ns) (x ∷ xs)
-order-more number x ns xs f h zero r e = f r e
-order-more number x ns xs f h (suc i) r e = h i r e
+order-more :
+    (number : ℕ) (x : Check) (ns : List ℕ) (xs : List Check) → ((r : Refusal) → x ≡ some r → r .number ≡ number)
+    → InOrder ns xs → InOrder (number ∷ ns) (x ∷ xs)
+order-more number x ns xs f h = record { asMany = ap suc (h .asMany); says = at }
+  where
+    at : (i : ℕ) (r : Refusal) → getD (x ∷ xs) i none ≡ some r → r .number ≡ getD (number ∷ ns) i 0
+    at zero r e = f r e
+    at (suc i) r e = h .says i r e
 
-pub plain-then : {ns : List ℕ} {xs : List Check} → Plain ns xs → (ms : List ℕ) (ys : List Check) → InOrder ms ys → InOrder (ns ++ ms) (xs ++ ys)
+pub plain-then :
+    {ns : List ℕ} {xs : List Check} → Plain ns xs → (ms : List ℕ) (ys : List Check) → InOrder ms ys
+    → InOrder (ns ++ ms) (xs ++ ys)
 plain-then no-rows ms ys h = h
 plain-then (row-more {number} {x} {numbers} {checks} f p) ms ys h =
-    order-more number x (numbers ++ ms) (checks ++ ys) (λ r e. ap (λ (y : Refusal). y .number) (f r e)) (plain-then p ms ys h)
+    order-more number x (numbers ++ ms) (checks ++ ys) (λ r e. ap (λ (y : Refusal). y .number) (f r e))
+    (plain-then p ms ys h)
 
 pub plain-order : {ns : List ℕ} {xs : List Check} → Plain ns xs → InOrder ns xs
 plain-order no-rows = no-order
@@ -113,7 +133,9 @@ plain-first (row-more {number} {x} {numbers} {checks} f p) ys r h = go x f h (pl
     Out : List ℕ → Type 0
     Out ns = ((i : ℕ) × (r ≡ refusal (getD ns i 0) 0)) ⊎ (firstOf ys ≡ some r)
 
-    go : (x : Check) → Says number x → orNext x (firstOf (checks ++ ys)) ≡ some r → (firstOf (checks ++ ys) ≡ some r → Out numbers) → Out (number ∷ numbers)
+    go :
+        (x : Check) → Says number x → orNext x (firstOf (checks ++ ys)) ≡ some r
+        → (firstOf (checks ++ ys) ≡ some r → Out numbers) → Out (number ∷ numbers)
     go none f h ih = ⊎-elim (λ w. inl (suc (w .0), w .1)) (λ e. inr e) (ih h)
     go (some y) f h ih = inl (0, f r h)
 
@@ -132,7 +154,7 @@ each-at p (n ∷ ns) z h (suc i) = each-at p ns z (and-right (p n) (each p ns) h
 
 pub short-says : (s : List ℕ) → Says 1 (tooShort s)
 unfolding tooShort
-short-says s = says-if (ltb (length s) 8) 1
+short-says s = says-if (ltb (length s) headerSize) 1
 
 pub length-says : (given wanted : ℕ) → Says 6 (badLength given wanted)
 unfolding badLength
@@ -157,10 +179,10 @@ target-says last target = says-if (ltb target last) 12
 pub plain-settings : (c : Settings) → Plain (2 ∷ 3 ∷ 4 ∷ 5 ∷ []) (settingsChecks c)
 unfolding settingsChecks badCabinets badFaults badMethod badWindow
 plain-settings c =
-    row-more (says-if (eqb (c .n) 0 || ltb 64 (c .n)) 2)
+    row-more (says-if (eqb (c .n) 0 || ltb maxCabinets (c .n)) 2)
     (row-more (says-if (ltb (c .n) (3 * c .m + 1)) 3)
-    (row-more (says-if (ltb 1 (c .rule) || ltb 2 (c .estimator)) 4)
-    (row-more (says-if (ltb 1_000_000 (c .window)) 5) no-rows)))
+    (row-more (says-if (ltb cca (c .rule) || ltb midpoint (c .estimator)) 4)
+    (row-more (says-if (ltb maxWindow (c .window)) 5) no-rows)))
 
 pub plain-one : {number : ℕ} {x : Check} → Says number x → Plain (number ∷ []) (x ∷ [])
 plain-one f = row-more f no-rows
@@ -189,7 +211,8 @@ module _ (mark bits : ℕ → ℕ) (E : ℕ) where
   mark-place : (r : Refusal) → badMark mark E ≡ some r → LowestAtFault (λ e. 1 < mark e) E (r .place)
   unfolding badMark
   mark-place r h =
-      let found = lowest-found (λ e. ltb 1 (mark e)) E (r .place) (entry-says (lowest (λ e. ltb 1 (mark e)) E) 8 r h .0) in
+      let test : ℕ → Bool = λ e. ltb 1 (mark e) in
+      let found = lowest-found test E (r .place) (entry-says (lowest test E) 8 r h .0) in
       record {
         isEntry = found .inRange;
         atFault = ltb-true 1 (mark (r .place)) (found .passes);
@@ -200,7 +223,8 @@ module _ (mark bits : ℕ → ℕ) (E : ℕ) where
   not-zero zero h = clash h refl
   not-zero (suc x) h = omega arith
 
-  missing-place : (r : Refusal) → badMissing mark bits E ≡ some r → LowestAtFault (λ e. (mark e ≡ 0) × (0 < bits e)) E (r .place)
+  missing-place :
+      (r : Refusal) → badMissing mark bits E ≡ some r → LowestAtFault (λ e. (mark e ≡ 0) × (0 < bits e)) E (r .place)
   unfolding badMissing
   missing-place r h =
       let test : ℕ → Bool = λ e. eqb (mark e) 0 && not (eqb (bits e) 0) in
@@ -208,8 +232,13 @@ module _ (mark bits : ℕ → ℕ) (E : ℕ) where
       let e = r .place in
       record {
         isEntry = found .inRange;
-        atFault = (eqb-true (mark e) 0 (and-left (eqb (mark e) 0) _ (found .passes)), not-zero (bits e) (and-right (eqb (mark e) 0) _ (found .passes)));
-        lower = λ i l fault. clash (and-intro (eq-eqb (mark i) 0 (fault .0)) (ap not (ne-eqb (bits i) 0 (λ z. let f = fault .1 in omega arith)))) (found .first i l);
+        atFault = (
+          eqb-true (mark e) 0 (and-left (eqb (mark e) 0) _ (found .passes)),
+          not-zero (bits e) (and-right (eqb (mark e) 0) _ (found .passes)),
+        );
+        lower = λ i l fault.
+            let some-bits : eqb (bits i) 0 ≡ false = ne-eqb (bits i) 0 (λ z. let f = fault .1 in omega arith) in
+            clash (and-intro (eq-eqb (mark i) 0 (fault .0)) (ap not some-bits)) (found .first i l);
       }
 
   -- checks 8 and 9 between plain rows, whose numbers are neither
@@ -242,7 +271,9 @@ module _ (mark bits : ℕ → ℕ) (E : ℕ) where
         (λ e. at-mark (badMark mark E) refl e)
         (plain-first before (badMark mark E ∷ badMissing mark bits E ∷ ys) r h)
       where
-        at-missing : badMark mark E ≡ none → (x : Check) → badMissing mark bits E ≡ x → orNext x (firstOf ys) ≡ some r → Placed mark bits E r
+        at-missing :
+            badMark mark E ≡ none → (x : Check) → badMissing mark bits E ≡ x → orNext x (firstOf ys) ≡ some r
+            → Placed mark bits E r
         at-missing pass (some y) p e =
             let is : badMissing mark bits E ≡ some r = p ∙ e in
             let nine = missing-number r is in
@@ -258,7 +289,9 @@ module _ (mark bits : ℕ → ℕ) (E : ℕ) where
             (λ e. no-refusal e)
             (plain-first behind [] r (rw mathlib.Core.List.append-nil e))
 
-        at-mark : (x : Check) → badMark mark E ≡ x → orNext x (orNext (badMissing mark bits E) (firstOf ys)) ≡ some r → Placed mark bits E r
+        at-mark :
+            (x : Check) → badMark mark E ≡ x → orNext x (orNext (badMissing mark bits E) (firstOf ys)) ≡ some r
+            → Placed mark bits E r
         at-mark (some y) p e =
             let is : badMark mark E ≡ some r = p ∙ e in
             let eight = mark-number r is in

@@ -1,30 +1,30 @@
--- Demand 2 of settling: "Where no earlier check refuses, "too many faults" is said when no span as wide as the window holds N-m readings, and
--- never otherwise".
+-- Demand 2 of settling: "Where no earlier check refuses, "too many faults" is said when no span as wide as the window
+-- holds N-m readings, and never otherwise".
 -- Assumes nothing.
 use mathlib.Core.Bool.{Bool, true, false}
 use mathlib.Core.List.{List, [], _∷_, _++_}
 use mathlib.Core.Logic.{_↔_}
 use mathlib.Core.Option.{none, some}
 use mathlib.Core.Path.{_≡_, refl, sym, ap, _∙_}
-use Prim.Native.Nat.{ℕ, _≤_, _<_}
+use Prim.Native.Nat.{ℕ, _<_}
 use native.Mathlib.Omega.{arith}
 use borrow.Author.Tests.{eqb-true, eq-eqb, ltb-true}
 use lib.Dec.{eqb, ltb}
 use lib.ListN.{length, getD, List·getD-append}
-use Rattle.arithmetic.proofs.Bools.{clash}
 use Rattle.model.specs.declared.Refusal.{Refusal}
 use Rattle.model.specs.Ensemble.{quorum}
 use Rattle.model.specs.RoundSheet.{settingsAt, entryCount, entryAt, markAt, bitsAt}
 use Rattle.model.specs.AnswerSheet.{answerLength}
 use Rattle.model.specs.Steps.{readingsOf, roundAt}
-use Rattle.model.specs.Refusals.{refusal, Check, refuseIf, orNext, firstOf, noRoom, tooManyFaults, settingsChecks, sheetChecks, entryChecks, settleChecks}
-use Rattle.model.specs.Calls.{verdict, refused, settle}
+use Rattle.model.specs.Refusals.{refusal, Check, refuseIf, orNext, firstOf, noRoom, tooManyFaults, settingsChecks}
+use Rattle.model.specs.Refusals.{sheetChecks, entryChecks, settleChecks}
+use Rattle.model.specs.Calls.{verdict, settle}
 use Rattle.refusals.proofs.Checks.{first-snoc, none-at, none-left}
 use Rattle.refusals.proofs.Limits.{limits}
 use Rattle.sheets.proofs.Checks.{settings-passed}
 use Rattle.sheets.proofs.Outcomes.{refused-some}
 use Rattle.demands.specs.Demand1.{InOrder}
-use Rattle.demands.specs.Demand2.{FullSpan, Passed, NoSpan, TooManyFaults}
+use Rattle.demands.specs.Demand2.{Passed, NoSpan, TooManyFaults}
 use Rattle.demands.proofs.Orders.{no-rows, first-applies, all-pass, each, each-at, entry-order}
 use Rattle.demands.proofs.Demand1.{before-settle}
 use Rattle.demands.proofs.Spans.{too-many-faults}
@@ -45,7 +45,9 @@ module _ (s answer : List ℕ) where
 
   front-order : InOrder (1 ∷ 2 ∷ 3 ∷ 4 ∷ 5 ∷ 6 ∷ 7 ∷ 8 ∷ 9 ∷ []) front
   unfolding sheetChecks settingsChecks entryChecks
-  front-order = entry-order (markAt s) (bitsAt s (entryCount (settingsAt s))) (entryCount (settingsAt s)) (before-settle s answer) no-rows
+  front-order =
+      entry-order (markAt s) (bitsAt s (entryCount (settingsAt s))) (entryCount (settingsAt s))
+      (before-settle s answer) no-rows
 
   front-at : (i : ℕ) → i < 9 → getD (settleChecks s (length answer)) i none ≡ getD front i none
   front-at i l =
@@ -62,7 +64,9 @@ module _ (s answer : List ℕ) where
   first-row = ap firstOf rows ∙ first-snoc front (tooManyFaults (roundAt s .count))
 
   -- a check that says 10 is the last, and it says so where nothing is accepted
-  last-says : (r : Refusal) → r .number ≡ 10 → (x : Check) → firstOf front ≡ x → orNext x (tooManyFaults (roundAt s .count)) ≡ some r → (firstOf front ≡ none) × (roundAt s .count ≡ 0)
+  last-says :
+      (r : Refusal) → r .number ≡ 10 → (x : Check) → firstOf front ≡ x
+      → orNext x (tooManyFaults (roundAt s .count)) ≡ some r → (firstOf front ≡ none) × (roundAt s .count ≡ 0)
   unfolding tooManyFaults each
   last-says r ten none e h = (e, zeroes (eqb (roundAt s .count) 0) refl h)
     where
@@ -72,8 +76,9 @@ module _ (s answer : List ℕ) where
   last-says r ten (some y) e h =
       let first = first-applies front r (e ∙ h) in
       let numbers : List ℕ = 1 ∷ 2 ∷ 3 ∷ 4 ∷ 5 ∷ 6 ∷ 7 ∷ 8 ∷ 9 ∷ [] in
-      let few = ltb-true (getD numbers (first .index) 0) 10 (each-at (λ n. ltb n 10) numbers refl refl (first .index)) in
-      let number = front-order (first .index) r (first .applies) in
+      let i = first .index in
+      let few = ltb-true (getD numbers i 0) 10 (each-at (λ n. ltb n 10) numbers refl refl i) in
+      let number = front-order .says (first .index) r (first .applies) in
       absurd (omega arith)
 
   enough : firstOf front ≡ none → 0 < quorum (settingsAt s)
@@ -84,7 +89,8 @@ module _ (s answer : List ℕ) where
 
   faults : firstOf front ≡ none → (roundAt s .count ≡ 0) ↔ NoSpan s
   unfolding roundAt
-  faults pass = too-many-faults (settingsAt s) (readingsOf (settingsAt s) (entryAt s (entryCount (settingsAt s)))) (enough pass)
+  faults pass =
+      too-many-faults (settingsAt s) (readingsOf (settingsAt s) (entryAt s (entryCount (settingsAt s)))) (enough pass)
 
   last-ten : (x : Check) (k : ℕ) → x ≡ none → k ≡ 0 → orNext x (tooManyFaults k) ≡ some (refusal 10 0)
   unfolding tooManyFaults

@@ -20,11 +20,13 @@ use Rattle.rounds.proofs.Shifted.{accepted-shifted}
 -- the order of whole numbers is that of the naturals that they are moved up to
 pub le-up : (k : ℕ) (a b : ℤ) → mag a < k → mag b < k → leZ a b ≡ leb (up k a) (up k b)
 le-up k a b ha hb =
-    ap (λ z. leZ z b) (sym (down-up k a ha)) ∙ ap (leZ (down k (up k a))) (sym (down-up k b hb)) ∙ le-down k (up k a) (up k b)
+    ap (λ z. leZ z b) (sym (down-up k a ha)) ∙ ap (leZ (down k (up k a))) (sym (down-up k b hb))
+    ∙ le-down k (up k a) (up k b)
 
 pub lt-up : (k : ℕ) (a b : ℤ) → mag a < k → mag b < k → ltZ a b ≡ ltb (up k a) (up k b)
 lt-up k a b ha hb =
-    ap (λ z. ltZ z b) (sym (down-up k a ha)) ∙ ap (ltZ (down k (up k a))) (sym (down-up k b hb)) ∙ lt-down k (up k a) (up k b)
+    ap (λ z. ltZ z b) (sym (down-up k a ha)) ∙ ap (ltZ (down k (up k a))) (sym (down-up k b hb))
+    ∙ lt-down k (up k a) (up k b)
 
 pub le-of-down : (k a b : ℕ) → a ≤ b → down k a ≤ℤ down k b
 le-of-down k a b h = record { le = to-T (le-down k a b ∙ le-leb a b h) }

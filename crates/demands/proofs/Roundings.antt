@@ -1,13 +1,11 @@
 -- The definitions' quotients are what their names say: rounded down, rounded up, and nearest with a half going up.
 -- Assumes nothing.
-use mathlib.Core.Path.{_≡_, refl}
 use Prim.Native.Nat.{ℕ, zero, suc, _+_, _*_, _-_, _/_, _≤_, _<_}
 use native.Mathlib.Nat.{div-mul-le-self, lt-div-mul-add, mul-comm, mul-suc}
 use native.Mathlib.Omega.{arith}
 use borrow.Author.Tests.{le-leb, lt-ltb}
-use lib.Dec.{T}
-use lib.IntN.{ℤ, pos, negsuc, negℤ, subℕ, _+ℤ_, _*ℤ_}
-use lib.Signed.{leZ, ltZ, _≤ℤ_, _<ℤ_}
+use lib.IntN.{ℤ, pos, negsuc, negℤ, _+ℤ_}
+use lib.Signed.{_≤ℤ_, _<ℤ_}
 use Rattle.arithmetic.specs.Counting.{floorDiv}
 use Rattle.arithmetic.proofs.Bools.{to-T}
 use Rattle.arithmetic.specs.Naturals.{down}

@@ -1,5 +1,5 @@
--- "Each estimator lies between the lowest and the highest accepted reading", and the new value between the lowest and the highest used
--- value; so 32 bits hold both where they hold the readings.
+-- "Each estimator lies between the lowest and the highest accepted reading", and the new value between the lowest and
+-- the highest used value; so 32 bits hold both where they hold the readings.
 -- Assumes nothing.
 use mathlib.Core.Bool.{Bool, true}
 use mathlib.Core.Path.{_≡_, refl, sym, _∙_, subst, subst⁻¹}
@@ -19,7 +19,8 @@ use Rattle.model.specs.declared.Settings.{Settings}
 use Rattle.model.specs.Ensemble.{Readings, isPresent, ticks}
 use Rattle.model.specs.Steps.{acceptedAt, roundOf}
 use Rattle.rounds.proofs.Local.{EqualBelow}
-use Rattle.rounds.proofs.Natural.{acc-of, estimate-of, used-of, value-of, round-count, round-estimate, round-used, round-value}
+use Rattle.rounds.proofs.Natural.{acc-of, estimate-of, used-of, value-of, round-count, round-estimate, round-used}
+use Rattle.rounds.proofs.Natural.{round-value}
 use Rattle.rounds.proofs.Represent.{reach, reach-above, represented, raise, shift-raise}
 use Rattle.rounds.specs.Naturals.{shifted}
 use Rattle.limits.proofs.Estimates.{estimate-within, used-within, estimate-between}
@@ -77,8 +78,12 @@ module _ (c : Settings) (v : Readings) (some-acc : 0 < roundOf c v .count) where
         highest = hi .index;
         lowestAccepted = (lo .inRange, accepts (lo .index) (lo .inRange) ∙ lo .passes);
         highestAccepted = (hi .inRange, accepts (hi .index) (hi .inRange) ∙ hi .passes);
-        above = subst (λ z. z ≤ℤ roundOf c v .estimate) (raised (lo .index) (lo .inRange)) (subst⁻¹ (λ z. down k (raise k v (lo .index)) ≤ℤ z) e (le-of-down k _ _ (b .low)));
-        below = subst (λ z. roundOf c v .estimate ≤ℤ z) (raised (hi .index) (hi .inRange)) (subst⁻¹ (λ z. z ≤ℤ down k (raise k v (hi .index))) e (le-of-down k _ _ (b .high)));
+        above =
+            subst (λ z. z ≤ℤ roundOf c v .estimate) (raised (lo .index) (lo .inRange))
+            (subst⁻¹ (λ z. down k (raise k v (lo .index)) ≤ℤ z) e (le-of-down k _ _ (b .low)));
+        below =
+            subst (λ z. roundOf c v .estimate ≤ℤ z) (raised (hi .index) (hi .inRange))
+            (subst⁻¹ (λ z. z ≤ℤ down k (raise k v (hi .index))) e (le-of-down k _ _ (b .high)));
       }
 
   pub value-among : 0 < c .n → AmongUsed c v (roundOf c v .value)
@@ -87,29 +92,41 @@ module _ (c : Settings) (v : Readings) (some-acc : 0 < roundOf c v .count) where
       let lo = least (λ _. true) (used-of c pres (raise k v) k) (c .n) all in
       let hi = greatest (λ _. true) (used-of c pres (raise k v) k) (c .n) all in
       let e = round-value c pres (raise k v) v k same some-n counted in
-      let low = mean-above (c .n) some-n (used-of c pres (raise k v) k) (used-of c pres (raise k v) k (lo .index)) (λ r l. lo .first r l refl) in
-      let high = mean-below (c .n) some-n (used-of c pres (raise k v) k) (used-of c pres (raise k v) k (hi .index)) (λ r l. hi .first r l refl) in
+      let low =
+      mean-above (c .n) some-n (used-of c pres (raise k v) k) (used-of c pres (raise k v) k (lo .index))
+      (λ r l. lo .first r l refl) in
+      let high =
+      mean-below (c .n) some-n (used-of c pres (raise k v) k) (used-of c pres (raise k v) k (hi .index))
+      (λ r l. hi .first r l refl) in
       record {
         lowest = lo .index;
         highest = hi .index;
         lowestIn = lo .inRange;
         highestIn = hi .inRange;
-        above = subst⁻¹ (λ z. z ≤ℤ roundOf c v .value) (round-used c pres (raise k v) v k same counted (lo .index) (lo .inRange)) (subst⁻¹ (λ z. down k (used-of c pres (raise k v) k (lo .index)) ≤ℤ z) e (le-of-down k _ _ low));
-        below = subst⁻¹ (λ z. roundOf c v .value ≤ℤ z) (round-used c pres (raise k v) v k same counted (hi .index) (hi .inRange)) (subst⁻¹ (λ z. z ≤ℤ down k (used-of c pres (raise k v) k (hi .index))) e (le-of-down k _ _ high));
+        above =
+            subst⁻¹ (λ z. z ≤ℤ roundOf c v .value)
+            (round-used c pres (raise k v) v k same counted (lo .index) (lo .inRange))
+            (subst⁻¹ (λ z. down k (used-of c pres (raise k v) k (lo .index)) ≤ℤ z) e (le-of-down k _ _ low));
+        below =
+            subst⁻¹ (λ z. roundOf c v .value ≤ℤ z)
+            (round-used c pres (raise k v) v k same counted (hi .index) (hi .inRange))
+            (subst⁻¹ (λ z. z ≤ℤ down k (used-of c pres (raise k v) k (hi .index))) e (le-of-down k _ _ high));
       }
 
 -- ---- 32 bits hold the round
 
 -- a number moved down by 2^31 from below 2^32
 down-fits : (a : ℕ) → a ≤ 4_294_967_295 → SFits w32 (down bias a)
-down-fits a h = down-ind bias a (λ z. SFits w32 z) (λ l. record { sfits = omega arith }) (λ l. record { sfits = omega arith })
+down-fits a h =
+    down-ind bias a (λ z. SFits w32 z) (λ l. record { sfits = omega arith }) (λ l. record { sfits = omega arith })
 
 up-fits : (z : ℤ) → SFits w32 z → up bias z ≤ 4_294_967_295
 unfolding up
 up-fits (pos a) i = let h = i .sfits in omega arith
 up-fits (negsuc a) i = omega arith
 
-module _ (c : Settings) (v : Readings) (fits : (r : ℕ) → r < c .n → SFits w32 (ticks (v r))) (some-acc : 0 < roundOf c v .count) where
+module _ (c : Settings) (v : Readings) (fits : (r : ℕ) → r < c .n → SFits w32 (ticks (v r)))
+    (some-acc : 0 < roundOf c v .count) where
   abbrev here : ℕ → Bool
   here r = isPresent (v r)
 
@@ -124,19 +141,23 @@ module _ (c : Settings) (v : Readings) (fits : (r : ℕ) → r < c .n → SFits 
 
   used-small : (r : ℕ) → r < c .n → used-of c here (raise bias v) bias r ≤ 4_294_967_295
   used-small r l =
-      used-within (acc-of c here (raise bias v)) (c .n) (raise bias v) counted32 0 4_294_967_295 (λ i k e. zero-le) (λ i k e. small i k) bias (c .estimator) r l .high
+      used-within (acc-of c here (raise bias v)) (c .n) (raise bias v) counted32 0 4_294_967_295 (λ i k e. zero-le)
+      (λ i k e. small i k) bias (c .estimator) r l .high
 
   pub estimate-fits : SFits w32 (roundOf c v .estimate)
   estimate-fits =
       subst⁻¹ (SFits w32) (round-estimate c here (raise bias v) v bias same32 counted32)
       (down-fits (estimate-of c here (raise bias v) bias)
-      (estimate-within (acc-of c here (raise bias v)) (c .n) (raise bias v) counted32 0 4_294_967_295 (λ i k e. zero-le) (λ i k e. small i k) bias (c .estimator) .high))
+      (estimate-within (acc-of c here (raise bias v)) (c .n) (raise bias v) counted32 0 4_294_967_295
+      (λ i k e. zero-le) (λ i k e. small i k) bias (c .estimator) .high))
 
   pub used-fits : (r : ℕ) → r < c .n → SFits w32 (roundOf c v .used r)
   used-fits r l =
-      subst⁻¹ (SFits w32) (round-used c here (raise bias v) v bias same32 counted32 r l) (down-fits (used-of c here (raise bias v) bias r) (used-small r l))
+      subst⁻¹ (SFits w32) (round-used c here (raise bias v) v bias same32 counted32 r l)
+      (down-fits (used-of c here (raise bias v) bias r) (used-small r l))
 
   pub value-fits : 0 < c .n → SFits w32 (roundOf c v .value)
   value-fits some-n =
       subst⁻¹ (SFits w32) (round-value c here (raise bias v) v bias same32 some-n counted32)
-      (down-fits (value-of c here (raise bias v) bias) (mean-below (c .n) some-n (used-of c here (raise bias v) bias) 4_294_967_295 used-small))
+      (down-fits (value-of c here (raise bias v) bias)
+      (mean-below (c .n) some-n (used-of c here (raise bias v) bias) 4_294_967_295 used-small))

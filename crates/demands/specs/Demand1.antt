@@ -2,7 +2,7 @@
 -- proofs/Demand1.antt.
 --
 -- It speaks of `settle`, `read`, `write`, `row`, `plan`, `step` and `Target` of crates/model/specs/Calls.antt: the same
--- definitions that the functions' promises are equations with. The checks of a call are its list of rows in
+-- definitions that the functions' promises are equations with. The checks of a call are its list in
 -- crates/model/specs/Refusals.antt.
 --
 -- "Nothing is presumed checked": every field holds for all arguments. A list may be empty, or longer than any sheet,
@@ -20,17 +20,16 @@ use mathlib.Core.List.{List, [], _∷_}
 use mathlib.Core.Option.{none, some}
 use mathlib.Core.Path.{_≡_}
 use Prim.Native.Nat.{ℕ, _≤_, _<_}
-use lib.IntN.{ℤ, pos}
+use lib.IntN.{ℤ}
 use lib.ListN.{length, getD, take, drop}
-use mir.Syntax.{w32}
-use mir.Val.{ofZ}
 use Rattle.model.specs.declared.Settings.{Settings}
 use Rattle.model.specs.declared.Refusal.{Refusal}
-use Rattle.model.specs.RoundSheet.{settingsAt, entryCount, sheetLength, markAt, bitsAt, sheetBytes}
+use Rattle.model.specs.RoundSheet.{byte, settingsAt, entryCount, sheetLength, markAt, bitsAt, bitsIn, sheetBytes}
 use Rattle.model.specs.AnswerSheet.{answerLength, answerBytes}
 use Rattle.model.specs.Steps.{roundAt}
 use Rattle.model.specs.Planner.{Plan, planFrom, advance, after, Reaches}
-use Rattle.model.specs.Refusals.{Check, readChecks, writeChecks, rowChecks, settleChecks, planChecks, stepChecks, targetChecks}
+use Rattle.model.specs.Refusals.{Check, settleChecks, readChecks, writeChecks, rowChecks}
+use Rattle.model.specs.Refusals.{planChecks, stepChecks, targetChecks}
 use Rattle.model.specs.Calls.{Verdict, granted, refused, marksOf, ticksOf, read, write, row, settle, plan, step, Target}
 
 -- ---- "one answer sheet or one numbered refusal, the first that applies"
@@ -44,10 +43,11 @@ pub record FirstThatApplies (checks : List Check) (r : Refusal) : Type 0 where
   pub applies : getD checks index none ≡ some r
   pub earlier : (i : ℕ) → i < index → getD checks i none ≡ none
 
--- document 01: "Checks run in this order, those that apply to the call". Each check that refuses does so under the
--- number that stands at its place
-abbrev pub InOrder : List ℕ → List Check → Type 0
-InOrder numbers checks = (i : ℕ) (r : Refusal) → getD checks i none ≡ some r → r .number ≡ getD numbers i 0
+-- document 01: "Checks run in this order, those that apply to the call". There is a check for each of the numbers, and
+-- one that refuses does so under the number at its place
+pub record InOrder (numbers : List ℕ) (checks : List Check) : Type 0 where
+  pub asMany : length checks ≡ length numbers
+  pub says : (i : ℕ) (r : Refusal) → getD checks i none ≡ some r → r .number ≡ getD numbers i 0
 
 -- where no check applies the call grants, and what it grants is as Granted says; else it says the first refusal
 abbrev pub Gives : {A : Type 0} → List Check → (A → Type 0) → Verdict A → Type 0
@@ -91,7 +91,9 @@ pub record Placed (mark bits : ℕ → ℕ) (E : ℕ) (r : Refusal) : Type 0 whe
 pub record OfSettle (s answer : List ℕ) : Type 0 where
   pub order : InOrder (1 ∷ 2 ∷ 3 ∷ 4 ∷ 5 ∷ 6 ∷ 7 ∷ 8 ∷ 9 ∷ 10 ∷ []) (settleChecks s (length answer))
   -- "It leaves as one answer sheet or one numbered refusal, the first that applies": what is granted is its length
-  pub gives : Gives (settleChecks s (length answer)) (λ size. size ≡ answerLength (settingsAt s .n)) (settle s answer .verdict)
+  pub gives :
+      Gives (settleChecks s (length answer)) (λ size. size ≡ answerLength (settingsAt s .n))
+      (settle s answer .verdict)
   -- "and a refusal changes nothing in the answer buffer"; later bytes keep what they had
   pub leaves :
       Leaves (settle s answer .verdict) (answerBytes (settingsAt s .n) (roundAt s)) answer (settle s answer .buffer)
@@ -102,7 +104,9 @@ pub record OfSettle (s answer : List ℕ) : Type 0 where
 -- the reader: "refusing under 1 to 9 (7 when either array is shorter than E); entries past E keep what they had"
 pub record OfRead (s marks : List ℕ) (readings : List ℤ) : Type 0 where
   pub order : InOrder (1 ∷ 2 ∷ 3 ∷ 4 ∷ 5 ∷ 6 ∷ 7 ∷ 7 ∷ 8 ∷ 9 ∷ []) (readChecks s (length marks) (length readings))
-  pub gives : Gives (readChecks s (length marks) (length readings)) (λ c. c ≡ settingsAt s) (read s marks readings .verdict)
+  pub gives :
+      Gives (readChecks s (length marks) (length readings)) (λ c. c ≡ settingsAt s)
+      (read s marks readings .verdict)
   pub leavesMarks : Leaves (read s marks readings .verdict) (marksOf s) marks (read s marks readings .marks)
   pub leavesReadings : Leaves (read s marks readings .verdict) (ticksOf s) readings (read s marks readings .readings)
   pub place :
@@ -114,12 +118,14 @@ pub record OfRead (s marks : List ℕ) (readings : List ℤ) : Type 0 where
 pub record OfWrite (c : Settings) (marks : List ℕ) (readings : List ℤ) (buffer : List ℕ) : Type 0 where
   pub order : InOrder (2 ∷ 3 ∷ 4 ∷ 5 ∷ 6 ∷ 6 ∷ 7 ∷ 8 ∷ 9 ∷ []) (writeChecks c marks readings (length buffer))
   pub gives :
-      Gives (writeChecks c marks readings (length buffer)) (λ size. size ≡ sheetLength c) (write c marks readings buffer .verdict)
+      Gives (writeChecks c marks readings (length buffer)) (λ size. size ≡ sheetLength c)
+      (write c marks readings buffer .verdict)
   pub leaves :
-      Leaves (write c marks readings buffer .verdict) (sheetBytes c marks readings) buffer (write c marks readings buffer .buffer)
+      Leaves (write c marks readings buffer .verdict) (sheetBytes c marks readings) buffer
+      (write c marks readings buffer .buffer)
   pub place :
       (r : Refusal) → write c marks readings buffer .verdict ≡ refused r
-      → Placed (λ e. getD marks e 0) (λ e. ofZ w32 (getD readings e (pos 0))) (entryCount c) r
+      → Placed (byte marks) (bitsIn readings) (entryCount c) r
 
 -- the row accessor: "A sheet that checks 1 to 6, 8 or 9 refuse .. shows an empty part"
 pub record OfRow (s : List ℕ) : Type 0 where
@@ -144,7 +150,9 @@ pub record OfStep (p : Plan) : Type 0 where
 -- that it may be given
 pub record OfTarget (c : Settings) (κ target : ℕ) : Type 0 where
   pub order : InOrder (2 ∷ 3 ∷ 4 ∷ 5 ∷ 11 ∷ 12 ∷ []) (targetChecks c κ target)
-  pub gives : (answer : Verdict ℕ) → Target c κ target answer → Gives (targetChecks c κ target) (Reaches c κ target) answer
+  pub gives :
+      (answer : Verdict ℕ) → Target c κ target answer
+      → Gives (targetChecks c κ target) (Reaches c κ target) answer
   pub some : (answer : Verdict ℕ) × Target c κ target answer
   pub place : (r : Refusal) → Target c κ target (refused r) → r .place ≡ 0
 
@@ -154,7 +162,7 @@ pub record Demand1 : Type 0 where
   pub ofSettle : (s answer : List ℕ) → OfSettle s answer
   pub ofRead : (s marks : List ℕ) (readings : List ℤ) → OfRead s marks readings
   pub ofWrite : (c : Settings) (marks : List ℕ) (readings : List ℤ) (buffer : List ℕ) → OfWrite c marks readings buffer
-  pub ofCheck : (s : List ℕ) → OfRow s
+  pub ofRow : (s : List ℕ) → OfRow s
   pub ofPlan : (c : Settings) (κ k : ℕ) → OfPlan c κ k
   pub ofStep : (p : Plan) → OfStep p
   pub ofTarget : (c : Settings) (κ target : ℕ) → OfTarget c κ target

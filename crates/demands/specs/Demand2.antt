@@ -1,23 +1,27 @@
 -- Demand 2: the steps of a round, the planner's windows and accuracies, "too many faults", and the round trips of a
 -- sheet. The theorem is `demand-2` of proofs/Demand2.antt.
 --
--- It says of `roundOf`, `readingsOf`, `settle`, `read`, `write`, `plan` and `step` of crates/model/specs, by which the
--- functions' promises are equations, what the paper and document 01 say of a round in their own words: any span, not
--- only those that start at a reading; what an estimate is among the accepted readings; what a mean is nearest to.
--- `settle` writes the round `roundAt` of a sheet: `roundOf` its settings and its `readingsOf`.
+-- It speaks of `roundOf`, `readingsOf`, `settle`, `read`, `write`, `plan` and `step` of crates/model/specs, the same
+-- definitions that the functions' promises are equations with, and says in the words of the paper and of document 01
+-- what they are: any span, and not only those that start at a reading; what an estimate is among the accepted readings;
+-- what the mean is nearest to. What `settle` writes is `roundAt` of the sheet: `roundOf` its settings and its
+-- `readingsOf`.
 --
--- What is not claimed: an estimate where no reading is accepted, and a decision where N is below 3m+1, which no call
--- that grants has.
+-- What is not claimed: an estimate where no reading is accepted; a decision where N is below 3m+1. No call grants
+-- there.
 --
---   FullSpan, SpanWith, Accepted                 a span that holds N-m readings; one that holds a given reading too
---   RoundedDown, RoundedUp, NearestWhole          quotients
---   AcceptedReading, FromBelow, LowestAccepted, HighestAccepted, Midpoint, Estimate      the estimators
---   copiesEqual, Decided                          the crusaders decision
---   Used                                     used values and the new value
---   Forward, PlannedRounds                         the planner, round by round
---   Passed, NoSpan, TooManyFaults            refusal 10
---   WrittenThenRead, ReadThenWritten         the round trips
---   Demand2                                  all of it
+--   FullSpan, SpanWith               a span that holds N-m readings; one that holds a given reading too
+--   Accepted                         which readings are accepted, their count, their marks
+--   RoundedDown, RoundedUp, NearestWhole     quotients
+--   AcceptedReading, FromBelow, LowestAccepted, HighestAccepted, Midpoint     words for the estimators
+--   Estimate                         average, median or midpoint
+--   copiesEqual, Decided             the crusaders decision
+--   Used                             used values, and the new value
+--   Bytes, Shown                     bytes; what the answer sheet shows of the round
+--   PlannedRounds, Forward           the planner; one round of it
+--   Passed, NoSpan, TooManyFaults    refusal 10
+--   ReadThenWritten, WrittenThenRead the round trips
+--   Demand2                          all of it
 use mathlib.Core.Bool.{true, false, cond, _&&_}
 use mathlib.Core.List.{List}
 use mathlib.Core.Logic.{_↔_}
@@ -28,22 +32,22 @@ use lib.IntN.{ℤ, pos, _+ℤ_, _*ℤ_}
 use lib.ListN.{length, getD, take}
 use lib.Signed.{leZ, ltZ, _≤ℤ_, _<ℤ_}
 use mir.Syntax.{w32}
-use mir.Val.{SFits}
+use mir.Val.{SFits, toZ}
 use Rattle.arithmetic.specs.Counting.{count, sum}
 use Rattle.arithmetic.specs.Writing.{overwrite}
 use Rattle.model.specs.declared.Settings.{Settings}
 use Rattle.model.specs.declared.Refusal.{Refusal}
 use Rattle.model.specs.Ensemble.{missing, present, Readings, ticks, quorum}
-use Rattle.model.specs.RoundSheet.{fca, cca, average, median, midpoint, byte, settingsAt, entryCount, entryAt}
-use Rattle.model.specs.Steps.{same, readingsOf, inside, held, acceptedAt, roundOf}
-use Rattle.model.specs.Planner.{Plan, planFrom, maxRounds}
+use Rattle.model.specs.RoundSheet.{fca, cca, average, median, midpoint, byte, word, settingsAt, entryCount, entryAt}
+use Rattle.model.specs.Steps.{same, readingsOf, inside, held, acceptedAt, roundOf, roundAt}
+use Rattle.model.specs.Planner.{Plan, planFrom, withWindow, maxRounds}
 use Rattle.model.specs.Refusals.{refusal, settleChecks}
 use Rattle.model.specs.Calls.{granted, refused, read, write, settle, plan, step}
 use Rattle.planning.specs.Stepping.{steps}
 
 -- ---- Accepted readings
 
--- a span [s, f] "with .. f - s ≤ δ" that "holds at least N-m present readings, equal ones counted each"
+-- a span [s, f] with "f - s ≤ δ" that "holds at least N-m present readings, equal ones counted each"
 pub record FullSpan (c : Settings) (v : Readings) : Type 0 where
   pub start : ℤ
   pub end : ℤ
@@ -55,14 +59,14 @@ pub record SpanWith (c : Settings) (v : Readings) (r : ℕ) : Type 0 where
   pub span : FullSpan c v
   pub within : inside (span .start) (span .end) (v r) ≡ true
 
--- "A reading v is accepted if some span [s, f] with s ≤ v ≤ f and f - s ≤ δ holds at least N-m present readings"; the
--- answer sheet has the count of these, and the marks "0 missing or known faulty, 1 accepted, 2 present and not accepted"
+-- "A reading v is accepted if some span [s, f] with s ≤ v ≤ f and f - s ≤ δ holds at least N-m present readings". The
+-- marks: "0 missing or known faulty, 1 accepted, 2 present and not accepted"
 pub record Accepted (c : Settings) (v : Readings) : Type 0 where
   pub someSpan : (r : ℕ) → r < c .n → (acceptedAt c v r ≡ true) ↔ SpanWith c v r
   pub counted : roundOf c v .count ≡ count (acceptedAt c v) (c .n)
   pub markMissing : (r : ℕ) → v r ≡ missing → roundOf c v .mark r ≡ 0
   pub markAccepted : (r : ℕ) (z : ℤ) → v r ≡ present z → acceptedAt c v r ≡ true → roundOf c v .mark r ≡ 1
-  pub markRefused : (r : ℕ) (z : ℤ) → v r ≡ present z → acceptedAt c v r ≡ false → roundOf c v .mark r ≡ 2
+  pub markNotAccepted : (r : ℕ) (z : ℤ) → v r ≡ present z → acceptedAt c v r ≡ false → roundOf c v .mark r ≡ 2
 
 -- ---- The estimate, "over accepted readings only"
 
@@ -103,23 +107,23 @@ pub record Midpoint (c : Settings) (v : Readings) (z : ℤ) : Type 0 where
 
 pub record Estimate (c : Settings) (v : Readings) (z : ℤ) : Type 0 where
   -- "average, sum over count rounded down"
-  pub average :
+  pub byAverage :
       c .estimator ≡ average
       → RoundedDown (sum (λ r. cond (acceptedAt c v r) (ticks (v r)) (pos 0)) (c .n)) (roundOf c v .count) z
   -- "median, the element numbered ⌈count/2⌉ from below, counting from 1": the count is 2h or 2h - 1
-  pub median :
+  pub byMedian :
       c .estimator ≡ median
       → (h : ℕ) → roundOf c v .count ≤ 2 * h → 2 * h ≤ roundOf c v .count + 1 → FromBelow c v h z
-  pub midpoint : c .estimator ≡ midpoint → Midpoint c v z
+  pub byMidpoint : c .estimator ≡ midpoint → Midpoint c v z
 
 -- ---- The crusaders decision
 
--- how many present copiesEqual of r's value equal z: "entry r × N + s being the copy of r's value that s relayed"
+-- how many present copies of r's value equal z: "entry r × N + s being the copy of r's value that s relayed"
 abbrev pub copiesEqual : Settings → Readings → ℕ → ℤ → ℕ
 copiesEqual c entry r z = count (λ s. same (present z) (entry (r * c .n + s))) (c .n)
 
--- what is read of r. FCA: what r sent. "CCA first decides each row: the value that at least N-m present copiesEqual equal. If there is none, that cabinet is known
--- faulty and its reading missing"
+-- what is read of r. FCA: what r sent. "CCA first decides each row: the value that at least N-m present copies equal.
+-- If there is none, that cabinet is known faulty and its reading missing"
 pub record Decided (c : Settings) (entry : Readings) (r : ℕ) : Type 0 where
   pub direct : c .rule ≡ fca → readingsOf c entry r ≡ entry r
   pub value : c .rule ≡ cca → (z : ℤ) → (readingsOf c entry r ≡ present z) ↔ (quorum c ≤ copiesEqual c entry r z)
@@ -139,6 +143,21 @@ pub record Used (c : Settings) (v : Readings) : Type 0 where
   pub replaced : (r : ℕ) → acceptedAt c v r ≡ false → roundOf c v .used r ≡ roundOf c v .estimate
   pub mean : 0 < c .n → NearestWhole (sum (roundOf c v .used) (c .n)) (c .n) (roundOf c v .value)
 
+-- ---- The answer sheet
+
+abbrev pub Bytes : List ℕ → Type 0
+Bytes s = (i : ℕ) → byte s i < 256
+
+-- the round of the sheet s, as an answer sheet shows it: "Byte 0 N; byte 1 the accepted count; bytes 2 to 5 the
+-- estimate; bytes 6 to 9 the new value; then N marks ..; then N used values". No value is cut to fit its four bytes
+pub record Shown (s answer : List ℕ) : Type 0 where
+  pub cabinets : byte answer 0 ≡ settingsAt s .n
+  pub counted : byte answer 1 ≡ roundAt s .count
+  pub estimate : toZ w32 (word answer 2) ≡ roundAt s .estimate
+  pub value : toZ w32 (word answer 6) ≡ roundAt s .value
+  pub mark : (r : ℕ) → r < settingsAt s .n → byte answer (10 + r) ≡ roundAt s .mark r
+  pub used : (r : ℕ) → r < settingsAt s .n → toZ w32 (word answer (10 + settingsAt s .n + 4 * r)) ≡ roundAt s .used r
+
 -- ---- The planner
 
 -- q is ⌈a / n⌉: it covers a, by less than n too much
@@ -146,7 +165,7 @@ pub record RoundedUp (a n q : ℕ) : Type 0 where
   pub covers : a ≤ n * q
   pub least : n * q < a + n
 
--- one round forward, from p to q
+-- "A plan goes forward one round at a time and hands back the plan that follows": from p to q
 pub record Forward (p q : Plan) : Type 0 where
   -- "The next window is ⌈2mδ/N⌉, or ⌈mδ/N⌉ for CCA with median"
   pub window :
@@ -160,19 +179,14 @@ pub record Forward (p q : Plan) : Type 0 where
   pub accuracy : q .accuracy ≡ p .accuracy + growth
   pub share : RoundedUp (p .settings .m * p .settings .window) (p .settings .n) growth
   pub rounds : q .rounds ≡ p .rounds + 1
-  -- nothing else changes
-  pub n : q .settings .n ≡ p .settings .n
-  pub m : q .settings .m ≡ p .settings .m
-  pub rule : q .settings .rule ≡ p .settings .rule
-  pub estimator : q .settings .estimator ≡ p .settings .estimator
+  -- of the settings only the window changes
+  pub kept : q .settings ≡ withWindow (p .settings) (q .settings .window)
 
--- "The planner's windows and accuracies, after any number of rounds, are those that document 01 defines"
 pub record PlannedRounds (c : Settings) (κ : ℕ) : Type 0 where
-  -- "The plan has window δ, accuracy κ and no round done"
+  -- for no round: "The plan has window δ, accuracy κ and no round done"
   pub fresh : (p : Plan) → plan c κ 0 ≡ granted p → p ≡ planFrom c κ
-  -- "A plan goes forward one round at a time": the plan for k rounds is k steps from the fresh one
+  -- for k rounds: k steps from there
   pub stepwise : (k : ℕ) → k ≤ maxRounds → plan c κ k ≡ steps k (plan c κ 0)
-  pub forward : (p q : Plan) → step p ≡ granted q → Forward p q
 
 -- ---- "Too many faults"
 
@@ -191,16 +205,18 @@ pub record TooManyFaults (s answer : List ℕ) : Type 0 where
 
 -- ---- Round trips
 
--- "A sheet read and written again has the same bytes": written from the settings and the entries that were read, into
--- any buffer that has room
+-- "A sheet read and written again has the same bytes": what was read is written into any buffer that has room
 abbrev pub ReadThenWritten : List ℕ → List ℕ → List ℤ → List ℕ → Type 0
 ReadThenWritten s marks readings buffer =
-    ((i : ℕ) → byte s i < 256) → length s ≤ length buffer
+    Bytes s → length s ≤ length buffer
     → (c : Settings) → read s marks readings .verdict ≡ granted c
-    → write c (take (entryCount c) (read s marks readings .marks)) (take (entryCount c) (read s marks readings .readings)) buffer
+    → write c
+    (take (entryCount c) (read s marks readings .marks))
+    (take (entryCount c) (read s marks readings .readings))
+    buffer
     ≡ record { verdict = granted (length s); buffer = overwrite s buffer }
 
--- "and one written reads back the same": the settings, and the entries in any two arrays that have room
+-- "and one written reads back the same": readings of 32 bits, into any two arrays that have room
 abbrev pub WrittenThenRead : Settings → List ℕ → List ℤ → List ℕ → Type 0
 WrittenThenRead c marks readings buffer =
     ((e : ℕ) → e < entryCount c → SFits w32 (getD readings e (pos 0)))
@@ -219,8 +235,12 @@ pub record Demand2 : Type 0 where
   pub estimate : (c : Settings) (v : Readings) → 0 < roundOf c v .count → Estimate c v (roundOf c v .estimate)
   pub decision : (c : Settings) (entry : Readings) (r : ℕ) → 3 * c .m + 1 ≤ c .n → Decided c entry r
   pub mean : (c : Settings) (v : Readings) → Used c v
+  pub shown :
+      (s answer : List ℕ) → Bytes s
+      → (size : ℕ) → settle s answer .verdict ≡ granted size → Shown s (settle s answer .buffer)
   -- "The planner's windows and accuracies, after any number of rounds, are those that document 01 defines"
   pub planned : (c : Settings) (κ : ℕ) → PlannedRounds c κ
+  pub forward : (p q : Plan) → step p ≡ granted q → Forward p q
   -- "Where no earlier check refuses, "too many faults" is said when no span as wide as the window holds N-m readings,
   -- and never otherwise"
   pub tooManyFaults : (s answer : List ℕ) → TooManyFaults s answer

@@ -1,5 +1,5 @@
--- Document 01, "Rounds on paper": cases 1 to 12 as questions with their answers, in its order. `proofs/Cases.antt` has the theorem
--- that the definitions give these answers, computed by the checker.
+-- Document 01, "Rounds on paper": cases 1 to 12 as questions with their answers, in its order. `proofs/Cases.antt` has
+-- the theorem that the definitions give these answers, computed by the checker.
 --   Question, ask    what a case asks, and what the definitions answer
 --   Case, cases      a question with the answer that document 01 gives it, and the table of them
 --   sheet1, listing1 case 1's sheet in bytes, and the listing that document 01 prints for it
@@ -8,12 +8,12 @@ use mathlib.Core.List.{List, [], _∷_, map}
 use mathlib.Core.Option.{none, some}
 use Prim.Native.Nat.{ℕ, _-_}
 use lib.ListN.{getD}
-use lib.IntN.{ℤ, pos, negsuc}
+use lib.IntN.{ℤ, pos, negsuc, natAbs, _-ℤ_}
 use Rattle.model.specs.declared.Settings.{Settings}
 use Rattle.model.specs.Ensemble.{Reading, missing, present, ticks}
 use Rattle.model.specs.RoundSheet.{fca, cca, median, midpoint, sheetBytes}
 use Rattle.model.specs.Steps.{Decision, decided, knownFaulty, decideRow, Round, readingsOf, roundOf}
-use Rattle.model.specs.Planner.{planFrom, after}
+use Rattle.model.specs.Planner.{planFrom, after, ceilDiv}
 use Rattle.model.specs.Refusals.{Check, firstOf, tooManyFaults, targetChecks}
 use Rattle.model.specs.Calls.{row}
 
@@ -26,6 +26,8 @@ pub data Question : Type 0 where
   settled : Settings → List Reading → Question
   -- the value used for a cabinet, and the new value
   replaced : Settings → List Reading → ℕ → Question
+  -- how far the new values of two rounds are apart, and beside it a quotient rounded up
+  gap : Settings → List Reading → List Reading → ℕ → ℕ → Question
   -- the decision of a row at N and m
   decision : ℕ → ℕ → List Reading → Question
   -- the window and the accuracy after some rounds
@@ -55,12 +57,17 @@ unfoldable pub ofRound : Round → List ℤ → Answer
 ofRound r shown = ofCheck (tooManyFaults (r .count)) (gives shown)
 
 unfoldable pub ask : Question → Answer
-ask (round c es) = ofRound (roundFrom c es) (pos (roundFrom c es .count) ∷ roundFrom c es .estimate ∷ roundFrom c es .value ∷ [])
+ask (round c es) =
+    ofRound (roundFrom c es) (pos (roundFrom c es .count) ∷ roundFrom c es .estimate ∷ roundFrom c es .value ∷ [])
 ask (counted c es) = ofRound (roundFrom c es) (pos (roundFrom c es .count) ∷ roundFrom c es .value ∷ [])
 ask (settled c es) = ofRound (roundFrom c es) (roundFrom c es .value ∷ [])
 ask (replaced c es r) = ofRound (roundFrom c es) (roundFrom c es .used r ∷ roundFrom c es .value ∷ [])
+ask (gap c es fs a n) =
+    ofCheck (tooManyFaults (roundFrom c es .count))
+    (ofRound (roundFrom c fs) (pos (natAbs (roundFrom c es .value -ℤ roundFrom c fs .value)) ∷ pos (ceilDiv a n) ∷ []))
 ask (decision n m copies) = ofDecision (decideRow (n - m) n (λ s. getD copies s missing))
-ask (planned c κ k) = gives (pos (after k (planFrom c κ) .settings .window) ∷ pos (after k (planFrom c κ) .accuracy) ∷ [])
+ask (planned c κ k) =
+    gives (pos (after k (planFrom c κ) .settings .window) ∷ pos (after k (planFrom c κ) .accuracy) ∷ [])
 ask (target c κ t) = ofCheck (firstOf (targetChecks c κ t)) grants
 
 pub record Case : Type 0 where
@@ -86,6 +93,13 @@ minus x = present (negsuc (x - 1))
 abbrev pub plan11 : Settings
 plan11 = settings 4 1 fca median 100
 
+-- the readings of cases 7 and 8
+abbrev pub readings7 : List Reading
+readings7 = at 0 ∷ at 0 ∷ at 10 ∷ at 10 ∷ at 10 ∷ at 20 ∷ at 20 ∷ []
+
+abbrev pub readings8 : List Reading
+readings8 = at 0 ∷ at 0 ∷ at 10 ∷ at 10 ∷ at 10 ∷ at 20 ∷ at 0 ∷ []
+
 -- case 10's rows: three cabinets whose copies agree, and the copies of cabinet 3
 abbrev pub rows10 : List Reading → List Reading
 rows10 last =
@@ -101,7 +115,8 @@ cases =
     -- 2: as 1, δ 9: refusal 10
     ∷ case 2 (round (settings 4 1 fca median 9) (at 0 ∷ at 4 ∷ at 10 ∷ at 500 ∷ [])) (refuses 10)
     -- 3: as 1, midpoint: estimate 5, new 5 (19/4)
-    ∷ case 3 (round (settings 4 1 fca midpoint 10) (at 0 ∷ at 4 ∷ at 10 ∷ at 500 ∷ [])) (gives (pos 3 ∷ pos 5 ∷ pos 5 ∷ []))
+    ∷ case 3 (round (settings 4 1 fca midpoint 10) (at 0 ∷ at 4 ∷ at 10 ∷ at 500 ∷ []))
+    (gives (pos 3 ∷ pos 5 ∷ pos 5 ∷ []))
     -- 4: N 1, m 0, δ 0; -3: new -3
     ∷ case 4 (settled (settings 1 0 fca median 0) (minus 3 ∷ [])) (gives (negsuc 2 ∷ []))
     -- 5: N 2, m 0, δ 1; -1, 0: new 0. With 0, 1: new 1
@@ -111,15 +126,18 @@ cases =
     ∷ case 6 (settled (settings 5 1 fca median 20) (at 0 ∷ at 0 ∷ at 10 ∷ at 20 ∷ at 30 ∷ [])) (gives (pos 6 ∷ []))
     ∷ case 6 (settled (settings 5 1 fca median 20) (at 40 ∷ at 40 ∷ at 10 ∷ at 20 ∷ at 30 ∷ [])) (gives (pos 32 ∷ []))
     -- 7: N 7, m 2, δ 10; 0, 0, 10, 10, 10, 20, 20: all accepted, new 10
-    ∷ case 7 (counted (settings 7 2 fca median 10) (at 0 ∷ at 0 ∷ at 10 ∷ at 10 ∷ at 10 ∷ at 20 ∷ at 20 ∷ [])) (gives (pos 7 ∷ pos 10 ∷ []))
-    -- 8: as 7, last reading 0: 20 replaced by 0, new 4
-    ∷ case 8 (replaced (settings 7 2 fca median 10) (at 0 ∷ at 0 ∷ at 10 ∷ at 10 ∷ at 10 ∷ at 20 ∷ at 0 ∷ []) 5) (gives (pos 0 ∷ pos 4 ∷ []))
+    ∷ case 7 (counted (settings 7 2 fca median 10) readings7) (gives (pos 7 ∷ pos 10 ∷ []))
+    -- 8: as 7, last reading 0: 20 replaced by 0, new 4. The gap from 7 is 6 = ⌈40/7⌉
+    ∷ case 8 (replaced (settings 7 2 fca median 10) readings8 5) (gives (pos 0 ∷ pos 4 ∷ []))
+    ∷ case 8 (gap (settings 7 2 fca median 10) readings7 readings8 40 7) (gives (pos 6 ∷ pos 6 ∷ []))
     -- 9: row, N 4, m 1: 7, 7, 7, 9 gives 7; 7, 7, 9, 9 is known faulty
     ∷ case 9 (decision 4 1 (at 7 ∷ at 7 ∷ at 7 ∷ at 9 ∷ [])) (gives (pos 7 ∷ []))
     ∷ case 9 (decision 4 1 (at 7 ∷ at 7 ∷ at 9 ∷ at 9 ∷ [])) faulty
     -- 10: CCA, N 4, m 1, δ 20, decided -10, 0, 10, known faulty: new 0. With 20 for the last: new 5
-    ∷ case 10 (settled (settings 4 1 cca median 20) (rows10 (at 20 ∷ at 20 ∷ missing ∷ missing ∷ []))) (gives (pos 0 ∷ []))
-    ∷ case 10 (settled (settings 4 1 cca median 20) (rows10 (at 20 ∷ at 20 ∷ at 20 ∷ missing ∷ []))) (gives (pos 5 ∷ []))
+    ∷ case 10 (settled (settings 4 1 cca median 20) (rows10 (at 20 ∷ at 20 ∷ missing ∷ missing ∷ [])))
+    (gives (pos 0 ∷ []))
+    ∷ case 10 (settled (settings 4 1 cca median 20) (rows10 (at 20 ∷ at 20 ∷ at 20 ∷ missing ∷ [])))
+    (gives (pos 5 ∷ []))
     -- 11: plan, N 4, m 1, FCA, δ 100, κ 100: windows 50, 25, 13; κ 125, 138, 145
     ∷ case 11 (planned plan11 100 1) (gives (pos 50 ∷ pos 125 ∷ []))
     ∷ case 11 (planned plan11 100 2) (gives (pos 25 ∷ pos 138 ∷ []))
@@ -151,7 +169,8 @@ sheet10 =
     (1 ∷ 1 ∷ 1 ∷ 1 ∷ 1 ∷ 1 ∷ 1 ∷ 1 ∷ 1 ∷ 1 ∷ 1 ∷ 1 ∷ 1 ∷ 1 ∷ 1 ∷ 0 ∷ [])
     (map ticks (rows10 (at 20 ∷ at 20 ∷ at 20 ∷ missing ∷ [])))
 
--- the rows that the accessor shows: for FCA a cabinet's four bytes, for CCA its N readings, for a number of N or above nothing
+-- the rows that the accessor shows: for FCA a cabinet's four bytes, for CCA its N readings, for a number of N or above
+-- nothing
 unfoldable pub rowsShown : List (List ℕ)
 rowsShown = row sheet1 0 ∷ row sheet1 3 ∷ row sheet1 4 ∷ row sheet10 0 ∷ row sheet10 3 ∷ row sheet10 4 ∷ []
 

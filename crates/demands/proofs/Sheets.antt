@@ -41,7 +41,8 @@ one-of : (b : Bool) (v u : Reading) → Holds v → Holds u → Holds (cond b v 
 one-of true v u hv hu = hv
 one-of false v u hv hu = hu
 
-decided-fits : (need n : ℕ) (copy : Readings) → ((s : ℕ) → Holds (copy s)) → Holds (decidedReading (decideRow need n copy))
+decided-fits :
+    (need n : ℕ) (copy : Readings) → ((s : ℕ) → Holds (copy s)) → Holds (decidedReading (decideRow need n copy))
 unfolding decideRow
 decided-fits need n copy fits = go (lowest (λ s. leb need (count (λ t. same (copy s) (copy t)) n)) n)
   where

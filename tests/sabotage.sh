@@ -19,7 +19,8 @@ cd "$room/repo" || exit 2
 git add -A && git -c user.name=sabotage -c user.email=none commit -q --allow-empty -m "as it is"
 cp -R "$top/target" target || exit 2
 mkdir -p outside/target
-[ ! -f target/staticlib/libtohiranga.a ] || touch target/staticlib/libtohiranga.a
+# the library stays as it is: no sabotage here is of what it does
+keep_library() { [ ! -f target/staticlib/libtohiranga.a ] || touch target/staticlib/libtohiranga.a; }
 
 asked() { # NAME
     local word
@@ -40,7 +41,7 @@ sabotage() {
     if ! eval "$2" || git diff --quiet && [ -z "$(git status --porcelain)" ]; then
         echo "$1: NOTHING WAS CHANGED"
         missed+=("$1")
-    elif eval "$3" >"$room/said" 2>&1; then
+    elif keep_library && eval "$3" >"$room/said" 2>&1; then
         echo "$1: NOT FOUND by $3"
         missed+=("$1")
     elif [ -n "${4:-}" ] && ! grep -q -- "$4" "$room/said"; then

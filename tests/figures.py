@@ -4,7 +4,7 @@
     tests/figures.py c           what bindings/c/figures.c must print
     tests/figures.py rust        what bindings/rust/examples/figures.rs must print
     tests/figures.py text K      what refusal K means
-    tests/figures.py version     the version
+    tests/figures.py version     the version; number: as one number
 
 Numbers are read from crates/model/specs and crates/version/specs, the numbers of refusal from the table of crates/model/specs/Refusals.antt,
 and what each means from README's table.
@@ -140,6 +140,8 @@ def main():
         print("\n".join(shared()))
     elif sys.argv[1:] == ["version"]:
         print(version())
+    elif sys.argv[1:] == ["number"]:
+        print(version_number())
     elif len(sys.argv) == 3 and sys.argv[1] == "text":
         print(meanings()[int(sys.argv[2])])
     else:

@@ -1,7 +1,10 @@
-// Numbers written in decimal digits, as a person gives them to a program.
+// Numbers as a person gives them to a program, in decimal digits, and reads them, in microseconds.
 ghost use mathlib.Core.Bool.{cond, _||_};
 ghost use mathlib.Core.Path.{_≡_};
+ghost use Prim.Native.Nat.{_*_};
 ghost use lib.Dec.{leb, ltb};
+ghost use Rattle.model.specs.Ensemble.{ticksPerSecond};
+ghost use Rattle.model.specs.Planner.{ceilDiv};
 ghost use Rattle.numerals.specs.Numerals.{grown, numeral};
 
 // The answer for a text that is no number of 32 bits.
@@ -43,4 +46,11 @@ pub fn number_in(text: &[u8]) -> u64
         i += 1;
     }
     value
+}
+
+// A number of ticks in microseconds, rounded up.
+pub fn microseconds(ticks: u32) -> u64
+    ensures { λ r. ⌜ r ≡ ceilDiv (ticks * 1000000) ticksPerSecond ⌝ }
+{
+    ((ticks as u64) * 1_000_000 + 16_777_215) / 16_777_216
 }

@@ -57,6 +57,24 @@ fn read_input(buffer: &mut [u8]) -> Input
     Input::Read(size)
 }
 
+// Says on standard error what is waited for, where a person types the input.
+fn announce() {
+    if libc::isatty(STDIN_FILENO) == 1 {
+        io::write_all(
+            STDERR_FILENO,
+            b"settle: waiting for a round sheet, in bytes, on standard input; settle --help says more\n",
+        );
+    }
+}
+
+// Says on standard error that writing failed, where it did.
+fn close_with(is_written: bool) {
+    if is_written {
+        return;
+    }
+    io::write_all(STDERR_FILENO, b"settle: standard output can't be written\n");
+}
+
 // Writes the listing of what is read; says on standard error where reading or writing fails.
 fn run(input: &mut [u8], text: &mut [u8]) {
     let Input::Read(size) = read_input(input) else {
@@ -64,14 +82,49 @@ fn run(input: &mut [u8], text: &mut [u8]) {
         return;
     };
     let end = listing::listing(&input[..size], text);
-    if io::write_all(STDOUT_FILENO, &text[..end]) {
-        return;
-    }
-    io::write_all(STDERR_FILENO, b"settle: standard output can't be written\n");
+    close_with(io::write_all(STDOUT_FILENO, &text[..end]));
+}
+
+fn settle_input() {
+    let mut input = input_buffer();
+    let mut text = text_buffer();
+    announce();
+    run(&mut input, &mut text);
+}
+
+fn usage() -> bool {
+    io::write_all(
+        STDOUT_FILENO,
+        b"usage: settle <SHEET\n       settle --help, settle --version\nReads one round sheet, in bytes, from standard input and writes its answer: `round`, N, the accepted count, the\nestimate and the new value; then each cabinet's number, mark and used value. Or `refused`, a number and a place.\nIt always ends with status 0; where input or output fails it says so on standard error.\n",
+    )
+}
+
+fn show_version() -> bool {
+    let version = version::text();
+    let is_named = io::write_all(STDOUT_FILENO, b"settle ");
+    let is_shown = io::write_all(STDOUT_FILENO, &version);
+    let is_ended = io::write_all(STDOUT_FILENO, b"\n");
+    is_named & is_shown & is_ended
+}
+
+// Whether the first argument is a word.
+fn is_word(word: &[u8]) -> bool {
+    let mut given = io::buffer();
+    let n = os::arg(1, &mut given);
+    check::same(&given[..n], word)
 }
 
 fn main() {
-    let mut input = input_buffer();
-    let mut text = text_buffer();
-    run(&mut input, &mut text);
+    if os::arg_count() < 2 {
+        settle_input();
+    } else if is_word(b"--help") {
+        close_with(usage());
+    } else if is_word(b"--version") {
+        close_with(show_version());
+    } else {
+        io::write_all(
+            STDERR_FILENO,
+            b"settle: no argument is wanted, the sheet comes from standard input; settle --help says more\n",
+        );
+    }
 }

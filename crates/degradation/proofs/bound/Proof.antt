@@ -2,7 +2,7 @@
 -- Assumes nothing.
 use borrow.Author.Needs.{needs}
 use native.Mathlib.Omega.{arith}
-use Rattle.degradation.proofs.Stating.{granted-settings, granted-passes, granted-accuracy, bounds-planned, bounds-nothing, bounds-wider}
+use Rattle.degradation.proofs.Stating.{granted-passes, bounds-planned, bounds-nothing, bounds-wider}
 use Rattle.degradation.proofs.bound.Statement.{statement}
 use Rattle.degradation.proofs.bound.Tie as tie
 
@@ -24,63 +24,20 @@ sub-if2 c =
 
 returns-2 : tie.Need-returns-2
 returns-2 c =
-    let a = c .before .before .before .before .args in
-    bounds-nothing (a .settings) (a .accuracy) (a .t) (c .before .if1 .left) (c .if2 .taken)
+    let at-if1 = c .before in
+    let a = at-if1 .before .before .before .args in
+    bounds-nothing (a .settings) (a .accuracy) (a .t) (at-if1 .if1 .left) (c .if2 .taken)
 
-mul-share : tie.Need-mul-share
-mul-share c = search needs
-
-add-share : tie.Need-add-share
-add-share c = search needs
-
-mul-share-2 : tie.Need-mul-share-2
-mul-share-2 c = search needs
-
-add-share-2 : tie.Need-add-share-2
-add-share-2 c = search needs
-
-share-requires : tie.Need-share-requires
-share-requires c κs =
-    let a = c .before .before .before .before in
-    let p = granted-passes (a .args .settings) (a .args .accuracy) (a .pre) in
-    (granted-settings (a .args .settings) (a .args .accuracy) (a .pre), omega (arith, p .cabinets, p .faults, c .if2 .left))
-
-add-share-3 : tie.Need-add-share-3
-add-share-3 c = search needs
-
-share-requires-2 : tie.Need-share-requires-2
-share-requires-2 c κs =
-    let a = c .before .before .before .before .before in
-    let p = granted-passes (a .args .settings) (a .args .accuracy) (a .pre) in
-    (granted-settings (a .args .settings) (a .args .accuracy) (a .pre), omega (arith, p .cabinets, p .faults, c .before .if2 .left))
-
-add-t12 : tie.Need-add-t12
-add-t12 c =
-    let a = c .before .before .before .before .before .before in
-    omega (arith, granted-accuracy (a .args .settings) (a .args .accuracy) (a .pre), c .share2 .ensures .1)
+widened-requires : tie.Need-widened-requires
+widened-requires c κs = search needs
 
 returns-3 : tie.Need-returns-3
 returns-3 c =
-    let a = c .before .before .before .before .before .before .args in
-    bounds-wider (a .settings) (a .accuracy) (a .t) (c .before .before .before .if1 .left) (c .before .before .if2 .left)
-    (c .before .share .ensures .0)
-    (c .share2 .ensures .0)
+    let at-if2 = c .before in
+    let at-if1 = at-if2 .before in
+    let a = at-if1 .before .before .before .args in
+    bounds-wider (a .settings) (a .accuracy) (a .t) (at-if1 .if1 .left) (at-if2 .if2 .left) (c .widened .ensures)
 
 pub bound-spec : {M : Type 1} → statement M
 bound-spec =
-    tie.close
-    (tie.spec
-    cast-n
-    cast-m
-    returns
-    sub-if2
-    returns-2
-    mul-share
-    add-share
-    mul-share-2
-    add-share-2
-    share-requires
-    add-share-3
-    share-requires-2
-    add-t12
-    returns-3)
+    tie.close (tie.spec cast-n cast-m returns sub-if2 returns-2 widened-requires returns-3)

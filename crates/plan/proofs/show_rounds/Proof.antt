@@ -6,16 +6,16 @@ use Rattle.plan.proofs.show_rounds.Statement.{statement}
 use Rattle.plan.proofs.show_rounds.Tie as tie
 
 abbrev Inv-rounds : tie.InvT-rounds
-Inv-rounds settings accuracy last passed₀ passed = Unit {0}
+Inv-rounds settings accuracy last is-written₀ passed₀ is-written passed = Unit {0}
 
 abbrev μ-rounds : tie.MeasureT-rounds
-μ-rounds settings accuracy last passed₀ passed = last - passed
+μ-rounds settings accuracy last is-written₀ passed₀ is-written passed = last - passed
 
-slice-aggregate-write-all : tie.Need-slice-aggregate-write-all Inv-rounds μ-rounds
-slice-aggregate-write-all c = search needs
+slice-aggregate-say : tie.Need-slice-aggregate-say Inv-rounds μ-rounds
+slice-aggregate-say c = search needs
 
-write-all-requires : tie.Need-write-all-requires Inv-rounds μ-rounds
-write-all-requires c κs = search needs
+say-requires : tie.Need-say-requires Inv-rounds μ-rounds
+say-requires c κs = search needs
 
 rounds-holds : tie.Need-rounds-holds Inv-rounds μ-rounds
 rounds-holds c = tt
@@ -44,8 +44,8 @@ show-rounds-spec =
     (tie.spec
     Inv-rounds
     μ-rounds
-    slice-aggregate-write-all
-    write-all-requires
+    slice-aggregate-say
+    say-requires
     rounds-holds
     show-round-requires
     add-passed

@@ -81,6 +81,9 @@ slice-aggregate-write-all-2 c =
 write-all-requires-2 : tie.Need-write-all-requires-2
 write-all-requires-2 c κs = search needs
 
+close-with-requires : tie.Need-close-with-requires
+close-with-requires c κs = search needs
+
 same-length-2 : tie.Need-same-length-2
 same-length-2 c = search needs
 
@@ -89,21 +92,6 @@ same-length-3 c = search needs
 
 returns-2 : tie.Need-returns-2
 returns-2 c = search needs
-
-slice-aggregate-write-all-3 : tie.Need-slice-aggregate-write-all-3
-slice-aggregate-write-all-3 c = search needs
-
-write-all-requires-3 : tie.Need-write-all-requires-3
-write-all-requires-3 c κs = search needs
-
-same-length-4 : tie.Need-same-length-4
-same-length-4 c = search needs
-
-same-length-5 : tie.Need-same-length-5
-same-length-5 c = search needs
-
-returns-3 : tie.Need-returns-3
-returns-3 c = search needs
 
 pub run-spec : {M : Type 1} → statement M
 run-spec =
@@ -122,11 +110,7 @@ run-spec =
     slice-reshare-prefix-write-all
     slice-aggregate-write-all-2
     write-all-requires-2
+    close-with-requires
     same-length-2
     same-length-3
-    returns-2
-    slice-aggregate-write-all-3
-    write-all-requires-3
-    same-length-4
-    same-length-5
-    returns-3)
+    returns-2)

@@ -62,14 +62,11 @@ def constant(name):
 
 
 def refusals():
-    """The rows of the table: number and name."""
-    rows = re.findall(r"^-- (\d+) \([a-z ]+\): .*\nunfoldable pub (\w+) :", text(MODEL / "Refusals.antt"), flags=re.M)
-    if [int(number) for number, _ in rows] != list(range(1, 13)):
-        sys.exit("figures: crates/model/specs/Refusals.antt does not have the rows 1 to 12")
-    for number, name in rows:
-        if not re.search(rf"^{name} .* {number}$", text(MODEL / "Refusals.antt"), flags=re.M):
-            sys.exit(f"figures: row {name} does not give the number {number}")
-    return [(int(number), constant(name)) for number, name in rows]
+    """The checks of the table: number and name."""
+    checks = re.findall(r"^(\w+) .*= (?:refuseIf|atEntry) .* (\d+)$", text(MODEL / "Refusals.antt"), flags=re.M)
+    if [int(number) for _, number in checks] != list(range(1, 13)):
+        sys.exit("figures: crates/model/specs/Refusals.antt does not have the checks 1 to 12")
+    return [(int(number), constant(name)) for name, number in checks]
 
 
 def meanings():

@@ -122,14 +122,16 @@ fn settle_in(sheet: &[u8], settings: Settings, values: &mut [u64], answer: &mut 
         need as u32,
         settings.estimator,
     );
+    let size = 10 + 5 * (settings.n as usize);
+    let none = Settled::Refused(Refusal {
+        number: 10,
+        place: 0,
+    });
     if settled.count == 0 {
-        return Settled::Refused(Refusal {
-            number: 10,
-            place: 0,
-        });
+        return none;
     }
     put_answer(settled, &*values, answer);
-    Settled::Granted(10 + 5 * (settings.n as usize))
+    Settled::Granted(size)
 }
 
 // Settles a sheet that passes checks 1 to 9.

@@ -41,35 +41,35 @@ cast-agree c = search needs
 agree-requires : tie.Need-agree-requires
 agree-requires c κs = search needs
 
+cast-size : tie.Need-cast-size
+cast-size c = search needs
+
+mul-size : tie.Need-mul-size
+mul-size c = search needs
+
+add-size : tie.Need-add-size
+add-size c = search needs
+
 same-length : tie.Need-same-length
 same-length c = search needs
 
 returns : tie.Need-returns
 returns c =
-    let s = c .before .before .before .before .before .before .before .before .before .before .before .before .before .before in
-    let r = c .before .before .before .before .before .before .before .before .before .receive in
-    let a = c .before .before .before .before .agree in
-    refuses (s .args .sheet .now) (s .args .settings) (s .pre .0 .1) (s .pre .0 .0) (s .args .values .now) (r .last .1 .1 .0) (a .last .0) (a .result)
-    (left (c .before .before .before .before)) (s .args .answer .now) (s .pre .0 .2) (c .if1 .taken)
+    let agreed = c .before .before .before .before .before in
+    let s = agreed .before .before .before .before .before .before .before .before .before .before in
+    let r = agreed .before .before .before .before .before .receive in
+    refuses (s .args .sheet .now) (s .args .settings) (s .pre .0 .1) (s .pre .0 .0) (s .args .values .now) (r .last .1 .1 .0) (agreed .agree .last .0) (agreed .agree .result)
+    (left agreed) (s .args .answer .now) (s .pre .0 .2) (c .if1 .taken)
 
 put-answer-requires : tie.Need-put-answer-requires
 put-answer-requires c κs =
-    let s = c .before .before .before .before .before .before .before .before .before .before .before .before .before .before .before .before in
-    let r = c .before .before .before .before .before .before .before .before .before .before .before .receive in
-    let a = c .before .before .before .before .before .before .agree in
-    let long = kept-long (s .args .sheet .now) (s .args .settings) (s .pre .0 .1) (s .pre .0 .0) (s .args .values .now) (r .last .1 .1 .0) (a .last .0) (a .result)
-    (left (c .before .before .before .before .before .before)) (c .before .before .if1 .left) in
+    let agreed = c .before .before .before .before .before .before .before in
+    let s = agreed .before .before .before .before .before .before .before .before .before .before in
+    let r = agreed .before .before .before .before .before .receive in
+    let long = kept-long (s .args .sheet .now) (s .args .settings) (s .pre .0 .1) (s .pre .0 .0) (s .args .values .now) (r .last .1 .1 .0) (agreed .agree .last .0) (agreed .agree .result)
+    (left agreed) (c .before .before .if1 .left) in
     let few = few-faults (s .args .sheet .now) (s .args .settings) (s .pre .0 .1) (s .pre .0 .0) in
-    ((omega (arith, few .1), omega (arith, s .pre .0 .2)), a .ensures .1 .1)
-
-cast-t19 : tie.Need-cast-t19
-cast-t19 c = search needs
-
-mul-t20 : tie.Need-mul-t20
-mul-t20 c = search needs
-
-add-t21 : tie.Need-add-t21
-add-t21 c = search needs
+    ((omega (arith, few .1), omega (arith, s .pre .0 .2)), agreed .agree .ensures .1 .1)
 
 same-length-2 : tie.Need-same-length-2
 same-length-2 c = search needs
@@ -79,12 +79,13 @@ same-length-3 c = search needs
 
 returns-2 : tie.Need-returns-2
 returns-2 c =
-    let s = c .before .before .before .before .before .before .before .before .before .before .before .before .before .before .before .before .before .before .before .before in
-    let r = c .before .before .before .before .before .before .before .before .before .before .before .before .before .before .before .receive in
-    let a = c .before .before .before .before .before .before .before .before .before .before .agree in
-    ap (λ (l : List ℕ). settlingOf (Granted (10 + 5 * s .args .settings .n)) l) (c .before .before .before .put-answer .ensures)
-    ∙ settles (s .args .sheet .now) (s .args .settings) (s .pre .0 .1) (s .pre .0 .0) (s .args .values .now) (r .last .1 .1 .0) (a .last .0) (a .result)
-    (left (c .before .before .before .before .before .before .before .before .before .before)) (s .args .answer .now) (s .pre .0 .2) (c .before .before .before .before .before .before .if1 .left)
+    let written = c .before .before in
+    let agreed = written .before .before .before .before .before .before .before .before in
+    let s = agreed .before .before .before .before .before .before .before .before .before .before in
+    let r = agreed .before .before .before .before .before .receive in
+    ap (λ (l : List ℕ). settlingOf (Granted (10 + 5 * s .args .settings .n)) l) (written .put-answer .ensures)
+    ∙ settles (s .args .sheet .now) (s .args .settings) (s .pre .0 .1) (s .pre .0 .0) (s .args .values .now) (r .last .1 .1 .0) (agreed .agree .last .0) (agreed .agree .result)
+    (left agreed) (s .args .answer .now) (s .pre .0 .2) (written .before .before .before .if1 .left)
 
 pub settle-in-spec : {M : Type 1} → statement M
 settle-in-spec =
@@ -94,12 +95,12 @@ settle-in-spec =
     sub-need
     cast-agree
     agree-requires
+    cast-size
+    mul-size
+    add-size
     same-length
     returns
     put-answer-requires
-    cast-t19
-    mul-t20
-    add-t21
     same-length-2
     same-length-3
     returns-2)

@@ -9,9 +9,9 @@ use Rattle.model.specs.declared.Settings.{Settings}
 use Rattle.model.specs.Refusals.{refuseIf, firstOf, settingsChecks, badCabinets, badFaults, badMethod, badWindow}
 
 module _ (c : Settings) where
-  pub cabinets-refuse : (eqb (c .n) 0 || ltb 64 (c .n)) ≡ true → refuseIf true 2 ≡ firstOf (settingsChecks c)
+  pub cabinets-refused : (eqb (c .n) 0 || ltb 64 (c .n)) ≡ true → refuseIf true 2 ≡ firstOf (settingsChecks c)
   unfolding firstOf settingsChecks badCabinets
-  cabinets-refuse a = rw a
+  cabinets-refused a = rw a
 
   module _ (a : (eqb (c .n) 0 || ltb 64 (c .n)) ≡ false) where
     pub faults-refuse : ltb (c .n) (3 * c .m + 1) ≡ true → refuseIf true 3 ≡ firstOf (settingsChecks c)

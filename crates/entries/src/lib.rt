@@ -122,7 +122,8 @@ fn misfit(marks: usize, readings: usize) -> bool
     (readings / 4 != marks) | (readings % 4 != 0)
 }
 
-// The lowest entry that is missing with bytes that are not zero; nothing where the readings are not four bytes for each mark.
+// The lowest entry that is missing with bytes that are not zero; nothing where the readings are not four bytes for each
+// mark.
 pub fn bad_missing(marks: &[u8], readings: &[u8]) -> Found
     ensures { λ r. ⌜ foundOf r ≡ missingIn (now (marks .entry)) (now (readings .entry)) ⌝ }
 {

@@ -2,7 +2,7 @@
 -- Assumes nothing.
 use mathlib.Core.Bool.{Bool, true, false, cond}
 use mathlib.Core.List.{List, _∷_}
-use mathlib.Core.Option.{some}
+use mathlib.Core.Option.{none, some}
 use mathlib.Core.Path.{_≡_, refl, sym, ap, _∙_}
 use Prim.Native.Nat.{ℕ, _+_, _*_, _-_, _≤_}
 use native.Mathlib.Nat.{mul-le-mul}
@@ -12,9 +12,11 @@ use lib.Dec.{eqb}
 use lib.ListN.{length, drop, length-drop}
 use lib.Seq.{length-take-le}
 use Rattle.model.specs.declared.Settings.{Settings}
+use Rattle.model.specs.declared.Refusal.{Refusal}
 use Rattle.arithmetic.specs.Counting.{lowest}
 use Rattle.model.specs.RoundSheet.{byte, word, cca, entryCount, sheetLength, markAt, bitsAt}
-use Rattle.model.specs.Refusals.{refusal, firstOf, arrayChecks, entryChecks, badLength, notZero}
+use Rattle.model.specs.Refusals.{refusal, firstOf, arrayChecks, entryChecks, badLength, badMark, badMissing, notZero}
+use Rattle.refusals.proofs.Checks.{next-none}
 use Rattle.sheets.proofs.Checks.{length-pass}
 use Rattle.sheets.proofs.Inspection.{Inspected, entry-checks}
 use Rattle.sheets.proofs.Parts.{marksPart, readingsPart, length-marksPart}
@@ -41,6 +43,25 @@ module _ (s : List ℕ) (c : Settings) (E : ℕ) (same : E ≡ entryCount c) whe
       ≡ firstOf (arrayChecks (markAt s) (bitsAt s E) E)
   unfolding firstOf
   body-checks h = rw (sym same, length-pass (length s) (8 + 5 * E) h)
+
+module _ (s : List ℕ) (c : Settings) (E : ℕ) (same : E ≡ entryCount c) (long : length s ≡ 8 + 5 * E) where
+  -- check 8 refuses
+  pub body-mark-refused :
+      (r : Refusal) → badMark (markAt s) E ≡ some r
+      → some r ≡ firstOf (badLength (length s) (sheetLength c) ∷ arrayChecks (markAt s) (bitsAt s (entryCount c)) (entryCount c))
+  body-mark-refused r h =
+      let marks : firstOf (arrayChecks (markAt s) (bitsAt s E) E) ≡ some r = unfold firstOf in rw h in
+      sym (body-checks s c E same long ∙ marks)
+
+  -- and where it does not, check 9 decides
+  pub body-marks-pass :
+      badMark (markAt s) E ≡ none
+      → badMissing (markAt s) (bitsAt s E) E
+      ≡ firstOf (badLength (length s) (sheetLength c) ∷ arrayChecks (markAt s) (bitsAt s (entryCount c)) (entryCount c))
+  body-marks-pass h =
+      let missing : firstOf (arrayChecks (markAt s) (bitsAt s E) E) ≡ badMissing (markAt s) (bitsAt s E) E =
+      unfold firstOf in rw h (next-none (badMissing (markAt s) (bitsAt s E) E)) in
+      sym (body-checks s c E same long ∙ missing)
 
 -- with the settings that checks 1 to 6 grant they are those of the sheet
 pub body-entries : (s : List ℕ) (c : Settings) → Inspected s c → firstOf (badLength (length s) (sheetLength c) ∷ arrayChecks (markAt s) (bitsAt s (entryCount c)) (entryCount c)) ≡ firstOf (entryChecks s)

@@ -8,9 +8,11 @@ ghost use Rattle.model.specs.Refusals.{firstOf, badLength, arrayChecks, sheetCh
 ghost use Rattle.model.specs.Calls.{verdict};
 ghost use Rattle.inspection.specs.Answers.{openedOf};
 use ensemble::Screened;
-use entries::Found;
 use model::Refusal;
 use model::Settings;
+
+mod marks;
+mod missing;
 
 // A sheet's settings, or the first refusal.
 pub enum Opened {
@@ -82,22 +84,9 @@ pub fn check_entries(sheet: &[u8], settings: Settings) -> Screened
             place: 0,
         });
     }
-    let body = 8 + entries;
-    let marks = &sheet[8..body];
-    match entries::bad_mark(marks) {
-        Found::At(e) => Screened::Refused(Refusal {
-            number: 8,
-            place: e as u32,
-        }),
-        Found::Nothing => {
-            match entries::bad_missing(marks, &sheet[body..]) {
-                Found::At(e) => Screened::Refused(Refusal {
-                    number: 9,
-                    place: e as u32,
-                }),
-                Found::Nothing => Screened::Passed,
-            }
-        }
+    match marks::check(sheet, entries) {
+        Screened::Refused(r) => Screened::Refused(r),
+        Screened::Passed => missing::check(sheet, entries),
     }
 }
 

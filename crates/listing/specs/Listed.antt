@@ -1,5 +1,5 @@
--- What the program's text leaves in the lent buffer: the listing from its start on, and its length; nothing in a buffer below the
--- capacity of a round's text.
+-- What the program's text leaves in the lent buffer: the listing from its start on, and its length; nothing in a buffer
+-- below the capacity of a round's text.
 use mathlib.Core.List.{List}
 use Prim.Native.Nat.{ℕ}
 use Rattle.model.specs.Listing.{listing}

@@ -19,8 +19,8 @@ use Rattle.model.specs.RoundSheet.{settingsAt, entryCount, sheetLength, 
 use Rattle.model.specs.AnswerSheet.{answerLength, answerBytes}
 use Rattle.model.specs.Steps.{roundAt}
 use Rattle.model.specs.Planner.{Plan, planFrom, advance, after, Reaches}
-use Rattle.model.specs.Refusals.{Check, firstOf, readChecks, writeChecks, rowChecks, settleChecks, planChecks, stepChecks}
-use Rattle.model.specs.Refusals.{targetChecks}
+use Rattle.model.specs.Refusals.{Check, firstOf, readChecks, writeChecks, rowChecks, settleChecks}
+use Rattle.model.specs.Refusals.{planChecks, stepChecks, targetChecks}
 
 -- "one answer sheet or one numbered refusal"
 pub data Verdict (A : Type 0) : Type 0 where
@@ -63,18 +63,24 @@ readAfter check s marks readings =
 unfoldable pub read : List ℕ → List ℕ → List ℤ → Read
 read s marks readings = readAfter (firstOf (readChecks s (length marks) (length readings))) s marks readings
 
--- ---- "The writer takes the settings and two arrays"; "Bytes past the sheet keep what they had". It grants the sheet's length
+-- ---- "The writer takes the settings and two arrays"; "Bytes past the sheet keep what they had". It grants the sheet's
+-- length
 
 pub record Outcome : Type 0 where
   pub verdict : Verdict ℕ
   pub buffer : List ℕ
 
 abbrev pub writtenAfter : Check → ℕ → List ℕ → List ℕ → Outcome
-writtenAfter check size bytes buffer = record { verdict = verdict check size; buffer = lent check (overwrite bytes buffer) buffer }
+writtenAfter check size bytes buffer =
+    record { verdict = verdict check size; buffer = lent check (overwrite bytes buffer) buffer }
 
 unfoldable pub write : Settings → List ℕ → List ℤ → List ℕ → Outcome
 write c marks readings buffer =
-    writtenAfter (firstOf (writeChecks c marks readings (length buffer))) (sheetLength c) (sheetBytes c marks readings) buffer
+    writtenAfter
+    (firstOf (writeChecks c marks readings (length buffer)))
+    (sheetLength c)
+    (sheetBytes c marks readings)
+    buffer
 
 -- ---- "One cabinet's row of readings is shown as the part of the sheet that holds it"
 
@@ -91,7 +97,8 @@ settleAfter check s answer =
 unfoldable pub settle : List ℕ → List ℕ → Outcome
 settle s answer = settleAfter (firstOf (settleChecks s (length answer))) s answer
 
--- ---- The planner: "From N, m, rule, estimator, δ, accuracy κ and 0 to 32 rounds it gives the window and the accuracy after them"
+-- ---- The planner: "From N, m, rule, estimator, δ, accuracy κ and 0 to 32 rounds it gives the window and the accuracy
+-- after them"
 
 unfoldable pub plan : Settings → ℕ → ℕ → Verdict Plan
 plan c κ k = verdict (firstOf (planChecks c κ k)) (after k (planFrom c κ))
@@ -99,8 +106,8 @@ plan c κ k = verdict (firstOf (planChecks c κ k)) (after k (planFrom c κ))
 unfoldable pub step : Plan → Verdict Plan
 step p = verdict (firstOf (stepChecks p)) (advance p)
 
--- "it also gives a round count of at most 32 whose window is at or below the target": a refusal is the first check that refuses, and
--- any count that reaches the target may be granted where none does
+-- "it also gives a round count of at most 32 whose window is at or below the target": a refusal is the first check that
+-- refuses, and any count that reaches the target may be granted where none does
 abbrev pub Target : Settings → ℕ → ℕ → Verdict ℕ → Type 0
 Target c κ target (granted k) = (firstOf (targetChecks c κ target) ≡ none) × Reaches c κ target k
 Target c κ target (refused r) = firstOf (targetChecks c κ target) ≡ some r

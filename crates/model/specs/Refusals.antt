@@ -1,5 +1,5 @@
--- Document 01, "Numbers of refusal": the table, a definition for each check in its order, and the checks that apply to each call. Of
--- what a call is lent to fill they ask the length.
+-- Document 01, "Numbers of refusal": the table, a definition for each check in its order, and the checks that apply to
+-- each call. Of what a call is lent to fill they ask the length.
 --   Check                       what a check gives: its refusal, or nothing
 --   refuseIf, atEntry           a check whose place is 0; a check whose place is the lowest entry at fault
 --   firstOf                     "Checks run in this order, those that apply to the call": the first that refuses
@@ -20,7 +20,8 @@ use Rattle.arithmetic.specs.Counting.{lowest}
 use Rattle.model.specs.declared.Settings.{Settings}
 use Rattle.model.specs.declared.Refusal.{Refusal}
 use Rattle.model.specs.Ensemble.{maxCabinets, maxWindow}
-use Rattle.model.specs.RoundSheet.{cca, midpoint, headerSize, byte, settingsAt, entryCount, sheetLength, markAt, bitsAt, bitsIn}
+use Rattle.model.specs.RoundSheet.{cca, midpoint, headerSize, byte, settingsAt, entryCount, sheetLength}
+use Rattle.model.specs.RoundSheet.{markAt, bitsAt, bitsIn}
 use Rattle.model.specs.AnswerSheet.{answerLength}
 use Rattle.model.specs.Steps.{roundAt}
 use Rattle.model.specs.Planner.{Plan, maxAccuracy, maxRounds, maxStepAccuracy, windowAfter}
@@ -73,7 +74,8 @@ badWindow c = refuseIf (ltb maxWindow (c .window)) 5
 unfoldable pub badLength : ℕ → ℕ → Check
 badLength given wanted = refuseIf (not (eqb given wanted)) 6
 
--- 7 (tray): "answer buffer too short"; for the reader "7 when either array is shorter than E", for the writer "7 when its buffer is short"
+-- 7 (tray): "answer buffer too short"; for the reader "7 when either array is shorter than E", for the writer "7 when
+-- its buffer is short"
 unfoldable pub noRoom : ℕ → ℕ → Check
 noRoom given wanted = refuseIf (ltb given wanted) 7
 
@@ -108,7 +110,8 @@ settingsChecks c = badCabinets c ∷ badFaults c ∷ badMethod c ∷ badWindow c
 unfoldable pub sheetChecks : List ℕ → List Check
 sheetChecks s = (tooShort s ∷ settingsChecks (settingsAt s)) ++ (badLength (length s) (sheetLength (settingsAt s)) ∷ [])
 
--- checks 8 and 9, of two parallel arrays of E entries: the mark of each, and the bits of its reading. "All marks are checked before any 9"
+-- checks 8 and 9, of two parallel arrays of E entries: the mark of each, and the bits of its reading. "All marks are
+-- checked before any 9"
 abbrev pub arrayChecks : (ℕ → ℕ) → (ℕ → ℕ) → ℕ → List Check
 arrayChecks mark bits E = badMark mark E ∷ badMissing mark bits E ∷ []
 
@@ -119,7 +122,8 @@ entryChecks s = arrayChecks (markAt s) (bitsAt s (entryCount (settingsAt s))) (e
 -- the reader, lent arrays of these lengths: "refusing under 1 to 9"
 unfoldable pub readChecks : List ℕ → ℕ → ℕ → List Check
 readChecks s marks readings =
-    sheetChecks s ++ (noRoom marks (entryCount (settingsAt s)) ∷ noRoom readings (entryCount (settingsAt s)) ∷ entryChecks s)
+    sheetChecks s
+    ++ (noRoom marks (entryCount (settingsAt s)) ∷ noRoom readings (entryCount (settingsAt s)) ∷ entryChecks s)
 
 -- the writer, lent a buffer of this length: "refuses under 2 to 9"
 unfoldable pub writeChecks : Settings → List ℕ → List ℤ → ℕ → List Check
@@ -148,7 +152,8 @@ planningChecks c fails = settingsChecks c ++ (badPlan fails ∷ [])
 unfoldable pub planChecks : Settings → ℕ → ℕ → List Check
 planChecks c κ k = planningChecks c (ltb maxAccuracy κ || ltb maxRounds k)
 
--- "A step is refused under 2 to 5, and under 11 when 32 rounds or more are done or the plan's accuracy is above 1,100,000,000"
+-- "A step is refused under 2 to 5, and under 11 when 32 rounds or more are done or the plan's accuracy is above
+-- 1,100,000,000"
 unfoldable pub stepChecks : Plan → List Check
 stepChecks p = planningChecks (p .settings) (leb maxRounds (p .rounds) || ltb maxStepAccuracy (p .accuracy))
 

@@ -13,7 +13,8 @@ use ensemble::Screened;
 use model::Refusal;
 use model::Settings;
 
-// The settings with the next round's window, the accuracy planned by then, the rounds done. Any contents may stand here.
+// The settings with the next round's window, the accuracy planned by then, the rounds done. Any contents may stand
+// here.
 pub struct Plan {
     pub settings: Settings,
     pub accuracy: u32,

@@ -55,7 +55,8 @@ fn check_arrays(marks: &[u8], readings: &[i32]) -> Screened
     requires { ⌜ (length (now readings) ≡ length (now marks)) × (length (now marks) ≤ 4096) ⌝ }
     ensures { λ r.
         ⌜ checkOf r
-        ≡ firstOf (arrayChecks (byte (now (marks .entry))) (bitsIn (now (readings .entry))) (length (now (marks .entry)))) ⌝ }
+        ≡ firstOf (arrayChecks (byte (now (marks .entry))) (bitsIn (now (readings .entry)))
+        (length (now (marks .entry)))) ⌝ }
 {
     match entries::bad_mark(marks) {
         Found::At(e) => Screened::Refused(Refusal {

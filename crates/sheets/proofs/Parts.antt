@@ -1,7 +1,7 @@
 -- The marks and the readings of a sheet as the parts of it that hold them: a search of the parts is a search of the sheet's entries.
 -- Assumes nothing.
 use mathlib.Core.List.{List}
-use mathlib.Core.Option.{none, some}
+use mathlib.Core.Option.{Option, some}
 use mathlib.Core.Path.{_≡_, sym, ap, ap₂, _∙_}
 use Prim.Native.Nat.{ℕ, _+_, _*_, _-_, _≤_, _<_}
 use native.Mathlib.Nat.{add-assoc}
@@ -14,7 +14,7 @@ use Rattle.arithmetic.specs.Writing.{table}
 use Rattle.arithmetic.proofs.Writing.{length-table, getD-table}
 use Rattle.arithmetic.proofs.Counting.{lowest-ext, lowest-found}
 use Rattle.model.specs.RoundSheet.{byte, word, markAt, bitsAt}
-use Rattle.model.specs.Refusals.{refusal, firstOf, arrayChecks, badMark, badMissing}
+use Rattle.model.specs.Refusals.{atEntry, badMark, badMissing}
 use Rattle.model.specs.Refusals.{notZero}
 use Rattle.sheets.proofs.Words.{word-ext}
 
@@ -94,24 +94,15 @@ module _ (s : List ℕ) (E : ℕ) (long : length s ≡ 8 + 5 * E) where
   missing-in-range e h = lowest-found (λ i. notZero (markAt s i) (bitsAt s E i)) E e (sym search-missing ∙ h) .inRange
 
   -- checks 8 and 9, by what the searches find
-  pub parts-mark-refused :
-      (e : ℕ) → lowest (λ i. ltb 1 (byte (marksPart s E) i)) (length (marksPart s E)) ≡ some e
-      → some (refusal 8 e) ≡ firstOf (arrayChecks (markAt s) (bitsAt s E) E)
-  unfolding firstOf badMark
-  parts-mark-refused e h = rw (sym search-marks ∙ h)
+  pub parts-marks :
+      (found : Option ℕ) → found ≡ lowest (λ e. ltb 1 (byte (marksPart s E) e)) (length (marksPart s E))
+      → atEntry found 8 ≡ badMark (markAt s) E
+  unfolding badMark
+  parts-marks found e = ap (λ (o : Option ℕ). atEntry o 8) (e ∙ search-marks)
 
-  module _ (none-bad : lowest (λ i. ltb 1 (byte (marksPart s E) i)) (length (marksPart s E)) ≡ none) where
-    pub parts-missing-refused :
-        (e : ℕ)
-        → lowest (λ i. notZero (byte (marksPart s E) i) (word (readingsPart s E) (4 * i))) (length (marksPart s E))
-        ≡ some e
-        → some (refusal 9 e) ≡ firstOf (arrayChecks (markAt s) (bitsAt s E) E)
-    unfolding firstOf badMark badMissing
-    parts-missing-refused e h = rw (sym search-marks ∙ none-bad, sym search-missing ∙ h)
-
-    pub parts-pass :
-        lowest (λ i. notZero (byte (marksPart s E) i) (word (readingsPart s E) (4 * i))) (length (marksPart s E))
-        ≡ none
-        → none ≡ firstOf (arrayChecks (markAt s) (bitsAt s E) E)
-    unfolding firstOf badMark badMissing
-    parts-pass h = rw (sym search-marks ∙ none-bad, sym search-missing ∙ h)
+  pub parts-readings :
+      (found : Option ℕ)
+      → found ≡ lowest (λ e. notZero (byte (marksPart s E) e) (word (readingsPart s E) (4 * e))) (length (marksPart s E))
+      → atEntry found 9 ≡ badMissing (markAt s) (bitsAt s E) E
+  unfolding badMissing
+  parts-readings found e = ap (λ (o : Option ℕ). atEntry o 9) (e ∙ search-missing)

@@ -121,7 +121,8 @@ fn put_cabinet(text: &mut [u8], at: usize, r: u32, mark: u32, used: u32) -> usiz
 fn put_cabinets(text: &mut [u8], at: usize, answer: &[u8], n: u32) -> usize
     requires { ⌜ n ≡ byte (now answer) 0 ⌝ }
     requires { ⌜ at + length (cabinetLines (answerRound (now answer)) n) ≤ length (now text) ⌝ }
-    ensures { λ r. ⌜ Puts (now (text .entry)) at (cabinetLines (answerRound (now (answer .entry))) n) (now (text .exit)) r ⌝ }
+    ensures { λ r.
+        ⌜ Puts (now (text .entry)) at (cabinetLines (answerRound (now (answer .entry))) n) (now (text .exit)) r ⌝ }
 {
     let mut next = at;
     let mut passed: u32 = 0;

@@ -1,15 +1,16 @@
--- What the calls of the C interface hand over, in document 01's terms. "Nothing lent is written" by a refusal, and the settings and the plan
--- that it hands over are zeros, which every call refuses.
---   twoTo32                   2^32
---   upperHalf, lowerHalf      an answer over 2^32 and what is left: number and place of a refusal, start and length of a part
---   packedRefusal, packed     a refusal as number × 2^32 + place; a length or a count, or a refusal
---   settingsOf, sizesOf       settings, from and to C's layout
+-- What the calls of the C interface hand over, in document 01's terms. "Nothing lent is written" by a refusal, and the
+-- settings and the plan that it hands over are zeros, which every call refuses.
+--   twoTo32                       2^32
+--   upperHalf, lowerHalf          an answer over 2^32, and what is left: a refusal's number and place, a part's start
+--                                 and length
+--   packedRefusal, packed         a refusal as number × 2^32 + place; a length or a count, or a refusal
+--   settingsOf, sizesOf           settings, from and to C's layout
 --   schedulePlanOf, scheduleOf    a plan, from and to C's layout
---   openingOf                 the reader's answer: the number of entries, with the settings
---   planningOf                the answer of the planner and of a step: the rounds done, with the plan
---   packedRow                 where a cabinet's row stands in a sheet: start × 2^32 + length, 0 where the part is empty
---   partIn                    the part of a sheet that start × 2^32 + length names
---   TargetPacked              a count for a target, or a refusal, packed
+--   openingOf                     the reader's answer: the number of entries, with the settings
+--   planningOf                    the answer of the planner and of a step: the rounds done, with the plan
+--   packedRow                     where a cabinet's row stands: start × 2^32 + length, 0 where the part is empty
+--   partIn                        the part of a sheet that start × 2^32 + length names
+--   TargetPacked                  a count for a target, or a refusal, packed
 use mathlib.Core.Bool.{cond}
 use mathlib.Core.List.{List}
 use mathlib.Core.Path.{_≡_}

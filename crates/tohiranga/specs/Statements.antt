@@ -1,5 +1,5 @@
--- What include/tohiranga.h says of answers, of every call and everything that it is given. `proofs/Told.antt` and `proofs/Parts.antt` have
--- the theorems `grants-below : GrantsBelow` and `row-named : RowNamed`.
+-- What include/tohiranga.h says of answers, of every call and everything that it is given. `proofs/Told.antt` and
+-- `proofs/Parts.antt` have the theorems `grants-below : GrantsBelow` and `row-named : RowNamed`.
 --   Refuses        an answer is 2^32 or above, and gives back the number of a refusal, 1 to 12, and its place
 --   AnswerTells    an answer tells a verdict: below 2^32 where it grants, and else its refusal
 --   FieldsTell     the answers of the calls for an answer sheet's fields do
@@ -16,7 +16,8 @@ use Rattle.model.specs.RoundSheet.{byte}
 use Rattle.model.specs.Planner.{Plan}
 use Rattle.model.specs.Calls.{Verdict, granted, refused, read, write, row, settle, plan, step}
 use Rattle.answer_sheet.specs.Fields.{cabinetsIn, countIn, estimateIn, valueIn, markIn, usedIn}
-use Rattle.tohiranga.specs.Answers.{twoTo32, upperHalf, lowerHalf, packed, openingOf, planningOf, packedRow, partIn, TargetPacked}
+use Rattle.tohiranga.specs.Answers.{twoTo32, upperHalf, lowerHalf, packed, openingOf, planningOf}
+use Rattle.tohiranga.specs.Answers.{packedRow, partIn, TargetPacked}
 
 -- "Any other answer is a refusal, number * 2^32 + place; tohiranga_number and tohiranga_place take it apart"
 pub record Refuses (r : Refusal) (answer : ℕ) : Type 0 where
@@ -47,7 +48,8 @@ pub record GrantsBelow : Type 0 where
       → AnswerTells (write c marks readings buffer .verdict) (packed (write c marks readings buffer .verdict))
   pub planning : (c : Settings) (κ k : ℕ) → AnswerTells (plan c κ k) (planningOf (plan c κ k) .answer)
   pub stepping : (p : Plan) → AnswerTells (step p) (planningOf (step p) .answer)
-  pub counting : (c : Settings) (κ target answer : ℕ) (t : TargetPacked c κ target answer) → AnswerTells (t .verdict) answer
+  pub counting : (c : Settings) (κ target answer : ℕ) (t : TargetPacked c κ target answer)
+      → AnswerTells (t .verdict) answer
   pub fields : (a : List ℕ) (r : ℕ) → ((i : ℕ) → byte a i < 256) → FieldsTell a r
 
 -- "Where the row of readings of a cabinet stands in the sheet: start * 2^32 + length, within the sheet"

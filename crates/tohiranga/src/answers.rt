@@ -1,4 +1,5 @@
-// The fields of an answer sheet of any bytes, for C and for Rust, and the version. Signed numbers go out as their 32 bits.
+// The fields of an answer sheet of any bytes, for C and for Rust, and the version. Signed numbers go out as their 32
+// bits.
 ghost use mathlib.Core.Path.{_≡_};
 ghost use Rattle.answer_sheet.specs.Fields.{shownOf, cabinetsIn, countIn, estimateIn, valueIn, markIn, usedIn};
 ghost use Rattle.version.specs.Version.{versionNumber};

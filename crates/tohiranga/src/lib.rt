@@ -2,7 +2,8 @@
 ghost use mathlib.Core.Path.{_≡_};
 ghost use Rattle.model.specs.Calls.{settle, read, write, plan, step};
 ghost use Rattle.planner.specs.Answers.{plannedOf};
-ghost use Rattle.tohiranga.specs.Answers.{packedRefusal, packed, settingsOf, sizesOf, schedulePlanOf, noSizes, openingOf, planningOf, packedRow, TargetPacked};
+ghost use Rattle.tohiranga.specs.Answers.{packedRefusal, packed, settingsOf, sizesOf, schedulePlanOf, noSizes};
+ghost use Rattle.tohiranga.specs.Answers.{openingOf, planningOf, packedRow, TargetPacked};
 use inspection::Opened;
 use model::Refusal;
 use model::Settings;
@@ -104,8 +105,10 @@ pub extern "C" fn tohiranga_settle(sheet: &[u8], answer: &mut [u8]) -> u64
 #[no_mangle]
 pub extern "C" fn tohiranga_read(sheet: &[u8], marks: &mut [u8], readings: &mut [i32]) -> Opening
     ensures { λ r. ⌜ r ≡ openingOf (read (now (sheet .entry)) (now (marks .entry)) (now (readings .entry)) .verdict) ⌝ }
-    ensures { λ _. ⌜ now (marks .exit) ≡ read (now (sheet .entry)) (now (marks .entry)) (now (readings .entry)) .marks ⌝ }
-    ensures { λ _. ⌜ now (readings .exit) ≡ read (now (sheet .entry)) (now (marks .entry)) (now (readings .entry)) .readings ⌝ }
+    ensures { λ _.
+        ⌜ now (marks .exit) ≡ read (now (sheet .entry)) (now (marks .entry)) (now (readings .entry)) .marks ⌝ }
+    ensures { λ _.
+        ⌜ now (readings .exit) ≡ read (now (sheet .entry)) (now (marks .entry)) (now (readings .entry)) .readings ⌝ }
 {
     match sheet::read(sheet, marks, readings) {
         Opened::Granted(settings) => {
@@ -134,8 +137,12 @@ pub extern "C" fn tohiranga_write(
     readings: &[i32],
     sheet: &mut [u8],
 ) -> u64
-    ensures { λ r. ⌜ r ≡ packed (write (settingsOf settings) (now (marks .entry)) (now (readings .entry)) (now (sheet .entry)) .verdict) ⌝ }
-    ensures { λ _. ⌜ now (sheet .exit) ≡ write (settingsOf settings) (now (marks .entry)) (now (readings .entry)) (now (sheet .entry)) .buffer ⌝ }
+    ensures { λ r.
+        ⌜ r
+        ≡ packed (write (settingsOf settings) (now (marks .entry)) (now (readings .entry)) (now (sheet .entry)) .verdict) ⌝ }
+    ensures { λ _.
+        ⌜ now (sheet .exit)
+        ≡ write (settingsOf settings) (now (marks .entry)) (now (readings .entry)) (now (sheet .entry)) .buffer ⌝ }
 {
     match sheet_writer::write(settings_of(settings), marks, readings, sheet) {
         Filled::Granted(size) => size as u64,

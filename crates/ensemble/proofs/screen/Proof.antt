@@ -2,7 +2,7 @@
 -- Assumes nothing.
 use borrow.Author.Needs.{needs}
 use mathlib.Core.Path.{sym, _∙_}
-use Rattle.ensemble.proofs.Screens.{cabinets-refuse, faults-refuse, method-refuses, window-refuses, settings-pass}
+use Rattle.ensemble.proofs.Screens.{cabinets-refused, faults-refuse, method-refuses, window-refuses, settings-pass}
 use Rattle.ensemble.proofs.screen.Statement.{statement}
 use Rattle.ensemble.proofs.screen.Tie as tie
 
@@ -15,7 +15,7 @@ refused-requires c κs = search needs
 returns : tie.Need-returns
 returns c =
     c .refused .ensures
-    ∙ cabinets-refuse (c .before .before .before .args .settings) (sym (c .before .before .bad-cabinets .ensures) ∙ c .before .if1 .taken)
+    ∙ cabinets-refused (c .before .before .before .args .settings) (sym (c .before .before .bad-cabinets .ensures) ∙ c .before .if1 .taken)
 
 bad-faults-requires : tie.Need-bad-faults-requires
 bad-faults-requires c κs = search needs

@@ -162,8 +162,8 @@ uint64_t tohiranga_write(struct tohiranga_settings settings, const uint8_t *mark
                          const int32_t *readings, size_t readings_len, uint8_t *sheet, size_t sheet_len);
 
 /* Where the row of readings of a cabinet stands in the sheet: start * 2^32 + length, within the sheet, and 0 where there is
- * none: for a sheet that 1 to 6, 8 or 9 refuse, and for a cabinet of N or above. It is no refusal. The start is
- * 8 + E + 4r for rule 0 and 8 + E + 4rN for rule 1, the length 4 and 4N. */
+ * none: for a sheet that 1 to 6, 8 or 9 refuse, and for a cabinet of N or above. It is no refusal. For
+ * cabinet r of rule 0 the start is 8 + E + 4r and the length 4; of rule 1 the start is 8 + E + 4rN and the length 4N. */
 uint64_t tohiranga_row(const uint8_t *sheet, size_t sheet_len, uint32_t cabinet);
 static inline size_t tohiranga_row_start(uint64_t row) { return (size_t)(row >> 32); }
 static inline size_t tohiranga_row_length(uint64_t row) { return (size_t)(uint32_t)row; }

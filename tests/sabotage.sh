@@ -49,7 +49,7 @@ sabotage() {
         tail -n 5 "$room/said"
         missed+=("$1")
     else
-        echo "$1: found by ${3%% *}"
+        echo "$1: found"
     fi
     again
 }
@@ -152,7 +152,7 @@ edited() { # TEXT
 }
 sabotage "edits: a correct rewrite" 'edited "$rewrite"' tests/check_must_fail_reasons "words/sabotage: no program tells it from the engine"
 sabotage "edits: an ill-typed contract" 'edited "$ill_typed"' tests/check_must_fail_reasons "words/sabotage: what is edited is not well-formed"
-sabotage "edits: one not tried" "sed -i 's/^# /# another /' crates/words/must-fail/base_255.edit" tests/check_must_fail_reasons "words/base_255: not tried as it is"
+sabotage "edits: one not tried" "sed -i 's/^new: /new: 0 + /' crates/words/must-fail/base_255.edit" tests/check_must_fail_reasons "words/base_255: not tried as it is"
 sabotage "edits: one not in the table" "sed -i '/words.base_255/d' docs/MUST-FAIL.md" tests/check_must_fail_table "words/base_255"
 
 # ---- what users compile in

@@ -1,5 +1,5 @@
-// Prints what the planner answers to the vectors of the file stdin (see the crate vectors): the window, the accuracy and
-// the rounds, or that a count of rounds reaches the target. Which count is given is free.
+// Prints what the planner answers to the vectors of the file stdin (see the crate vectors): the window, the
+// accuracy and the rounds, or that a count of rounds reaches the target. Which count is given is free.
 use model::Settings;
 use planner::Counted;
 use planner::Plan;

@@ -1,6 +1,6 @@
-// Prints what settling answers to the vectors of the file stdin (see the crate vectors): the length of the answer sheet,
-// N, the accepted count, the estimate and the new value, the marks, the used values, and what stands behind the answer
-// in the buffer, which holds 165 everywhere before the call.
+// Prints what settling answers to the vectors of the file stdin (see the crate vectors): the length of the
+// answer sheet, N, the accepted count, the estimate and the new value, the marks, the used values, and what
+// stands behind the answer in the buffer, which holds 165 everywhere before the call.
 use round::Settled;
 
 fn show_answer(buffer: &[u8], size: usize) {

@@ -8,8 +8,18 @@ fn show_tick(ticks: i32) {
     vectors::signed(Tick(ticks).to_bits());
 }
 
-fn show_read(sheet: &[u8], marks: &mut [u8], readings: &mut [i32]) {
-    match sheet::read(sheet, marks, readings) {
+fn show_readings(readings: &[i32]) {
+    io::write_all(1, b"; readings");
+    let mut e: usize = 0;
+    'readings: while e < readings.len() {
+        show_tick(readings[e]);
+        e += 1;
+    }
+    vectors::end();
+}
+
+fn show_opened(opened: Opened) {
+    match opened {
         Opened::Granted(settings) => {
             vectors::granted();
             vectors::byte(settings.n);
@@ -20,14 +30,12 @@ fn show_read(sheet: &[u8], marks: &mut [u8], readings: &mut [i32]) {
         }
         Opened::Refused(refusal) => vectors::refused(refusal),
     }
+}
+
+fn show_read(sheet: &[u8], marks: &mut [u8], readings: &mut [i32]) {
+    show_opened(sheet::read(sheet, marks, readings));
     vectors::bytes(b"; marks", marks, 0, marks.len());
-    vectors::bytes(b"; readings", marks, 0, 0);
-    let mut e: usize = 0;
-    'readings: while e < readings.len() {
-        show_tick(readings[e]);
-        e += 1;
-    }
-    vectors::end();
+    show_readings(readings);
 }
 
 // A vector of the reader has the lengths of the arrays for marks and readings, and then the sheet.
@@ -64,25 +72,26 @@ fn decode(bytes: &[u8], readings: &mut [i32]) {
     }
 }
 
-// A vector of the writer has the settings, the lengths of the buffer and of the arrays, and then marks and readings.
-fn show_write(vector: &[u8], readings: &mut [i32], buffer: &mut [u8]) {
-    let from = 21 + (words::word_at(vector, 13) % 65) as usize;
-    if vector.len() < from {
-        return;
-    }
-    decode(&vector[from..], readings);
-    match sheet_writer::write(
-        vectors::settings(vector),
-        &vector[21..from],
-        readings,
-        buffer,
-    ) {
+fn show_filled(filled: Filled) {
+    match filled {
         Filled::Granted(size) => {
             vectors::granted();
             vectors::number(size as u64);
         }
         Filled::Refused(refusal) => vectors::refused(refusal),
     }
+}
+
+// A vector of the writer has the settings, the lengths of the buffer and of the arrays, and then marks and
+// readings.
+fn show_write(vector: &[u8], readings: &mut [i32], buffer: &mut [u8]) {
+    let from = 21 + (words::word_at(vector, 13) % 65) as usize;
+    if vector.len() < from {
+        return;
+    }
+    decode(&vector[from..], readings);
+    let settings = vectors::settings(vector);
+    show_filled(sheet_writer::write(settings, &vector[21..from], readings, buffer));
     vectors::bytes(b"; bytes", buffer, 0, buffer.len());
     vectors::end();
 }

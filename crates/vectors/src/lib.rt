@@ -1,9 +1,10 @@
-// Vectors as text. A program reads lines from standard input and prints each; below a vector it prints what the engine
-// answers.
+// Vectors as text. A program reads lines from standard input and prints each; below a vector it prints what the
+// engine answers.
 //
-// A vector is a call's name and numbers, parted by single spaces, among words of small letters that say what the numbers
-// are. A number with a sign takes four bytes, least significant byte first, and one without takes one; `64*+0` is +0 64
-// times. What stands behind a mark, `#`, is a comment; a line that starts with one is a heading.
+// A vector is a call's name and numbers, parted by single spaces, among words of letters that say what the
+// numbers are. A number with a sign takes four bytes, least significant byte first, and one without takes one;
+// `64*+0` is +0 64 times. What stands behind a mark, `#`, is a comment; a line that starts with one is a
+// heading.
 //
 // A program gets a vector as bytes: the first letter of the call's name, and then the numbers.
 ghost use Prim.Native.Nat.{_≤_};
@@ -24,8 +25,8 @@ const COMMENT: u8 = 4;
 
 const MODULUS: u64 = 4_294_967_296;
 
-// How many bytes were put, and the word that is being read: what it is so far, the number of its digits, and how many
-// times it is put.
+// How many bytes were put, and the word that is being read: what it is so far, the number of its digits, and how
+// many times it is put.
 struct Word {
     size: usize,
     kind: u8,
@@ -66,17 +67,14 @@ fn grow(word: Word, character: u8) -> Word {
         return next;
     }
     if character <= b'9' {
+        next.kind = word.kind | BYTE;
         next.value = 10 * (word.value % MODULUS) + ((character - b'0') as u64);
-        if word.kind == NOTHING {
-            next.kind = BYTE;
-        }
         return next;
     }
-    if word.size == 0 {
-        if word.kind == NOTHING {
-            next.kind = BYTE;
-            next.value = character as u64;
-        }
+    if (word.size == 0) & (word.value == 0) {
+        next.kind = BYTE;
+        next.value = character as u64;
+        return next;
     }
     next
 }
@@ -120,38 +118,35 @@ fn put(vector: &mut [u8], from: usize, bits: u32, count: u64) -> usize {
     size
 }
 
+// A word of which nothing is read, behind so many bytes.
+fn fresh(size: usize) -> Word {
+    Word {
+        size,
+        kind: NOTHING,
+        value: 0,
+        times: 1,
+    }
+}
+
 // Takes a character: a space puts the word, and begins another.
 fn take(vector: &mut [u8], word: Word, character: u8) -> Word {
     if word.kind == COMMENT {
         return word;
     }
     if character == b' ' {
-        return Word {
-            size: put(
-                vector,
-                word.size,
-                bits_of(word.kind, word.value),
-                count_of(word.kind, word.times),
-            ),
-            kind: NOTHING,
-            value: 0,
-            times: 1,
-        };
+        let bits = bits_of(word.kind, word.value);
+        let count = count_of(word.kind, word.times);
+        return fresh(put(vector, word.size, bits, count));
     }
     grow(word, character)
 }
 
-// Reads and prints the next line, at most 65,536 characters of it, and answers how many bytes its vector has: none for a
-// heading, and at the end of the input.
+// Reads and prints the next line, at most 65,536 characters of it, and answers how many bytes its vector has:
+// none for a heading, and at the end of the input.
 pub fn next(vector: &mut [u8]) -> usize
     ensures { λ r. ⌜ r ≤ length (now (vector .exit)) ⌝ }
 {
-    let mut word = Word {
-        size: 0,
-        kind: NOTHING,
-        value: 0,
-        times: 1,
-    };
+    let mut word = fresh(0);
     'characters: for _ in 0..65_536u32 {
         let character = read_byte();
         if character < b' ' {

@@ -38,7 +38,13 @@ fn listed<T: ToString>(values: &[T]) -> String {
 }
 
 fn settings(bytes: &[u8]) -> Settings {
-    Settings { n: bytes[0], m: bytes[1], rule: bytes[2], estimator: bytes[3], window: word(bytes, 4) }
+    Settings {
+        n: bytes[0],
+        m: bytes[1],
+        rule: bytes[2],
+        estimator: bytes[3],
+        window: word(bytes, 4),
+    }
 }
 
 fn refused(refusal: Refusal) -> String {
@@ -106,14 +112,16 @@ fn of_sheet(call: &str, bytes: &[u8]) -> String {
             format!("row{}", listed(row(&bytes[8..], cabinet)))
         }
         "write" => {
-            let (room, count, places) = (word(bytes, 8) as usize, word(bytes, 12) as usize, word(bytes, 16) as usize);
+            let (room, count, places) =
+                (word(bytes, 8) as usize, word(bytes, 12) as usize, word(bytes, 16) as usize);
             let readings = words(&bytes[20 + count..]);
             assert_eq!(readings.len(), places);
             let mut buffer = vec![7; room];
-            let answer = match write(&settings(bytes), &bytes[20..20 + count], &readings, &mut buffer) {
-                Ok(size) => format!("granted {size}"),
-                Err(refusal) => refused(refusal),
-            };
+            let answer =
+                match write(&settings(bytes), &bytes[20..20 + count], &readings, &mut buffer) {
+                    Ok(size) => format!("granted {size}"),
+                    Err(refusal) => refused(refusal),
+                };
             format!("{answer}; bytes{}", listed(&buffer))
         }
         _ => panic!("no such call: {call}"),

@@ -1,7 +1,8 @@
 //! The stored outputs of the programs of vectors are what the reference answers to their inputs.
 
 fn held(program: &str) {
-    let folder = std::path::Path::new(env!("CARGO_MANIFEST_DIR")).join("../../crates").join(program);
+    let folder =
+        std::path::Path::new(env!("CARGO_MANIFEST_DIR")).join("../../crates").join(program);
     let lines = std::fs::read_to_string(folder.join("stdin")).expect("the file stdin");
     let stored = std::fs::read_to_string(folder.join("stdout")).expect("the file stdout");
     let wanted = reference::answers(program, &lines);

@@ -14,6 +14,9 @@ Inv-characters vector₀ word₀ counter₀ vector word counter = (counter ≤ 6
 abbrev μ-characters : tie.MeasureT-characters
 μ-characters vector₀ word₀ counter₀ vector word counter = 65536 - counter
 
+fresh-requires : tie.Need-fresh-requires Inv-characters μ-characters
+fresh-requires c κs = search needs
+
 characters-holds : tie.Need-characters-holds Inv-characters μ-characters
 characters-holds c = search needs
 
@@ -53,6 +56,7 @@ next-spec =
     (tie.spec
     Inv-characters
     μ-characters
+    fresh-requires
     characters-holds
     read-byte-requires
     take-requires

@@ -12,16 +12,16 @@ ghost use lib.ListN.{length};
 use model::Refusal;
 use model::Settings;
 
-// What a word is so far.
+// What a word is so far. A digit makes nothing a byte, and leaves the others, which are odd.
 const NOTHING: u8 = 0;
 
 const BYTE: u8 = 1;
 
-const PLUS: u8 = 2;
+const PLUS: u8 = 3;
 
-const MINUS: u8 = 3;
+const MINUS: u8 = 5;
 
-const COMMENT: u8 = 4;
+const COMMENT: u8 = 7;
 
 const MODULUS: u64 = 4_294_967_296;
 

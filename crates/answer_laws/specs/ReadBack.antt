@@ -1,5 +1,5 @@
--- What reading back means: the fields of the answer sheet that settling granted are those of the round of its sheet. The theorem is
--- `settled-reads-back` of proofs/ReadBack.antt.
+-- What reading back means: the fields of the answer sheet that settling granted are those of the round of its sheet.
+-- The theorem is `settled-reads-back` of proofs/ReadBack.antt.
 --   ReadsBack     every field that the bytes a show, for the sheet s
 --   Settled       s is a sheet of bytes that settles, in a buffer of any bytes, to an answer sheet of that size
 use mathlib.Core.List.{List}

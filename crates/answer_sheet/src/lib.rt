@@ -1,12 +1,13 @@
-// Document 01, "The answer sheet": its fields, read from any bytes. Estimate, new value and used value are the 32 bits of a signed
-// number, which `ensemble::Tick::from_bits` reads.
+// Document 01, "The answer sheet": its fields, read from any bytes. Estimate, new value and used value are the 32 bits
+// of a signed number, which `ensemble::Tick::from_bits` reads.
 ghost use mathlib.Core.Path.{_≡_};
 ghost use mathlib.Core.Bool.{_||_};
 ghost use lib.Dec.{eqb, ltb};
 ghost use Rattle.ensemble.specs.Answers.{checkOf};
 ghost use Rattle.model.specs.Refusals.{firstOf};
 ghost use Rattle.model.specs.Calls.{verdict};
-ghost use Rattle.answer_sheet.specs.Fields.{answerChecks, cabinetChecks, cabinetsIn, countIn, estimateIn, valueIn, markIn, usedIn, shownOf};
+ghost use Rattle.answer_sheet.specs.Fields.{answerChecks, cabinetChecks, shownOf};
+ghost use Rattle.answer_sheet.specs.Fields.{cabinetsIn, countIn, estimateIn, valueIn, markIn, usedIn};
 use ensemble::Screened;
 use model::Refusal;
 

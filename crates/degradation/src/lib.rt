@@ -1,4 +1,5 @@
-// The limits that the guarantee states for t bad cabinets: the planned ones up to m, the wider ones of the first round below N-m.
+// The limits that the guarantee states for t bad cabinets: the planned ones up to m, the wider ones of the first round
+// below N-m.
 ghost use mathlib.Core.Bool.{_&&_};
 ghost use mathlib.Core.Option.{none};
 ghost use mathlib.Core.Path.{_≡_};

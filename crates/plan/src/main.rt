@@ -27,19 +27,25 @@ fn say_ticks(name: &[u8], ticks: u32, unit: &[u8]) -> bool {
 
 fn usage() -> bool {
     let is_call = say(
-        b"usage: plan N M RULE ESTIMATOR WINDOW ACCURACY rounds COUNT [T]\n       plan N M RULE ESTIMATOR WINDOW ACCURACY target TICKS [T]\n       plan --help, plan --version\n",
+        b"usage: plan N M RULE ESTIMATOR WINDOW ACCURACY rounds COUNT [T]\n       plan N M RULE ESTIMATOR \
+          WINDOW ACCURACY target TICKS [T]\n       plan --help, plan --version\n",
     );
     let is_ensemble = say(
-        b"  N, M              cabinets, and faults planned for: 3M+1 <= N <= 64\n  RULE, ESTIMATOR   fca or cca; average, median or midpoint\n",
+        b"  N, M              cabinets, and faults planned for: 3M+1 <= N <= 64\n  RULE, ESTIMATOR   fca or \
+          cca; average, median or midpoint\n",
     );
     let is_start = say(
-        b"  WINDOW, ACCURACY  in ticks of 1/16777216 second: how far apart good clocks are, and how far from true time\n",
+        b"  WINDOW, ACCURACY  in ticks of 1/16777216 second: how far apart good clocks are, and how far from \
+          true time\n",
     );
     let is_end = say(
-        b"  COUNT, TICKS      how many rounds, or the window to reach, in ticks\n  T                 bad cabinets, at most N: shows the limits that hold for them\n",
+        b"  COUNT, TICKS      how many rounds, or the window to reach, in ticks\n  T                 bad \
+          cabinets, at most N: shows the limits that hold for them\n",
     );
     let is_answer = say(
-        b"It prints the window and the accuracy after each round, in ticks and, rounded up, in microseconds; or `refused`, a number and a place.\nIt always ends with status 0; a bad argument is named on standard error, and then nothing is printed.\n",
+        b"It prints the window and the accuracy after each round, in ticks and, rounded up, in microseconds; or \
+          `refused`, a number and a place.\nIt always ends with status 0; a bad argument is named on standard \
+          error, and then nothing is printed.\n",
     );
     is_call & is_ensemble & is_start & is_end & is_answer
 }
@@ -52,7 +58,8 @@ fn show_version() -> bool {
     is_named & is_shown & is_ended
 }
 
-// What was given, on standard error. Of an argument that is longer than its buffer `os::arg` leaves the first bytes and answers 0.
+// What was given, on standard error. Of an argument that is longer than its buffer `os::arg` leaves the first bytes
+// and answers 0.
 fn show_given(at: usize) {
     let mut given = [0u8; 60];
     let n = os::arg(at, &mut given);
@@ -215,7 +222,8 @@ fn show_limits(settings: Settings, accuracy: u32, t: u32) -> bool {
     let is_bad = say(b" bad: ");
     let is_told = match degradation::limits_for(settings, accuracy, t) {
         Limits::Planned => say(
-            b"no sound cabinet refuses; after each round two are at most its window apart, each within its accuracy of true time\n",
+            b"no sound cabinet refuses; after each round two are at most its window apart, each within its \
+              accuracy of true time\n",
         ),
         Limits::Wider(wider) => show_wider(wider),
         Limits::Nothing => say(b"nothing is promised\n"),

@@ -1,4 +1,5 @@
-// Document 01, "Program `settle`": reads one round sheet from standard input, at most 20,489 bytes, and writes its listing.
+// Document 01, "Program `settle`": reads one round sheet from standard input, at most 20,489 bytes, and writes its
+// listing.
 ghost use mathlib.Core.Path.{_≡_};
 ghost use lib.ListN.{length};
 ghost use Rattle.settle.specs.Sizes.{Within};
@@ -95,7 +96,10 @@ fn settle_input() {
 fn usage() -> bool {
     io::write_all(
         STDOUT_FILENO,
-        b"usage: settle <SHEET\n       settle --help, settle --version\nReads one round sheet, in bytes, from standard input and writes its answer: `round`, N, the accepted count, the\nestimate and the new value; then each cabinet's number, mark and used value. Or `refused`, a number and a place.\nIt always ends with status 0; where input or output fails it says so on standard error.\n",
+        b"usage: settle <SHEET\n       settle --help, settle --version\nReads one round sheet, in bytes, from \
+          standard input and writes its answer: `round`, N, the accepted count, the\nestimate and the new \
+          value; then each cabinet's number, mark and used value. Or `refused`, a number and a place.\nIt \
+          always ends with status 0; where input or output fails it says so on standard error.\n",
     )
 }
 

@@ -125,7 +125,7 @@ for page in TRACEABILITY PROOF-MAP; do
     done < <(grep -n '^| ' "docs/$page.md" | grep -v -- '^[0-9]*:| \(Demand\|Paper\|What\|Edit\) |' | cut -d: -f1)
     echo "rows: $rows of docs/$page.md, one after the other"
 done
-sabotage "reading list: a page not listed" "sed -i '/model\/specs\/Steps.antt/d' docs/ARCHITECTURE.md" tests/check_reading_list "neither"
+sabotage "reading list: a page not listed" "sed -i '/model\/specs\/Steps.antt/d' docs/ARCHITECTURE.md" tests/check_reading_list "stands in no table"
 sabotage "reading list: a definition longer" "echo '-- more' >>crates/model/specs/Steps.antt" tests/check_reading_list "out of date"
 
 # ---- must-fail edits

@@ -1,5 +1,5 @@
--- INNER: no reader needs this page to believe a public promise. Document 01's acceptance of the readings that a list of naturals holds: a reading
--- moved up by 2^31 is below 2^32, and a number from 2^32 on is a missing reading.
+-- INNER: no reader needs this page to believe a public promise. Document 01's acceptance of the readings that a list
+-- of naturals holds: a reading moved up by 2^31 is below 2^32, and a number from 2^32 on is a missing reading.
 --   acceptedIn             document 01's test of a reading
 --   acceptedCount          how many readings are accepted
 --   countIn, flagsOf       what `accept` counts, and what it leaves in the lent list: at most 64 readings and a list no shorter are asked

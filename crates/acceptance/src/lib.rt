@@ -47,8 +47,9 @@ fn held(start: u64, reach: u64, value: u64) -> u32
     (std::num::wrapping_sub_u64(value, start) <= reach) as u32
 }
 
-// Whether some span that starts at a reading holds r's reading and enough readings: the loops over starts and readings are left by a label
-// at the first span that does. `known` remembers what was found of each start, so that none is counted twice.
+// Whether some span that starts at a reading holds r's reading and enough readings: the loops over starts and
+// readings are left by a label at the first span that does. `known` remembers what was found of each start, so that
+// none is counted twice.
 fn accepts(values: &[u64], window: u32, need: u32, known: &mut [u8], r: usize) -> bool
     requires { ⌜ (r < length (now values)) × (length (now values) ≤ 64) × (length (now known) ≡ 64) ⌝ }
     requires { ⌜ Remembered window need (now values) (now known) ⌝ }
@@ -115,8 +116,8 @@ fn misfit(n: usize, room: usize) -> bool
     (64 < n) | (room < n)
 }
 
-// Says of each of at most 64 readings whether it is accepted, in a lent list, and counts the accepted ones. Where there are more, or the list is
-// shorter, it changes nothing and counts 0.
+// Says of each of at most 64 readings whether it is accepted, in a lent list, and counts the accepted ones. Where
+// there are more, or the list is shorter, it changes nothing and counts 0.
 pub fn accept(values: &[u64], window: u32, need: u32, accepted: &mut [bool]) -> u32
     ensures { λ n. ⌜ n ≡ countIn window need (now (values .entry)) (now (accepted .entry)) ⌝ }
     ensures { λ _. ⌜ now (accepted .exit) ≡ flagsOf window need (now (values .entry)) (now (accepted .entry)) ⌝ }

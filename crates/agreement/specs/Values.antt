@@ -1,5 +1,5 @@
--- INNER: no reader needs this page to believe a public promise. Document 01's round of the readings that a list of naturals holds: a reading moved up
--- by 2^31 is below 2^32, and a number from 2^32 on is a missing reading.
+-- INNER: no reader needs this page to believe a public promise. Document 01's round of the readings that a list of
+-- naturals holds: a reading moved up by 2^31 is below 2^32, and a number from 2^32 on is a missing reading.
 --   entryHeld                  the natural that an entry is held as, by its mark and its bits
 --   agreedRound                document 01's round of the readings
 --   agreedOf                   what `agree` gives: the accepted count, the estimate and the new value
@@ -41,7 +41,8 @@ agreedOf w need kind s =
       value = up 2147483648 (agreedRound w need kind s .value);
     }))
 
--- what is kept of a reading: an accepted one as it is, 2^32 + 1 for one that is present and not accepted, 2^32 for a missing one
+-- what is kept of a reading: an accepted one as it is, 2^32 + 1 for one that is present and not accepted, 2^32 for a
+-- missing one
 abbrev pub keptValue : Bool → ℕ → ℕ
 keptValue accepted v = cond accepted v (cond (ltb v 4294967296) 4294967297 4294967296)
 

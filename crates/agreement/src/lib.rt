@@ -63,8 +63,8 @@ fn strike(values: &mut [u64], accepted: &[bool])
     }
 }
 
-// The round of at most 64 readings: those that are not accepted are struck out. Where none is accepted, or more are given, the list is left
-// as it is.
+// The round of at most 64 readings: those that are not accepted are struck out. Where none is accepted, or more are
+// given, the list is left as it is.
 pub fn agree(values: &mut [u64], window: u32, need: u32, kind: u8) -> Estimated
     ensures { λ r. ⌜ r ≡ agreedOf window need kind (now (values .entry)) ⌝ }
     ensures { λ _. ⌜ now (values .exit) ≡ keptOf window need (now (values .entry)) ⌝ }

@@ -1,4 +1,5 @@
--- INNER: no reader needs this page to believe a public promise. A row's copies as bytes: a mark for each copy, and four bytes of each.
+-- INNER: no reader needs this page to believe a public promise. A row's copies as bytes: a mark for each copy, and
+-- four bytes of each.
 --   markedAt, copyBits  a copy's mark is 1; its number
 --   copyAt              the copy
 --   decisionOf          what this crate's enum says in document 01's terms

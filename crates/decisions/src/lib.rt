@@ -1,5 +1,6 @@
-// The crusaders decision of a row. The copies of its first values are counted without a branch, which decides most rows; where that leaves it
-// open, a majority vote finds the one value that can have enough copies, and one count decides.
+// The crusaders decision of a row. The copies of its first values are counted without a branch, which decides most
+// rows; where that leaves it open, a majority vote finds the one value that can have enough copies, and one count
+// decides.
 ghost use mathlib.Core.Path.{_≡_};
 ghost use mathlib.Core.Bool.{not, _&&_, _||_};
 ghost use Prim.Native.Nat.{_+_, _*_, _-_, _/_, _≤_, _<_};
@@ -150,7 +151,8 @@ fn misfit(need: u32, marks: usize, row: usize) -> bool
     (row != 4 * marks) | (need as usize <= marks / 2)
 }
 
-// The decision of a row of at most 64 copies, with four bytes for each, where need are more than half; any other is known faulty.
+// The decision of a row of at most 64 copies, with four bytes for each, where need are more than half; any other is
+// known faulty.
 pub fn decide(marks: &[u8], row: &[u8], need: u32) -> Decided
     ensures { λ r. ⌜ decisionOf r ≡ rowDecision need (now (marks .entry)) (now (row .entry)) ⌝ }
 {

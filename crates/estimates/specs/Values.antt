@@ -1,5 +1,5 @@
--- INNER: no reader needs this page to believe a public promise. Document 01's estimate and mean of the readings that a list of naturals holds: a
--- reading moved up by 2^31 is below 2^32, and a number from 2^32 on is a missing reading.
+-- INNER: no reader needs this page to believe a public promise. Document 01's estimate and mean of the readings that
+-- a list of naturals holds: a reading moved up by 2^31 is below 2^32, and a number from 2^32 on is a missing reading.
 --   valueAt, presentIn    the natural of a cabinet; whether its reading is present
 --   presentCount          how many readings are present
 --   estimateIn            document 01's estimate of the present readings

@@ -18,7 +18,8 @@ const AVERAGE: u8 = 0;
 
 const MEDIAN: u8 = 1;
 
-// The count of the present readings, their estimate and the new value; all 0 where none is present or there are more than 64.
+// The count of the present readings, their estimate and the new value; all 0 where none is present or there are more
+// than 64.
 pub struct Estimated {
     pub count: u32,
     pub estimate: u64,
@@ -101,8 +102,8 @@ fn between(low: u64, v: u64, high: u64) -> bool
     (low <= v) & (v < high)
 }
 
-// The present reading numbered h from below, counting from 1, or the reading 0 where there is none. A number that is too low or too
-// high rules out all beyond it.
+// The present reading numbered h from below, counting from 1, or the reading 0 where there is none. A number that is
+// too low or too high rules out all beyond it.
 fn numbered(values: &[u64], h: u32) -> u64
     requires { ⌜ length (now values) ≤ 64 ⌝ }
     ensures { λ r. ⌜ r ≡ numberedAt (now (values .entry)) h ⌝ }

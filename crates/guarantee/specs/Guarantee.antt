@@ -1,7 +1,7 @@
--- Demand 3 and document 01, "Limits for sound cabinets": how far sound cabinets can be from each other and from true
--- time, over a whole run of 0 to 32 rounds, whatever faulty cabinets send. The theorem is `guarantee` of
--- proofs/Guarantee.antt. Beside this file, Exact.antt has the limits for m < t < N-m to the tick, Regulator.antt has it
--- for seven cabinets, and Witnesses.antt has rounds that reach its limits.
+-- Demand 3 and document 01, "Limits for sound cabinets" (docs/FORMAT.md, 10): how far sound cabinets can be from each
+-- other and from true time, over a whole run of 0 to 32 rounds, whatever faulty cabinets send. The theorem is
+-- `guarantee` of proofs/Guarantee.antt. Beside this file, Exact.antt has the limits for m < t < N-m to the tick,
+-- Regulator.antt has it for seven cabinets, and Witnesses.antt has rounds that reach its limits.
 --
 -- The run settles with `settle`, steps with `step` and fills sheets with `write` of crates/model/specs/Calls.antt: the
 -- same definitions that the functions' promises are equations with.

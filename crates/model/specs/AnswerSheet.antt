@@ -1,4 +1,4 @@
--- Document 01, "The answer sheet".
+-- Document 01, "The answer sheet" (docs/FORMAT.md, 4).
 --   answerLength    10 + 5N
 --   headerBytes     bytes 0 to 9, of numbers given by their bits
 --   answerBytes     every byte of the answer sheet of a settled round

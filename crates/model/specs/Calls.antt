@@ -1,4 +1,4 @@
--- What each call of document 01 gives, and what it leaves in everything that it was lent.
+-- What each call of document 01 gives, and what it leaves in everything that it was lent (docs/FORMAT.md, 7 and 8).
 --   Verdict                    what is granted, or the refusal
 --   read, write, row, settle   the reader, the writer, the row accessor, settling
 --   plan, step, Target         the planner, its step, the count for a target

@@ -1,4 +1,4 @@
--- Document 01, "The ensemble".
+-- Document 01, "The ensemble" (docs/FORMAT.md, 1 and 2).
 --   maxCabinets, maxWindow           the limits of N and of the window
 --   ticksPerSecond                   the tick: 1/16,777,216 second
 --   lowestReading, highestReading    the ends of a signed 32-bit number of ticks

@@ -1,4 +1,4 @@
--- Document 01, "Program `settle`": the text that it writes.
+-- Document 01, "Program `settle`" (docs/FORMAT.md, 9): the text that it writes.
 --   decimal, signedDecimal    a number in decimal digits, without leading zeros; a minus sign before a negative one
 --   line                      fields parted by one space, ended by a line feed
 --   listing                   the whole text for the bytes of a sheet

@@ -1,4 +1,4 @@
--- Document 01, "The planner".
+-- Document 01, "The planner" (docs/FORMAT.md, 6).
 --   ceilDiv               a quotient rounded up
 --   nextWindow, growth    the next window; what a round adds to the accuracy
 --   Plan                  the settings with the next round's window, the accuracy planned by then, the rounds done
@@ -66,8 +66,8 @@ after (suc k) p = advance (after k p)
 abbrev pub windowAfter : ℕ → Settings → ℕ → ℕ
 windowAfter k c κ = after k (planFrom c κ) .settings .window
 
--- "a round count of at most 32 whose window is at or below the target. More than one count may fit, and no definition here decides
--- which"
+-- "a round count of at most 32 whose window is at or below the target. More than one count may fit, and no definition
+-- here decides which"
 pub record Reaches (c : Settings) (κ target k : ℕ) : Type 0 where
   pub most : k ≤ maxRounds
   pub fits : windowAfter k c κ ≤ target

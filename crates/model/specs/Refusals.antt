@@ -1,5 +1,5 @@
--- Document 01, "Numbers of refusal": the table, a definition for each check in its order, and the checks that apply to
--- each call. Of what a call is lent to fill they ask the length.
+-- Document 01, "Numbers of refusal" (docs/FORMAT.md, 7): the table, a definition for each check in its order, and the
+-- checks that apply to each call. Of what a call is lent to fill they ask the length.
 --   Check                       what a check gives: its refusal, or nothing
 --   refuseIf, atEntry           a check whose place is 0; a check whose place is the lowest entry at fault
 --   firstOf                     "Checks run in this order, those that apply to the call": the first that refuses

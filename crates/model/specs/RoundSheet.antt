@@ -1,4 +1,4 @@
--- Document 01, "The round sheet".
+-- Document 01, "The round sheet" (docs/FORMAT.md, 3).
 --   byte, word               a byte; a number of four bytes, least significant first
 --   settingsAt               the sizes, bytes 0 to 7
 --   entryCount (E)           the number of entries

@@ -1,4 +1,4 @@
--- Document 01, "Steps of a round" (document 004, section 3).
+-- Document 01, "Steps of a round" (document 004, section 3; docs/FORMAT.md, 5).
 --   Decision, decideRow       the crusaders decision of a row
 --   readingsOf                the reading of each cabinet: FCA as sent, CCA as decided
 --   inside, held              a reading lies in a span; how many readings a span holds
@@ -61,8 +61,8 @@ abbrev pub within : ℕ → Reading → Reading → Bool
 within w (present s) v = inside s (s +ℤ pos w) v
 within w missing v = false
 
--- "A reading v is accepted if some span [s, f] with s ≤ v ≤ f and f - s ≤ δ holds at least N-m present readings": it is enough
--- to try the spans that start at a reading (the law `accepted-span` says so of any span)
+-- "A reading v is accepted if some span [s, f] with s ≤ v ≤ f and f - s ≤ δ holds at least N-m present readings": it
+-- is enough to try the spans that start at a reading (the law `accepted-span` says so of any span)
 unfoldable pub accepted : ℕ → ℕ → ℕ → Readings → ℕ → Bool
 accepted w need n v r = anyBelow (λ s. within w (v s) (v r) && leb need (count (λ t. within w (v s) (v t)) n)) n
 
@@ -70,8 +70,8 @@ abbrev pub ticksAt : Readings → Option ℕ → ℤ
 ticksAt v (some r) = ticks (v r)
 ticksAt v none = pos 0
 
--- "the element numbered h from below, counting from 1", over the cabinets that acc admits: at least h of them read at or below
--- it, and fewer than h below it
+-- "the element numbered h from below, counting from 1", over the cabinets that acc admits: at least h of them read at
+-- or below it, and fewer than h below it
 unfoldable pub numbered : (ℕ → Bool) → ℕ → Readings → ℕ → ℤ
 numbered acc n v h =
     ticksAt v

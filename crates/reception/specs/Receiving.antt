@@ -1,5 +1,5 @@
--- INNER: no reader needs this page to believe a public promise. What a cabinet reads of the others, held as naturals: a present reading moved up by
--- 2^31, a missing one as 2^32.
+-- INNER: no reader needs this page to believe a public promise. What a cabinet reads of the others, held as naturals:
+-- a present reading moved up by 2^31, a missing one as 2^32.
 --   heldAt        what is held of a cabinet: document 01's reading of it, as sent for FCA, as decided for CCA
 --   fitting       sizes that fit
 --   receivedOf    the list that `receive` leaves
@@ -21,7 +21,8 @@ use Rattle.rows.specs.Parts.{partAt}
 abbrev pub heldAt : List ℕ → Settings → ℕ → ℕ
 heldAt s c r = heldOf (readingsOf c (entryAt s (entryCount c)) r)
 
--- at most 64 cabinets, of which more than half are planned to be sound, a sheet of their length and a list as long as they are many
+-- at most 64 cabinets, of which more than half are planned to be sound, a sheet of their length and a list as long as
+-- they are many
 unfoldable pub fitting : Settings → ℕ → ℕ → Bool
 fitting c sheet values = (leb (c .n) 64 && ltb (2 * c .m) (c .n)) && (eqb sheet (sheetLength c) && eqb values (c .n))
 

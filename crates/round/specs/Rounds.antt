@@ -1,6 +1,7 @@
--- INNER: no reader needs this page to believe a public promise. A settled round held as naturals, in document 01's terms: the estimate and the new
--- value are moved up by 2^31; in the list of what is kept a number below 2^32 is an accepted reading moved up by 2^31, 2^32 is a missing reading,
--- and 2^32 + 1 one that is not accepted. The law `settled-alike` (proofs/Settling) says that it is the round of the sheet.
+-- INNER: no reader needs this page to believe a public promise. A settled round held as naturals, in document 01's
+-- terms: the estimate and the new value are moved up by 2^31; in the list of what is kept a number below 2^32 is an
+-- accepted reading moved up by 2^31, 2^32 is a missing reading, and 2^32 + 1 one that is not accepted. The law
+-- `settled-alike` (proofs/Settling) says that it is the round of the sheet.
 --   markOfKept, usedOfKept    the mark of a cabinet, and the value used for it
 --   roundOfKept               the round
 use mathlib.Core.Bool.{cond}

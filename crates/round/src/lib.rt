@@ -144,7 +144,8 @@ fn settle_valid(sheet: &[u8], settings: Settings, answer: &mut [u8]) -> Settled
     settle_in(sheet, settings, &mut values[..n], answer)
 }
 
-// Settles a round sheet: the answer sheet in the lent buffer, or the first refusal of checks 1 to 10, which changes nothing.
+// Settles a round sheet: the answer sheet in the lent buffer, or the first refusal of checks 1 to 10, which changes
+// nothing.
 pub fn settle(sheet: &[u8], answer: &mut [u8]) -> Settled
     ensures { λ r. ⌜ settlingOf r (now (answer .exit)) ≡ settle (now (sheet .entry)) (now (answer .entry)) ⌝ }
 {

@@ -1,5 +1,6 @@
--- INNER: no reader needs this page to believe a public promise. How the code holds readings: as naturals, a present one moved up by 2^31 and a
--- missing one as 2^32. The law `reading-held` (proofs/Held) says that no reading of 32 bits is lost by it.
+-- INNER: no reader needs this page to believe a public promise. How the code holds readings: as naturals, a present
+-- one moved up by 2^31 and a missing one as 2^32. The law `reading-held` (proofs/Held) says that no reading of 32
+-- bits is lost by it.
 --   heldOf       the natural that a reading is held as
 --   readingOf    the reading that a natural stands for: a number from 2^32 on is a missing one
 --   readingsIn   the readings that a list of naturals stands for, one for each cabinet

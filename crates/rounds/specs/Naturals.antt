@@ -1,6 +1,6 @@
--- INNER: no reader needs this page to believe a public promise. Document 01's "Steps of a round" on naturals, as the code does them. The laws
--- named here (proofs/Shifted, proofs/Natural) say that each is document 01's step of the readings that are these naturals moved down by k;
--- the code has k = 2^31.
+-- INNER: no reader needs this page to believe a public promise. Document 01's "Steps of a round" on naturals, as the
+-- code does them. The laws named here (proofs/Shifted, proofs/Natural) say that each is document 01's step of the
+-- readings that are these naturals moved down by k; the code has k = 2^31.
 --   shift, shifted     the reading that a natural stands for; that of each cabinet
 --   within-nat, spans  a reading lies in the span that starts at another: `within-shift`
 --   accepted-nat       a reading is accepted: `accepted-shifted`

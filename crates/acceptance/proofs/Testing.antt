@@ -15,7 +15,7 @@ use Rattle.arithmetic.specs.Writing.{table, overwrite}
 use Rattle.arithmetic.proofs.Bools.{or-left, or-right}
 use Rattle.arithmetic.proofs.Counting.{count-le}
 use Rattle.arithmetic.proofs.Writing.{length-table, length-overwrite}
-use Rattle.acceptance.specs.Values.{acceptedIn, acceptedCount, countIn, flagsOf, Remembered}
+use Rattle.acceptance.specs.Values.{acceptedIn, acceptedCount, countGiven, flagsOf, Remembered}
 use Rattle.loops.proofs.Loops.{flag, count-next, store-none, store-next, store-ended}
 
 module _ (w need : ℕ) (values : List ℕ) (flags₀ : List Bool) where
@@ -84,8 +84,8 @@ remember-none w need s few a l = inl (getD-replicate 64 a 0 0 (omega arith))
 -- ---- the answers
 
 module _ (w need : ℕ) (s : List ℕ) (old : List Bool) {b : Bool} (test : b ≡ (ltb 64 (length s) || ltb (length old) (length s))) where
-  pub count-unfit : b ≡ true → 0 ≡ countIn w need s old
-  unfolding countIn
+  pub count-unfit : b ≡ true → 0 ≡ countGiven w need s old
+  unfolding countGiven
   count-unfit t = rw (sym test ∙ t)
 
   pub flags-unfit : b ≡ true → old ≡ flagsOf w need s old
@@ -99,8 +99,8 @@ module _ (w need : ℕ) (s : List ℕ) (old : List Bool) {b : Bool} (test : b �
     pub fit-room : length s ≤ length old
     fit-room = ltb-false (length old) (length s) (or-right (ltb 64 (length s)) (ltb (length old) (length s)) (sym test ∙ f))
 
-    pub count-fit : (n : ℕ) → n ≡ acceptedCount w need s → n ≡ countIn w need s old
-    unfolding countIn
+    pub count-fit : (n : ℕ) → n ≡ acceptedCount w need s → n ≡ countGiven w need s old
+    unfolding countGiven
     count-fit n e = e ∙ rw (sym test ∙ f)
 
     pub flags-fit : (flags : List Bool) → flags ≡ overwrite (table (acceptedIn w need s) (length s)) old → flags ≡ flagsOf w need s old

@@ -2,7 +2,7 @@
 -- of naturals holds: a reading moved up by 2^31 is below 2^32, and a number from 2^32 on is a missing reading.
 --   acceptedIn             document 01's test of a reading
 --   acceptedCount          how many readings are accepted
---   countIn, flagsOf       what `accept` counts, and what it leaves in the lent list: at most 64 readings and a list no shorter are asked
+--   countGiven, flagsOf    what `accept` counts, and what it leaves in the lent list: at most 64 readings and a list no shorter are asked
 -- What the functions below it give:
 --   spansAt, enoughAt      a reading lies in the span that starts at another; whether that span holds enough
 --   Remembered             what the memory of counted spans says of each start
@@ -29,8 +29,8 @@ acceptedCount w need s = count (acceptedIn w need s) (length s)
 abbrev pub flagsMisfit : List ℕ → List Bool → Bool
 flagsMisfit s old = ltb 64 (length s) || ltb (length old) (length s)
 
-unfoldable pub countIn : ℕ → ℕ → List ℕ → List Bool → ℕ
-countIn w need s old = cond (flagsMisfit s old) 0 (acceptedCount w need s)
+unfoldable pub countGiven : ℕ → ℕ → List ℕ → List Bool → ℕ
+countGiven w need s old = cond (flagsMisfit s old) 0 (acceptedCount w need s)
 
 unfoldable pub flagsOf : ℕ → ℕ → List ℕ → List Bool → List Bool
 flagsOf w need s old = cond (flagsMisfit s old) old (overwrite (table (acceptedIn w need s) (length s)) old)

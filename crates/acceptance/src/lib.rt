@@ -7,7 +7,7 @@ ghost use lib.ListN.{length};
 ghost use Rattle.arithmetic.specs.Counting.{bit};
 ghost use Rattle.arithmetic.specs.Writing.{table, overwrite};
 ghost use Rattle.rounds.specs.Naturals.{within-nat};
-ghost use Rattle.acceptance.specs.Values.{acceptedIn, Remembered, acceptedCount, countIn, flagsOf};
+ghost use Rattle.acceptance.specs.Values.{acceptedIn, Remembered, acceptedCount, countGiven, flagsOf};
 use estimates::LIMIT;
 
 // What is known of a span: not counted yet, too few readings, enough.
@@ -119,7 +119,7 @@ fn misfit(n: usize, room: usize) -> bool
 // Says of each of at most 64 readings whether it is accepted, in a lent list, and counts the accepted ones. Where
 // there are more, or the list is shorter, it changes nothing and counts 0.
 pub fn accept(values: &[u64], window: u32, need: u32, accepted: &mut [bool]) -> u32
-    ensures { λ n. ⌜ n ≡ countIn window need (now (values .entry)) (now (accepted .entry)) ⌝ }
+    ensures { λ n. ⌜ n ≡ countGiven window need (now (values .entry)) (now (accepted .entry)) ⌝ }
     ensures { λ _. ⌜ now (accepted .exit) ≡ flagsOf window need (now (values .entry)) (now (accepted .entry)) ⌝ }
 {
     if misfit(values.len(), accepted.len()) {

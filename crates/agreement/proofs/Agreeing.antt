@@ -17,9 +17,9 @@ use Rattle.arithmetic.proofs.Writing.{length-table, getD-table}
 use Rattle.model.specs.Steps.{estimate, mean, usedValue}
 use Rattle.rounds.specs.Held.{readingOf, readingsIn}
 use Rattle.rounds.proofs.Local.{estimate-local, used-local}
-use Rattle.estimates.specs.Values.{presentIn, estimateIn, meanIn, evaluatedOf, nothing}
+use Rattle.estimates.specs.Values.{presentIn, estimateOfHeld, meanIn, evaluatedOf, nothing}
 use Rattle.estimates.specs.declared.Estimated.{Estimated}
-use Rattle.acceptance.specs.Values.{acceptedIn, acceptedCount, flagsMisfit, countIn, flagsOf}
+use Rattle.acceptance.specs.Values.{acceptedIn, acceptedCount, flagsMisfit, countGiven, flagsOf}
 use Rattle.acceptance.proofs.Spans.{held-present}
 use Rattle.agreement.specs.Values.{keptValue, keptAt, keptOf, agreedRound, agreedOf}
 use Rattle.agreement.proofs.Kept.{struck, struck-kept}
@@ -72,7 +72,7 @@ module _ (w need : ℕ) (s : List ℕ) where
 
   -- the evaluation of what is kept is that of the accepted readings
   evaluated-kept : (kind : ℕ) → ltb 64 (length s) ≡ false → evaluatedOf kind kept ≡ agreedOf w need kind s
-  unfolding evaluatedOf estimateIn meanIn agreedOf answer
+  unfolding evaluatedOf estimateOfHeld meanIn agreedOf answer
   evaluated-kept kind few =
       rw (length-kept, few)
       (ap₂ (λ (n : ℕ) (v : ℤ). answer n (estimate kind (presentIn kept) (length s) (readingsIn kept)) v) count-kept (value-kept kind (estimate-kept kind))
@@ -84,19 +84,19 @@ module _ (w need : ℕ) (s : List ℕ) where
     misfit-many : flagsMisfit s flags₀ ≡ ltb 64 (length s)
     misfit-many = ap (λ (k : ℕ). ltb 64 (length s) || ltb k (length s)) wide ∙ or-same (ltb 64 (length s))
 
-    count-many : ltb 64 (length s) ≡ true → countIn w need s flags₀ ≡ 0
-    unfolding countIn
+    count-many : ltb 64 (length s) ≡ true → countGiven w need s flags₀ ≡ 0
+    unfolding countGiven
     count-many t = rw (misfit-many ∙ t)
 
-    count-few : ltb 64 (length s) ≡ false → countIn w need s flags₀ ≡ acceptedCount w need s
-    unfolding countIn
+    count-few : ltb 64 (length s) ≡ false → countGiven w need s flags₀ ≡ acceptedCount w need s
+    unfolding countGiven
     count-few t = rw (misfit-many ∙ t)
 
     flags-few : ltb 64 (length s) ≡ false → flagsOf w need s flags₀ ≡ overwrite (table (acceptedIn w need s) (length s)) flags₀
     unfolding flagsOf
     flags-few t = rw (misfit-many ∙ t)
 
-    module _ (n : ℕ) (counted : n ≡ countIn w need s flags₀) where
+    module _ (n : ℕ) (counted : n ≡ countGiven w need s flags₀) where
       -- nothing is accepted, or there are too many readings
       module _ (none : n ≡ 0) where
         pub agreed-none : (kind : ℕ) → nothing ≡ agreedOf w need kind s

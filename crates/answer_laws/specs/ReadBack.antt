@@ -9,15 +9,15 @@ use lib.ListN.{take}
 use Rattle.model.specs.RoundSheet.{byte, settingsAt}
 use Rattle.model.specs.Steps.{roundAt}
 use Rattle.model.specs.Calls.{granted, settle}
-use Rattle.answer_sheet.specs.Fields.{cabinetsIn, countIn, estimateIn, valueIn, markIn, usedIn, signed}
+use Rattle.answer_sheet.specs.Fields.{cabinetsIn, countIn, estimateIn, valueIn, markIn, usedIn, signedField}
 
 pub record ReadsBack (s a : List ℕ) : Type 0 where
   pub cabinets : cabinetsIn a ≡ granted (settingsAt s .n)
   pub count : countIn a ≡ granted (roundAt s .count)
-  pub estimate : signed (estimateIn a) ≡ granted (roundAt s .estimate)
-  pub value : signed (valueIn a) ≡ granted (roundAt s .value)
+  pub estimate : signedField (estimateIn a) ≡ granted (roundAt s .estimate)
+  pub value : signedField (valueIn a) ≡ granted (roundAt s .value)
   pub mark : (r : ℕ) → r < settingsAt s .n → markIn a r ≡ granted (roundAt s .mark r)
-  pub used : (r : ℕ) → r < settingsAt s .n → signed (usedIn a r) ≡ granted (roundAt s .used r)
+  pub used : (r : ℕ) → r < settingsAt s .n → signedField (usedIn a r) ≡ granted (roundAt s .used r)
 
 pub record Settled (s buffer : List ℕ) (size : ℕ) : Type 0 where
   pub bytes : (j : ℕ) → byte s j < 256

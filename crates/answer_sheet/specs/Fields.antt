@@ -3,7 +3,7 @@
 --   cabinetChecks    those, and the one that refuses a cabinet of N or above
 --   cabinetsIn, countIn, estimateIn, valueIn    N, the accepted count, the estimate, the new value
 --   markIn, usedIn   a cabinet's mark and used value
---   signed           the number that 32 bits in two's complement are
+--   signedField      the number that 32 bits in two's complement are
 --   shownOf          what this crate's enum says in these terms
 -- Estimate, new value and used value are given by their 32 bits.
 use mathlib.Core.List.{List, [], _∷_, _++_}
@@ -48,9 +48,9 @@ unfoldable pub usedIn : List ℕ → ℕ → Verdict ℕ
 usedIn a r = verdict (firstOf (cabinetChecks a r)) (word a (answerHeaderSize + byte a 0 + 4 * r))
 
 -- "signed numbers in two's complement"
-abbrev pub signed : Verdict ℕ → Verdict ℤ
-signed (granted bits) = granted (toZ w32 bits)
-signed (refused r) = refused r
+abbrev pub signedField : Verdict ℕ → Verdict ℤ
+signedField (granted bits) = granted (toZ w32 bits)
+signedField (refused r) = refused r
 
 abbrev pub shownOf : Shown → Verdict ℕ
 shownOf (Granted number) = granted number

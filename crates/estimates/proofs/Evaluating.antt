@@ -17,7 +17,7 @@ use Rattle.model.specs.Steps.{mean, usedValue}
 use Rattle.rounds.specs.Naturals.{average-nat, median-nat, midpoint-nat, estimate-nat, mean-nat}
 use Rattle.rounds.specs.Held.{readingsIn}
 use Rattle.rounds.proofs.Shifted.{estimate-shifted, value-shifted}
-use Rattle.estimates.specs.Values.{valueAt, presentIn, usedAt, presentCount, numberedAt, Summarizes, estimateIn, meanIn, estimateAt, nothing, evaluatedOf}
+use Rattle.estimates.specs.Values.{valueAt, presentIn, usedAt, presentCount, numberedAt, Summarizes, estimateOfHeld, meanIn, estimateAt, nothing, evaluatedOf}
 use Rattle.estimates.proofs.Dividing.{div-less}
 use Rattle.estimates.specs.declared.Estimated.{Estimated}
 use Rattle.estimates.specs.declared.Summary.{Summary}
@@ -52,14 +52,14 @@ module _ (s : List ℕ) where
 
   -- document 01's estimate and mean, moved up, are those of the naturals
   module _ (kind : ℕ) (some : 0 < presentCount s) where
-    estimate-down : estimateIn kind s ≡ down 2147483648 (estimateAt kind s)
-    unfolding estimateIn estimateAt
+    estimate-down : estimateOfHeld kind s ≡ down 2147483648 (estimateAt kind s)
+    unfolding estimateOfHeld estimateAt
     estimate-down = estimate-shifted 2147483648 (presentIn s) (valueAt s) (presentIn s) (length s) (λ r e. e) some kind
 
-    estimate-moved : up 2147483648 (estimateIn kind s) ≡ estimateAt kind s
+    estimate-moved : up 2147483648 (estimateOfHeld kind s) ≡ estimateAt kind s
     estimate-moved = ap (up 2147483648) estimate-down ∙ up-down 2147483648 (estimateAt kind s)
 
-    value-moved : up 2147483648 (meanIn s (estimateIn kind s)) ≡ mean-nat (length s) (total (usedAt s (estimateAt kind s)) (length s))
+    value-moved : up 2147483648 (meanIn s (estimateOfHeld kind s)) ≡ mean-nat (length s) (total (usedAt s (estimateAt kind s)) (length s))
     unfolding meanIn
     value-moved =
         ap (λ z. up 2147483648 (mean (length s) (sum (usedValue (presentIn s) (readingsIn s) z) (length s)))) estimate-down

@@ -2,7 +2,7 @@
 -- a list of naturals holds: a reading moved up by 2^31 is below 2^32, and a number from 2^32 on is a missing reading.
 --   valueAt, presentIn    the natural of a cabinet; whether its reading is present
 --   presentCount          how many readings are present
---   estimateIn            document 01's estimate of the present readings
+--   estimateOfHeld        document 01's estimate of the present readings
 --   meanIn                document 01's mean of the readings, the missing ones replaced
 --   evaluatedOf           what `evaluate` gives of at most 64 readings; all 0 where none is present or there are more
 -- What the functions below it give, over naturals:
@@ -36,8 +36,8 @@ abbrev pub presentCount : List ℕ → ℕ
 presentCount s = count (presentIn s) (length s)
 
 -- "Estimate, over accepted readings only": those that are present in the list
-unfoldable pub estimateIn : ℕ → List ℕ → ℤ
-estimateIn kind s = estimate kind (presentIn s) (length s) (readingsIn s)
+unfoldable pub estimateOfHeld : ℕ → List ℕ → ℤ
+estimateOfHeld kind s = estimate kind (presentIn s) (length s) (readingsIn s)
 
 -- "Missing or unaccepted readings are replaced by the estimate. The new value is the mean of N used values"
 unfoldable pub meanIn : List ℕ → ℤ → ℤ
@@ -53,8 +53,8 @@ evaluatedOf kind s =
     (cond (eqb (presentCount s) 0) nothing
     (record {
       count = presentCount s;
-      estimate = up 2147483648 (estimateIn kind s);
-      value = up 2147483648 (meanIn s (estimateIn kind s));
+      estimate = up 2147483648 (estimateOfHeld kind s);
+      value = up 2147483648 (meanIn s (estimateOfHeld kind s));
     }))
 
 -- ---- the functions below it

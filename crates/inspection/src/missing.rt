@@ -10,7 +10,7 @@ use entries::Found;
 use model::Refusal;
 
 // Check 9 of a sheet of its length, with this number of entries.
-pub fn check(sheet: &[u8], entries: usize) -> Screened
+pub(crate) fn check(sheet: &[u8], entries: usize) -> Screened
     requires { ⌜ (length (now sheet) ≡ 8 + 5 * entries) × (entries ≤ 65025) ⌝ }
     ensures { λ r.
         ⌜ checkOf r ≡ badMissing (markAt (now (sheet .entry))) (bitsAt (now (sheet .entry)) entries) entries ⌝ }

@@ -43,19 +43,19 @@ module _ (s buffer : List ℕ) (size : ℕ) (settled : Settled s buffer size) wh
   abbrev n : ℕ
   n = settingsAt s .n
 
-  abbrev row : Check
-  row = firstOf (settleChecks s (length buffer))
+  abbrev outcome : Check
+  outcome = firstOf (settleChecks s (length buffer))
 
   abbrev new : List ℕ
   new = answerBytes n (roundAt s)
 
-  passes : row ≡ none
+  passes : outcome ≡ none
   unfolding settle
-  passes = granted-none row (answerLength n) size (settled .granted-size)
+  passes = granted-none outcome (answerLength n) size (settled .granted-size)
 
   same-size : answerLength n ≡ size
   unfolding settle
-  same-size = granted-same row (answerLength n) size (settled .granted-size)
+  same-size = granted-same outcome (answerLength n) size (settled .granted-size)
 
   abbrev a : List ℕ
   a = answerSheet s buffer size

@@ -37,7 +37,7 @@ use Rattle.sheets.proofs.Written.{written-length}
 use Rattle.planning.proofs.Targets.{start-refuses-target, target-missed, target-reached}
 use Rattle.demands.specs.Demand1.{InOrder, Gives, Leaves, Placed}
 use Rattle.demands.specs.Demand1.{OfSettle, OfRead, OfWrite, OfRow, OfPlan, OfStep, OfTarget, Demand1}
-use Rattle.demands.proofs.Orders.{no-refusal, Plain, row-more, no-rows, first-applies, applies-first}
+use Rattle.demands.proofs.Orders.{no-refusal, Plain, check-more, no-checks, first-applies, applies-first}
 use Rattle.demands.proofs.Orders.{plain-append, plain-order, plain-one, plain-first, plain-settings}
 use Rattle.demands.proofs.Orders.{plain-sheet, length-says, room-says, faults-says, plan-says}
 use Rattle.demands.proofs.Orders.{target-says, each, entry-order, entry-placed}
@@ -123,16 +123,16 @@ module _ (s : List ℕ) where
         (sheetChecks s ++ (noRoom (length marks) E ∷ noRoom (length readings) E ∷ []))
     before-read =
         plain-append (plain-sheet s)
-        (row-more (room-says (length marks) E) (plain-one (room-says (length readings) E)))
+        (check-more (room-says (length marks) E) (plain-one (room-says (length readings) E)))
 
     read-order : InOrder (1 ∷ 2 ∷ 3 ∷ 4 ∷ 5 ∷ 6 ∷ 7 ∷ 7 ∷ 8 ∷ 9 ∷ []) (readChecks s (length marks) (length readings))
     unfolding readChecks sheetChecks settingsChecks entryChecks
-    read-order = entry-order (markAt s) (bitsAt s E) E before-read no-rows
+    read-order = entry-order (markAt s) (bitsAt s E) E before-read no-checks
 
     read-placed : (r : Refusal) → read s marks readings .verdict ≡ refused r → Placed (markAt s) (bitsAt s E) E r
     unfolding read readChecks sheetChecks settingsChecks entryChecks each
     read-placed r h =
-        entry-placed (markAt s) (bitsAt s E) E before-read no-rows refl refl r
+        entry-placed (markAt s) (bitsAt s E) E before-read no-checks refl refl r
         (refused-some (firstOf (readChecks s (length marks) (length readings))) (settingsAt s) r h)
 
     marks-room : firstOf (readChecks s (length marks) (length readings)) ≡ none → length (marksOf s) ≤ length marks
@@ -167,7 +167,7 @@ module _ (s : List ℕ) where
 
   row-order : InOrder (1 ∷ 2 ∷ 3 ∷ 4 ∷ 5 ∷ 6 ∷ 8 ∷ 9 ∷ []) (rowChecks s)
   unfolding rowChecks entryChecks
-  row-order = entry-order (markAt s) (bitsAt s E) E (plain-sheet s) no-rows
+  row-order = entry-order (markAt s) (bitsAt s E) E (plain-sheet s) no-checks
 
   row-empty : OfRow s
   row-empty =
@@ -183,19 +183,19 @@ module _ (c : Settings) (marks : List ℕ) (readings : List ℤ) (buffer : List 
       ∷ []))
   before-write =
       plain-append (plain-settings c)
-      (row-more (length-says (length marks) (entryCount c))
-      (row-more (length-says (length readings) (entryCount c)) (plain-one (room-says (length buffer) (sheetLength c)))))
+      (check-more (length-says (length marks) (entryCount c))
+      (check-more (length-says (length readings) (entryCount c)) (plain-one (room-says (length buffer) (sheetLength c)))))
 
   write-order : InOrder (2 ∷ 3 ∷ 4 ∷ 5 ∷ 6 ∷ 6 ∷ 7 ∷ 8 ∷ 9 ∷ []) (writeChecks c marks readings (length buffer))
   unfolding writeChecks settingsChecks
-  write-order = entry-order (byte marks) (bitsIn readings) (entryCount c) before-write no-rows
+  write-order = entry-order (byte marks) (bitsIn readings) (entryCount c) before-write no-checks
 
   write-placed :
       (r : Refusal) → write c marks readings buffer .verdict ≡ refused r
       → Placed (byte marks) (bitsIn readings) (entryCount c) r
   unfolding write writeChecks settingsChecks each
   write-placed r h =
-      entry-placed (byte marks) (bitsIn readings) (entryCount c) before-write no-rows refl refl r
+      entry-placed (byte marks) (bitsIn readings) (entryCount c) before-write no-checks refl refl r
       (refused-some (firstOf (writeChecks c marks readings (length buffer))) (sheetLength c) r h)
 
   write-room :
@@ -203,11 +203,11 @@ module _ (c : Settings) (marks : List ℕ) (readings : List ℤ) (buffer : List 
       → length (sheetBytes c marks readings) ≤ length buffer
   unfolding writeChecks settingsChecks
   write-room h =
-      let rows = none-at (writeChecks c marks readings (length buffer)) h in
+      let passed = none-at (writeChecks c marks readings (length buffer)) h in
       let long =
-      written-length c marks readings (length-passed (length marks) (entryCount c) (rows 4))
-      (length-passed (length readings) (entryCount c) (rows 5)) in
-      let room = room-passed (length buffer) (sheetLength c) (rows 6) in
+      written-length c marks readings (length-passed (length marks) (entryCount c) (passed 4))
+      (length-passed (length readings) (entryCount c) (passed 5)) in
+      let room = room-passed (length buffer) (sheetLength c) (passed 6) in
       omega arith
 
   writer : OfWrite c marks readings buffer
@@ -225,7 +225,7 @@ module _ (c : Settings) (marks : List ℕ) (readings : List ℤ) (buffer : List 
 
 -- ---- the planner
 
--- the first refusal of plain rows has the place 0
+-- the first refusal of plain checks has the place 0
 plain-place : {ns : List ℕ} {xs : List Check} → Plain ns xs → (r : Refusal) → firstOf xs ≡ some r → r .place ≡ 0
 unfolding firstOf
 plain-place {ns} {xs} p r h =
@@ -254,7 +254,7 @@ module _ (c : Settings) (κ : ℕ) where
     unfolding targetChecks
     plain-target =
         plain-append (plain-settings c)
-        (row-more (plan-says (ltb maxAccuracy κ)) (plain-one (target-says (windowAfter maxRounds c κ) target)))
+        (check-more (plan-says (ltb maxAccuracy κ)) (plain-one (target-says (windowAfter maxRounds c κ) target)))
 
     target-gives :
         (answer : Verdict ℕ) → Target c κ target answer → Gives (targetChecks c κ target) (Reaches c κ target) answer

@@ -172,8 +172,8 @@ module _ (p : Plan) where
   forward : (q : Plan) → step p ≡ granted q → Forward p q
   unfolding step
   forward q e =
-      let row = granted-check (advance p) (firstOf (stepChecks p)) (sym e) in
-      subst⁻¹ (Forward p) (row .1) (advanced (none-may-step p (row .0) .passes .someCabinet))
+      let stepped = granted-check (advance p) (firstOf (stepChecks p)) (sym e) in
+      subst⁻¹ (Forward p) (stepped .1) (advanced (none-may-step p (stepped .0) .passes .someCabinet))
 
 planned : (c : Settings) (κ : ℕ) → PlannedRounds c κ
 planned c κ =

@@ -65,9 +65,9 @@ all-pass [] h = refl
 all-pass (x ∷ checks) h =
     ap (λ (y : Check). orNext y (firstOf checks)) (h 0 (omega arith)) ∙ all-pass checks (λ i l. h (suc i) (omega arith))
 
--- ---- one row
+-- ---- one check
 
--- what a row says that has no entry to point at
+-- what a check says that has no entry to point at
 abbrev pub Says : ℕ → Check → Type 0
 Says number x = (r : Refusal) → x ≡ some r → r ≡ refusal number 0
 
@@ -85,17 +85,17 @@ entry-says (some i) number r e =
     same : refusal number i ≡ r
     same = cc
 
--- ---- rows that have no entry to point at
+-- ---- checks that have no entry to point at
 
 pub data Plain : List ℕ → List Check → Type 0 where
-  no-rows : Plain [] []
-  row-more :
+  no-checks : Plain [] []
+  check-more :
       {number : ℕ} {x : Check} {numbers : List ℕ} {checks : List Check} → Says number x → Plain numbers checks
       → Plain (number ∷ numbers) (x ∷ checks)
 
 pub plain-append : {ns ms : List ℕ} {xs ys : List Check} → Plain ns xs → Plain ms ys → Plain (ns ++ ms) (xs ++ ys)
-plain-append no-rows q = q
-plain-append (row-more f p) q = row-more f (plain-append p q)
+plain-append no-checks q = q
+plain-append (check-more f p) q = check-more f (plain-append p q)
 
 no-order : InOrder [] []
 no-order = record { asMany = refl; says = λ i r e. no-refusal e }
@@ -112,23 +112,23 @@ order-more number x ns xs f h = record { asMany = ap suc (h .asMany); says = at 
 pub plain-then :
     {ns : List ℕ} {xs : List Check} → Plain ns xs → (ms : List ℕ) (ys : List Check) → InOrder ms ys
     → InOrder (ns ++ ms) (xs ++ ys)
-plain-then no-rows ms ys h = h
-plain-then (row-more {number} {x} {numbers} {checks} f p) ms ys h =
+plain-then no-checks ms ys h = h
+plain-then (check-more {number} {x} {numbers} {checks} f p) ms ys h =
     order-more number x (numbers ++ ms) (checks ++ ys) (λ r e. ap (λ (y : Refusal). y .number) (f r e))
     (plain-then p ms ys h)
 
 pub plain-order : {ns : List ℕ} {xs : List Check} → Plain ns xs → InOrder ns xs
-plain-order no-rows = no-order
-plain-order (row-more {number} {x} {numbers} {checks} f p) =
+plain-order no-checks = no-order
+plain-order (check-more {number} {x} {numbers} {checks} f p) =
     order-more number x numbers checks (λ r e. ap (λ (y : Refusal). y .number) (f r e)) (plain-order p)
 
--- the first refusal of plain rows, if there is one, and else that of the rows behind them
+-- the first refusal of plain checks, if there is one, and else that of the checks behind them
 pub plain-first :
     {ns : List ℕ} {xs : List Check} → Plain ns xs → (ys : List Check) (r : Refusal) → firstOf (xs ++ ys) ≡ some r
     → ((i : ℕ) × (r ≡ refusal (getD ns i 0) 0)) ⊎ (firstOf ys ≡ some r)
 unfolding firstOf
-plain-first no-rows ys r h = inr h
-plain-first (row-more {number} {x} {numbers} {checks} f p) ys r h = go x f h (plain-first p ys r)
+plain-first no-checks ys r h = inr h
+plain-first (check-more {number} {x} {numbers} {checks} f p) ys r h = go x f h (plain-first p ys r)
   where
     Out : List ℕ → Type 0
     Out ns = ((i : ℕ) × (r ≡ refusal (getD ns i 0) 0)) ⊎ (firstOf ys ≡ some r)
@@ -150,7 +150,7 @@ each-at p [] z h i = z
 each-at p (n ∷ ns) z h zero = and-left (p n) (each p ns) h
 each-at p (n ∷ ns) z h (suc i) = each-at p ns z (and-right (p n) (each p ns) h) i
 
--- ---- the rows of the table
+-- ---- the checks of the table
 
 pub short-says : (s : List ℕ) → Says 1 (tooShort s)
 unfolding tooShort
@@ -179,21 +179,21 @@ target-says last target = says-if (ltb target last) 12
 pub plain-settings : (c : Settings) → Plain (2 ∷ 3 ∷ 4 ∷ 5 ∷ []) (settingsChecks c)
 unfolding settingsChecks badCabinets badFaults badMethod badWindow
 plain-settings c =
-    row-more (says-if (eqb (c .n) 0 || ltb maxCabinets (c .n)) 2)
-    (row-more (says-if (ltb (c .n) (3 * c .m + 1)) 3)
-    (row-more (says-if (ltb cca (c .rule) || ltb midpoint (c .estimator)) 4)
-    (row-more (says-if (ltb maxWindow (c .window)) 5) no-rows)))
+    check-more (says-if (eqb (c .n) 0 || ltb maxCabinets (c .n)) 2)
+    (check-more (says-if (ltb (c .n) (3 * c .m + 1)) 3)
+    (check-more (says-if (ltb cca (c .rule) || ltb midpoint (c .estimator)) 4)
+    (check-more (says-if (ltb maxWindow (c .window)) 5) no-checks)))
 
 pub plain-one : {number : ℕ} {x : Check} → Says number x → Plain (number ∷ []) (x ∷ [])
-plain-one f = row-more f no-rows
+plain-one f = check-more f no-checks
 
 pub plain-sheet : (s : List ℕ) → Plain (1 ∷ 2 ∷ 3 ∷ 4 ∷ 5 ∷ 6 ∷ []) (sheetChecks s)
 unfolding sheetChecks
 plain-sheet s =
-    plain-append (row-more (short-says s) (plain-settings (settingsAt s)))
+    plain-append (check-more (short-says s) (plain-settings (settingsAt s)))
     (plain-one (length-says (length s) (sheetLength (settingsAt s))))
 
--- ---- rows 8 and 9
+-- ---- checks 8 and 9
 
 -- a number that has no entry to point at
 abbrev pub neither : ℕ → Bool
@@ -241,7 +241,7 @@ module _ (mark bits : ℕ → ℕ) (E : ℕ) where
             clash (and-intro (eq-eqb (mark i) 0 (fault .0)) (ap not some-bits)) (found .first i l);
       }
 
-  -- checks 8 and 9 between plain rows, whose numbers are neither
+  -- checks 8 and 9 between plain checks, whose numbers are neither
   module _ {ns ms : List ℕ} {xs ys : List Check} (before : Plain ns xs) (behind : Plain ms ys) where
     pub entry-order : InOrder (ns ++ (8 ∷ 9 ∷ ms)) (xs ++ (badMark mark E ∷ badMissing mark bits E ∷ ys))
     entry-order =

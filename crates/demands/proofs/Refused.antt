@@ -25,7 +25,7 @@ use Rattle.sheets.proofs.Checks.{settings-passed}
 use Rattle.sheets.proofs.Outcomes.{refused-some}
 use Rattle.demands.specs.Demand1.{InOrder}
 use Rattle.demands.specs.Demand2.{Passed, NoSpan, TooManyFaults}
-use Rattle.demands.proofs.Orders.{no-rows, first-applies, all-pass, each, each-at, entry-order}
+use Rattle.demands.proofs.Orders.{no-checks, first-applies, all-pass, each, each-at, entry-order}
 use Rattle.demands.proofs.Demand1.{before-settle}
 use Rattle.demands.proofs.Spans.{too-many-faults}
 
@@ -47,7 +47,7 @@ module _ (s answer : List ℕ) where
   unfolding sheetChecks settingsChecks entryChecks
   front-order =
       entry-order (markAt s) (bitsAt s (entryCount (settingsAt s))) (entryCount (settingsAt s))
-      (before-settle s answer) no-rows
+      (before-settle s answer) no-checks
 
   front-at : (i : ℕ) → i < 9 → getD (settleChecks s (length answer)) i none ≡ getD front i none
   front-at i l =

@@ -14,7 +14,7 @@ pub struct Settings {
     pub window: u32,
 }
 
-// A numbered refusal: the row of document 01's table, and the lowest entry at fault for rows 8 and 9, else 0.
+// A numbered refusal: the number of document 01's check, and the lowest entry at fault for 8 and 9, else 0.
 pub struct Refusal {
     pub number: u8,
     pub place: u32,

@@ -1,8 +1,8 @@
--- `answer_sheet::check` meets its contract: at each answer the tests that led there say which row refuses first.
+-- `answer_sheet::check` meets its contract: at each answer the tests that led there say which check refuses first.
 -- Assumes nothing.
 use borrow.Author.Needs.{needs}
 use mathlib.Core.Path.{sym, _∙_}
-use Rattle.answer_sheet.proofs.Rows.{cabinets-refuse, length-refuses, answer-passes}
+use Rattle.answer_sheet.proofs.Checks.{cabinets-refuse, length-refuses, answer-passes}
 use Rattle.answer_sheet.proofs.check.Statement.{statement}
 use Rattle.answer_sheet.proofs.check.Tie as tie
 

@@ -3,7 +3,7 @@
 use borrow.Author.Needs.{needs}
 use mathlib.Core.Path.{sym, ap, _∙_}
 use Rattle.ensemble.specs.Answers.{checkOf}
-use Rattle.answer_sheet.proofs.Rows.{sheet-refuses, cabinet-refuses, cabinet-passes}
+use Rattle.answer_sheet.proofs.Checks.{sheet-refuses, cabinet-refuses, cabinet-passes}
 use Rattle.answer_sheet.proofs.check_cabinet.Statement.{statement}
 use Rattle.answer_sheet.proofs.check_cabinet.Tie as tie
 

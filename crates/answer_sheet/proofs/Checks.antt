@@ -1,4 +1,4 @@
--- The first row that refuses an answer sheet, and a cabinet of it, by the tests that led there.
+-- The first check that refuses an answer sheet, and a cabinet of it, by the tests that led there.
 -- Assumes nothing.
 use mathlib.Core.Bool.{Bool, true, false, _||_}
 use mathlib.Core.List.{List, [], _∷_}
@@ -45,18 +45,18 @@ module _ (a : List ℕ) (r : ℕ) where
   in-order = first-snoc (answerChecks a) (noRoom (byte a 0) (r + 1))
 
   pub sheet-refuses : {x : Refusal} → some x ≡ firstOf (answerChecks a) → some x ≡ firstOf (cabinetChecks a r)
-  sheet-refuses h = sym (in-order ∙ ap (λ (row : Check). orNext row (noRoom (byte a 0) (r + 1))) (sym h))
+  sheet-refuses h = sym (in-order ∙ ap (λ (first : Check). orNext first (noRoom (byte a 0) (r + 1))) (sym h))
 
   module _ (passes : none ≡ firstOf (answerChecks a)) (n : ℕ) (cabinets : n ≡ byte a 0) where
-    last-row : firstOf (cabinetChecks a r) ≡ noRoom n (r + 1)
-    last-row =
-        in-order ∙ ap (λ (row : Check). orNext row (noRoom (byte a 0) (r + 1))) (sym passes)
+    last-check : firstOf (cabinetChecks a r) ≡ noRoom n (r + 1)
+    last-check =
+        in-order ∙ ap (λ (first : Check). orNext first (noRoom (byte a 0) (r + 1))) (sym passes)
         ∙ ap (λ (k : ℕ). noRoom k (r + 1)) (sym cabinets)
 
     pub cabinet-refuses : n ≤ r → some (refusal 7 0) ≡ firstOf (cabinetChecks a r)
     unfolding noRoom
-    cabinet-refuses h = sym (last-row ∙ rw (lt-ltb n (r + 1) (omega arith)))
+    cabinet-refuses h = sym (last-check ∙ rw (lt-ltb n (r + 1) (omega arith)))
 
     pub cabinet-passes : r < n → none ≡ firstOf (cabinetChecks a r)
     unfolding noRoom
-    cabinet-passes h = sym (last-row ∙ rw (le-ltb n (r + 1) (omega arith)))
+    cabinet-passes h = sym (last-check ∙ rw (le-ltb n (r + 1) (omega arith)))

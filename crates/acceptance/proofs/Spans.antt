@@ -16,10 +16,10 @@ use lib.Seq.{getD-set-same, getD-set-other}
 use Rattle.arithmetic.specs.Counting.{bit, count}
 use Rattle.arithmetic.proofs.Bools.{iff-eq, and-left, and-right, and-intro, and-false, clash}
 use Rattle.arithmetic.proofs.Counting.{split-last, bit-le-one, count-le, any-true, any-false}
-use Rattle.rounds.specs.Naturals.{within-nat, spans, accepted-nat}
-use Rattle.rounds.proofs.Shifted.{accepted-shifted}
-use Rattle.rounds.proofs.Natural.{accepted-present}
-use Rattle.loops.proofs.Loops.{count-next}
+use Rattle.round_laws.specs.Naturals.{within-nat, spans, accepted-nat}
+use Rattle.round_laws.proofs.Shifted.{accepted-shifted}
+use Rattle.round_laws.proofs.Natural.{accepted-present}
+use Rattle.loop_laws.proofs.Loops.{count-next}
 use Rattle.estimates.specs.Values.{valueAt, presentIn}
 use Rattle.acceptance.specs.Values.{spansAt, acceptedIn, enoughAt, Remembered}
 

@@ -16,7 +16,7 @@ use Rattle.arithmetic.proofs.Bools.{or-left, or-right}
 use Rattle.arithmetic.proofs.Counting.{count-le}
 use Rattle.arithmetic.proofs.Writing.{length-table, length-overwrite}
 use Rattle.acceptance.specs.Values.{acceptedIn, acceptedCount, countGiven, flagsOf, Remembered}
-use Rattle.loops.proofs.Loops.{flag, count-next, store-none, store-next, store-ended}
+use Rattle.loop_laws.proofs.Loops.{flag, count-next, store-none, store-next, store-ended}
 
 module _ (w need : ℕ) (values : List ℕ) (flags₀ : List Bool) where
   -- where the readings below r are tested

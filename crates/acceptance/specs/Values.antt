@@ -16,8 +16,8 @@ use lib.ListN.{length, getD}
 use Rattle.arithmetic.specs.Counting.{bit, count}
 use Rattle.arithmetic.specs.Writing.{table, overwrite}
 use Rattle.model.specs.Steps.{accepted}
-use Rattle.rounds.specs.Held.{readingsIn}
-use Rattle.rounds.specs.Naturals.{spans}
+use Rattle.round_laws.specs.Held.{readingsIn}
+use Rattle.round_laws.specs.Naturals.{spans}
 use Rattle.estimates.specs.Values.{valueAt, presentIn}
 
 unfoldable pub acceptedIn : ℕ → ℕ → List ℕ → ℕ → Bool

@@ -6,7 +6,7 @@ ghost use lib.Dec.{leb, ltb, eqb};
 ghost use lib.ListN.{length};
 ghost use Rattle.arithmetic.specs.Counting.{bit};
 ghost use Rattle.arithmetic.specs.Writing.{table, overwrite};
-ghost use Rattle.rounds.specs.Naturals.{within-nat};
+ghost use Rattle.round_laws.specs.Naturals.{within-nat};
 ghost use Rattle.acceptance.specs.Values.{acceptedIn, Remembered, acceptedCount, countGiven, flagsOf};
 use estimates::LIMIT;
 

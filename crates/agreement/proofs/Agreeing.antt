@@ -15,8 +15,8 @@ use Rattle.arithmetic.proofs.Counting.{count-ext}
 use Rattle.arithmetic.proofs.Sums.{sum-ext}
 use Rattle.arithmetic.proofs.Writing.{length-table, getD-table}
 use Rattle.model.specs.Steps.{estimate, mean, usedValue}
-use Rattle.rounds.specs.Held.{readingOf, readingsIn}
-use Rattle.rounds.proofs.Local.{estimate-local, used-local}
+use Rattle.round_laws.specs.Held.{readingOf, readingsIn}
+use Rattle.round_laws.proofs.Local.{estimate-local, used-local}
 use Rattle.estimates.specs.Values.{presentIn, estimateOfHeld, meanIn, evaluatedOf, nothing}
 use Rattle.estimates.specs.declared.Estimated.{Estimated}
 use Rattle.acceptance.specs.Values.{acceptedIn, acceptedCount, flagsMisfit, countGiven, flagsOf}

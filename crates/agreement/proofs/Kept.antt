@@ -12,7 +12,7 @@ use Rattle.arithmetic.specs.Writing.{table, overwrite}
 use Rattle.arithmetic.proofs.Writing.{length-table, length-overwrite, getD-table, getD-overwrite, overwrite-whole, table-ext}
 use Rattle.acceptance.specs.Values.{acceptedIn}
 use Rattle.agreement.specs.Values.{keptValue, keptAt}
-use Rattle.loops.proofs.Loops.{store-none, store-next, store-ended}
+use Rattle.loop_laws.proofs.Loops.{store-none, store-next, store-ended}
 
 -- what comes behind the entries written keeps what it had
 getD-behind : (f : ℕ → ℕ) (r : ℕ) (old : List ℕ) → getD (overwrite (table f r) old) r 0 ≡ getD old r 0

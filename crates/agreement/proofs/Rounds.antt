@@ -11,9 +11,9 @@ use Rattle.arithmetic.specs.Naturals.{down, up, total}
 use Rattle.arithmetic.proofs.Counting.{count-le}
 use Rattle.arithmetic.proofs.Shift.{up-down}
 use Rattle.model.specs.Steps.{mean, usedValue}
-use Rattle.rounds.specs.Held.{readingsIn}
-use Rattle.rounds.specs.Naturals.{estimate-nat, mean-nat, used-nat}
-use Rattle.rounds.proofs.Shifted.{estimate-shifted, value-shifted}
+use Rattle.round_laws.specs.Held.{readingsIn}
+use Rattle.round_laws.specs.Naturals.{estimate-nat, mean-nat, used-nat}
+use Rattle.round_laws.proofs.Shifted.{estimate-shifted, value-shifted}
 use Rattle.estimates.specs.Values.{valueAt, presentIn}
 use Rattle.acceptance.specs.Values.{acceptedIn, acceptedCount}
 use Rattle.acceptance.proofs.Spans.{held-present}

@@ -15,7 +15,7 @@ use Rattle.arithmetic.specs.Naturals.{up}
 use Rattle.arithmetic.specs.Writing.{table}
 use Rattle.model.specs.Ensemble.{present, missing}
 use Rattle.model.specs.Steps.{estimate, Round, roundWith}
-use Rattle.rounds.specs.Held.{heldOf, readingsIn}
+use Rattle.round_laws.specs.Held.{heldOf, readingsIn}
 use Rattle.estimates.specs.Values.{nothing}
 use Rattle.estimates.specs.declared.Estimated.{Estimated}
 use Rattle.acceptance.specs.Values.{acceptedIn, acceptedCount}

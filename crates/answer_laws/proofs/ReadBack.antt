@@ -17,13 +17,13 @@ use Rattle.model.specs.AnswerSheet.{answerLength, answerBytes}
 use Rattle.model.specs.Steps.{roundAt}
 use Rattle.model.specs.Refusals.{Check, firstOf, settleChecks, sheetChecks, badCabinets, badLength, noRoom}
 use Rattle.model.specs.Calls.{granted, verdict, settle, writtenAfter}
-use Rattle.refusals.proofs.Checks.{first-snoc, none-left}
-use Rattle.refusals.proofs.Limits.{Limits}
-use Rattle.sheets.proofs.Outcomes.{granted-none, granted-same}
-use Rattle.sheets.proofs.Answer.{length-answerBytes, answer-cabinets, answer-count, answer-estimate, answer-value, answer-mark, answer-used}
-use Rattle.sheets.proofs.Inspection.{inspected}
-use Rattle.demands.proofs.Sheets.{settled-estimate, settled-value, settled-used}
-use Rattle.answer_sheet.specs.Fields.{answerChecks, cabinetChecks, cabinetsIn, countIn, estimateIn, valueIn, markIn, usedIn}
+use Rattle.refusal_laws.proofs.Checks.{first-snoc, none-left}
+use Rattle.refusal_laws.proofs.Limits.{Limits}
+use Rattle.sheet_laws.proofs.Outcomes.{granted-none, granted-same}
+use Rattle.sheet_laws.proofs.Answer.{length-answerBytes, answer-cabinets, answer-count, answer-estimate, answer-value, answer-mark, answer-used}
+use Rattle.sheet_laws.proofs.Inspection.{inspected}
+use Rattle.demand_1_2.proofs.Sheets.{settled-estimate, settled-value, settled-used}
+use Rattle.answer_reader.specs.Fields.{answerChecks, cabinetChecks, cabinetsIn, countIn, estimateIn, valueIn, markIn, usedIn}
 use Rattle.answer_laws.specs.ReadBack.{ReadsBack, Settled, answerSheet, SettledReadsBack}
 
 -- writing over nothing leaves what is written

@@ -9,7 +9,7 @@ use lib.ListN.{take}
 use Rattle.model.specs.RoundSheet.{byte, settingsAt}
 use Rattle.model.specs.Steps.{roundAt}
 use Rattle.model.specs.Calls.{granted, settle}
-use Rattle.answer_sheet.specs.Fields.{cabinetsIn, countIn, estimateIn, valueIn, markIn, usedIn, signedField}
+use Rattle.answer_reader.specs.Fields.{cabinetsIn, countIn, estimateIn, valueIn, markIn, usedIn, signedField}
 
 pub record ReadsBack (s a : List ℕ) : Type 0 where
   pub cabinets : cabinetsIn a ≡ granted (settingsAt s .n)

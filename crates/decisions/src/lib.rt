@@ -7,7 +7,7 @@ ghost use Prim.Native.Nat.{_+_, _*_, _-_, _/_, _≤_, _<_};
 ghost use lib.Dec.{leb, eqb};
 ghost use lib.ListN.{length};
 ghost use Rattle.arithmetic.specs.Counting.{count};
-ghost use Rattle.crusaders.specs.Majority.{holds-bits};
+ghost use Rattle.decision_laws.specs.Majority.{holds-bits};
 ghost use Rattle.decisions.specs.Rows.{markedAt, copyBits, Elected, Fitting, Tells, decisionOf, rowDecision};
 
 // The bits of the decided value, or "known faulty".

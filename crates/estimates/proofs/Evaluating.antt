@@ -14,9 +14,9 @@ use Rattle.arithmetic.specs.Naturals.{down, up, total}
 use Rattle.arithmetic.proofs.Shift.{up-down}
 use Rattle.arithmetic.proofs.Sums.{total-ext, total-add, total-scale, count-total}
 use Rattle.model.specs.Steps.{mean, usedValue}
-use Rattle.rounds.specs.Naturals.{average-nat, median-nat, midpoint-nat, estimate-nat, mean-nat}
-use Rattle.rounds.specs.Held.{readingsIn}
-use Rattle.rounds.proofs.Shifted.{estimate-shifted, value-shifted}
+use Rattle.round_laws.specs.Naturals.{average-nat, median-nat, midpoint-nat, estimate-nat, mean-nat}
+use Rattle.round_laws.specs.Held.{readingsIn}
+use Rattle.round_laws.proofs.Shifted.{estimate-shifted, value-shifted}
 use Rattle.estimates.specs.Values.{valueAt, presentIn, usedAt, presentCount, numberedAt, Summarizes, estimateOfHeld, meanIn, estimateAt, nothing, evaluatedOf}
 use Rattle.estimates.proofs.Dividing.{div-less}
 use Rattle.estimates.specs.declared.Estimated.{Estimated}

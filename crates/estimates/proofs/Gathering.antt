@@ -15,7 +15,7 @@ use lib.Dec.{leb}
 use lib.ListN.{length, getD}
 use Rattle.arithmetic.proofs.Bools.{both-ways}
 use Rattle.arithmetic.proofs.Counting.{count-some}
-use Rattle.loops.proofs.Loops.{Counts, count-none, count-one, count-all, Adds, add-none, add-on, add-all}
+use Rattle.loop_laws.proofs.Loops.{Counts, count-none, count-one, count-all, Adds, add-none, add-on, add-all}
 use Rattle.estimates.specs.Values.{valueAt, presentIn, usedAt, presentCount, numberedAt, Summarizes}
 use Rattle.estimates.proofs.Selection.{lowest-first, highest-last}
 

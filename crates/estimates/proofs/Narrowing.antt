@@ -14,7 +14,7 @@ use lib.ListN.{length, getD}
 use Rattle.arithmetic.specs.Counting.{count}
 use Rattle.arithmetic.proofs.Bools.{iff-eq, and-right, and-intro, clash}
 use Rattle.arithmetic.proofs.Counting.{count-ext}
-use Rattle.rounds.specs.Naturals.{is-numbered, numbered-nat}
+use Rattle.round_laws.specs.Naturals.{is-numbered, numbered-nat}
 use Rattle.estimates.specs.Values.{valueAt, presentIn}
 use Rattle.estimates.proofs.Selection.{under, upTo, numbered-intro, too-low, too-high, numbered-value, numbered-none}
 

@@ -13,7 +13,7 @@ use Rattle.arithmetic.specs.Counting.{bit, count}
 use Rattle.arithmetic.proofs.Bools.{clash, and-left, and-right, and-intro}
 use Rattle.arithmetic.proofs.Counting.{initial, last, split-last, bit-le, count-mono, count-pos, count-some, lowest-none, lowest-cases}
 use Rattle.arithmetic.proofs.Bools.{and-false}
-use Rattle.rounds.specs.Naturals.{nat-at, is-numbered, numbered-nat}
+use Rattle.round_laws.specs.Naturals.{nat-at, is-numbered, numbered-nat}
 
 -- a test that passes wherever another does, and once more, is counted more often
 count-less : (p q : ℕ → Bool) (n i : ℕ) → i < n → p i ≡ false → q i ≡ true → ((j : ℕ) → j < n → p j ≡ true → q j ≡ true) → count p n < count q n

@@ -21,8 +21,8 @@ use lib.ListN.{length, getD}
 use Rattle.arithmetic.specs.Counting.{count, sum}
 use Rattle.arithmetic.specs.Naturals.{up, total}
 use Rattle.model.specs.Steps.{estimate, mean, usedValue}
-use Rattle.rounds.specs.Held.{readingsIn}
-use Rattle.rounds.specs.Naturals.{numbered-nat, estimate-nat}
+use Rattle.round_laws.specs.Held.{readingsIn}
+use Rattle.round_laws.specs.Naturals.{numbered-nat, estimate-nat}
 use Rattle.estimates.specs.declared.Estimated.{Estimated}
 use Rattle.estimates.specs.declared.Summary.{Summary}
 

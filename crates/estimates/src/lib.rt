@@ -4,7 +4,7 @@ ghost use mathlib.Core.Bool.{_&&_};
 ghost use Prim.Native.Nat.{_*_, _/_, min, max, _≤_, _<_};
 ghost use lib.Dec.{leb, ltb};
 ghost use lib.ListN.{length};
-ghost use Rattle.rounds.specs.Naturals.{mean-nat};
+ghost use Rattle.round_laws.specs.Naturals.{mean-nat};
 ghost use Rattle.estimates.specs.Values.{countBelow, countUpTo, numberedAt, Summarizes, estimateAt, evaluatedOf};
 
 // The first number that is no reading.

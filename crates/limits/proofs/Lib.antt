@@ -1,10 +1,2 @@
-pub mod Counts
-pub mod Extremes
-pub mod Means
-pub mod Acceptance
-pub mod Ranks
-pub mod Estimates
-pub mod Settled
-pub mod Hull
-pub mod Medians
-pub mod Limits
+pub mod Quotients
+pub mod Stating

@@ -1,1 +1,117 @@
-// The limits of one round for sound cabinets. It has no function.
+// The limits that the guarantee states for t bad cabinets: the planned ones up to m, the wider ones of the first round
+// below N-m.
+ghost use mathlib.Core.Bool.{_&&_};
+ghost use mathlib.Core.Option.{none};
+ghost use mathlib.Core.Path.{_≡_};
+ghost use Prim.Native.Nat.{_+_, _*_, _-_, _/_, _≤_, _<_};
+ghost use lib.Dec.{eqb};
+ghost use Rattle.model.specs.Planner.{ceilDiv};
+ghost use Rattle.model.specs.Refusals.{firstOf, settingsChecks, planChecks};
+ghost use Rattle.limits.specs.Limits.{stated, bounds, statedOf, reachable, widerAt, widerOf};
+use model::Refusal;
+use model::Settings;
+use planner::Planned;
+
+// After the first round, of new values: how far two may be apart and how far one may be from true time, by document
+// 01; both to the tick; and whether a round is known that reaches these.
+pub struct Wider {
+    pub gap: u32,
+    pub error: u32,
+    pub widest: u32,
+    pub farthest: u32,
+    pub reached: bool,
+}
+
+pub enum Limits {
+    // At most m are bad: the planned windows and accuracies hold in every round.
+    Planned,
+    // More are bad, but fewer than N-m.
+    Wider(Wider),
+    // N-m or more are bad: nothing is promised.
+    Nothing,
+    // The planner refuses the settings or the accuracy.
+    Refused(Refusal),
+}
+
+// ⌈parts × window / N⌉
+fn share(settings: Settings, parts: u32) -> u32
+    requires { ⌜ (firstOf (settingsChecks settings) ≡ none) × (parts ≤ 256) ⌝ }
+    ensures { λ r. ⌜ (r ≡ ceilDiv (parts * settings .window) (settings .n)) × (r ≤ 256000063) ⌝ }
+{
+    let n = settings.n as u32;
+    let product = parts * settings.window;
+    (product + (n - 1)) / n
+}
+
+// (2 × excess + half) / 2N
+fn nearest(n: u32, excess: u32, half: u32) -> u32
+    requires { ⌜ (0 < n) × (n ≤ 64) × (half ≤ 64) × (excess ≤ 256000000) ⌝ }
+    ensures { λ r. ⌜ (r ≡ (2 * excess + half) / (2 * n)) × (r ≤ 512000064) ⌝ }
+{
+    (2 * excess + half) / (2 * n)
+}
+
+fn is_fast_median(rule: u8, estimator: u8) -> bool
+    ensures { λ r. ⌜ r ≡ (eqb rule 0 && eqb estimator 1) ⌝ }
+{
+    (rule == 0) & (estimator == 1)
+}
+
+// Whether a round is known that reaches the exact limits.
+fn is_reached(settings: Settings, accuracy: u32, t: u32) -> bool
+    requires { ⌜ (accuracy ≤ 1000000000) × (t ≤ 64) ⌝ }
+    ensures { λ r. ⌜ r ≡ reachable settings accuracy t ⌝ }
+{
+    let n = settings.n as u32;
+    let m = settings.m as u32;
+    let is_method = is_fast_median(settings.rule, settings.estimator);
+    is_method & ((n <= 2 * m + t) & ((0 < accuracy) & (settings.window <= 2 * accuracy)))
+}
+
+// The wider limits, where m < t < N-m.
+fn widened(settings: Settings, accuracy: u32, t: u32) -> Wider
+    requires { ⌜ (firstOf (planChecks settings accuracy 0) ≡ none) × (t < settings .n - settings .m) ⌝ }
+    ensures { λ r. ⌜ widerOf r ≡ widerAt settings accuracy t ⌝ }
+{
+    let n = settings.n as u32;
+    let m = settings.m as u32;
+    let window = settings.window;
+    let gap = share(settings, n + 2 * t + 2 * m);
+    let growth = share(settings, m + t);
+    let excess = (m + t) * window;
+    let above = nearest(n, excess, n);
+    let below = nearest(n, excess, n - 1);
+    Wider {
+        gap,
+        error: accuracy + growth,
+        widest: window + (above + below),
+        farthest: accuracy + above,
+        reached: is_reached(settings, accuracy, t),
+    }
+}
+
+// The limits of settings and an accuracy that the planner grants.
+fn bound(settings: Settings, accuracy: u32, t: u32) -> Limits
+    requires { ⌜ firstOf (planChecks settings accuracy 0) ≡ none ⌝ }
+    ensures { λ r. ⌜ statedOf r ≡ bounds settings accuracy t ⌝ }
+{
+    let n = settings.n as u32;
+    let m = settings.m as u32;
+    if t <= m {
+        return Limits::Planned;
+    }
+    if n - m <= t {
+        return Limits::Nothing;
+    }
+    Limits::Wider(widened(settings, accuracy, t))
+}
+
+// The limits for t bad cabinets.
+pub fn limits_for(settings: Settings, accuracy: u32, t: u32) -> Limits
+    ensures { λ r. ⌜ statedOf r ≡ stated settings accuracy t ⌝ }
+{
+    match planner::plan_for(settings, accuracy, 0) {
+        Planned::Refused(refusal) => Limits::Refused(refusal),
+        Planned::Granted(_) => bound(settings, accuracy, t),
+    }
+}

@@ -19,14 +19,14 @@ use Rattle.model.specs.AnswerSheet.{answerLength}
 use Rattle.model.specs.Refusals.{firstOf, settleChecks}
 use Rattle.model.specs.Calls.{Verdict, granted, refused, verdict, Outcome, settle}
 use Rattle.model.specs.Listing.{maxInput, listingBuffer, listing}
-use Rattle.sheets.proofs.Outcomes.{refused-some, granted-none}
-use Rattle.round.specs.declared.Settled.the-variants.{Granted, Refused}
-use Rattle.round.specs.Answers.{settlingOf}
+use Rattle.sheet_laws.proofs.Outcomes.{refused-some, granted-none}
+use Rattle.settling.specs.declared.Settled.the-variants.{Granted, Refused}
+use Rattle.settling.specs.Answers.{settlingOf}
 use Rattle.text.specs.Text.{textIn, roundCapacity, refusalCapacity, roundWritten, refusalWritten}
 use Rattle.text.proofs.Texts.{text-shown}
 use Rattle.text.proofs.Listings.{listing-refused, listing-settled}
 use Rattle.listing.specs.Listed.{listingIn}
-use Rattle.demands.proofs.Sheets.{settled-estimate, settled-value, settled-used}
+use Rattle.demand_1_2.proofs.Sheets.{settled-estimate, settled-value, settled-used}
 
 -- ---- the part of the input that is read
 

@@ -4,7 +4,7 @@ ghost use Prim.Native.Nat.{_≤_, min};
 ghost use lib.ListN.{length};
 ghost use Rattle.model.specs.Listing.{maxInput, listingBuffer};
 ghost use Rattle.listing.specs.Listed.{listingIn};
-use round::Settled;
+use settling::Settled;
 use text::ROUND_CAPACITY;
 
 // "reads one round sheet from standard input, at most 20,489 bytes"
@@ -25,7 +25,7 @@ fn listing_in(input: &[u8], answer: &mut [u8], text: &mut [u8]) -> usize
     ensures { λ _. ⌜ now (text .exit) ≡ listingIn (now (input .entry)) (now (text .entry)) .buffer ⌝ }
 {
     let end = read_size(input.len());
-    match round::settle(&input[..end], answer) {
+    match settling::settle(&input[..end], answer) {
         Settled::Granted(_) => text::round_text(answer, text),
         Settled::Refused(r) => text::refusal_text(r.number, r.place, text),
     }

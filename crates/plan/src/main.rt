@@ -1,6 +1,6 @@
 // The planner for a person: the windows and the accuracies round by round, and the limits for t bad cabinets.
-use degradation::Limits;
-use degradation::Wider;
+use limits::Limits;
+use limits::Wider;
 use model::Refusal;
 use model::Settings;
 use planner::Counted;
@@ -21,7 +21,7 @@ fn say_number(name: &[u8], value: u64) -> bool {
 fn say_ticks(name: &[u8], ticks: u32, unit: &[u8]) -> bool {
     let is_shown = say_number(name, ticks as u64);
     let is_unit = say(unit);
-    let is_micro = say_number(b" (", numerals::microseconds(ticks));
+    let is_micro = say_number(b" (", number_parser::microseconds(ticks));
     is_shown & is_unit & is_micro
 }
 
@@ -82,12 +82,12 @@ fn complain(name: &[u8], at: usize, wanted: &[u8]) {
     io::write_all(2, b"\n");
 }
 
-// The number that an argument is, or `numerals::LIMIT`, which is complained about.
+// The number that an argument is, or `number_parser::LIMIT`, which is complained about.
 fn number_at(at: usize, name: &[u8]) -> u64 {
     let mut given = io::buffer();
     let n = os::arg(at, &mut given);
-    let value = numerals::number_in(&given[..n]);
-    if value >= numerals::LIMIT {
+    let value = number_parser::number_in(&given[..n]);
+    if value >= number_parser::LIMIT {
         complain(name, at, b"a whole number from 0 to 4294967295 is wanted");
     }
     value
@@ -220,7 +220,7 @@ fn show_wider(wider: Wider) -> bool {
 fn show_limits(settings: Settings, accuracy: u32, t: u32) -> bool {
     let is_number = say_number(b"with ", t as u64);
     let is_bad = say(b" bad: ");
-    let is_told = match degradation::limits_for(settings, accuracy, t) {
+    let is_told = match limits::limits_for(settings, accuracy, t) {
         Limits::Planned => say(
             b"no sound cabinet refuses; after each round two are at most its window apart, each within its \
               accuracy of true time\n",
@@ -296,7 +296,7 @@ fn settings_of(n: u64, m: u64, rule: u8, estimator: u8, window: u64) -> Settings
 }
 
 fn is_number(value: u64) -> bool {
-    value < numerals::LIMIT
+    value < number_parser::LIMIT
 }
 
 // The ninth argument, where it is given.

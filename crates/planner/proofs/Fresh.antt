@@ -7,7 +7,7 @@ use Rattle.model.specs.declared.Settings.{Settings}
 use Rattle.model.specs.Planner.{Plan, planFrom, after}
 use Rattle.model.specs.Refusals.{firstOf, planChecks}
 use Rattle.model.specs.Calls.{Verdict, granted, plan, Target}
-use Rattle.planning.proofs.Steps.{plan-granted-check}
+use Rattle.planner_laws.proofs.Steps.{plan-granted-check}
 
 module _ (c : Settings) (κ : ℕ) {p : Plan} (e : granted p ≡ plan c κ 0) where
   fresh : p ≡ planFrom c κ

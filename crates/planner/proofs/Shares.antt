@@ -11,8 +11,8 @@ use native.Mathlib.Omega.{arith}
 use Rattle.model.specs.declared.Settings.{Settings}
 use Rattle.model.specs.Planner.{Plan, ceilDiv, windowFactor, nextWindow, growth, withWindow, advance}
 use Rattle.model.specs.Refusals.{firstOf, settingsChecks}
-use Rattle.refusals.proofs.Limits.{limits, limits-pass}
-use Rattle.planning.proofs.Windows.{share-le, passes-window}
+use Rattle.refusal_laws.proofs.Limits.{limits, limits-pass}
+use Rattle.planner_laws.proofs.Windows.{share-le, passes-window}
 
 module _ (c : Settings) where
   module _ (e : firstOf (settingsChecks c) ≡ none) where

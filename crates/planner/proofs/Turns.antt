@@ -9,10 +9,10 @@ use Rattle.model.specs.declared.Settings.{Settings}
 use Rattle.model.specs.Planner.{Plan, planFrom, advance, after, windowAfter}
 use Rattle.model.specs.Refusals.{refusal, firstOf, settingsChecks, planChecks}
 use Rattle.model.specs.Calls.{granted, refused, Target}
-use Rattle.refusals.proofs.Limits.{limits-pass}
-use Rattle.planning.proofs.Checks.{MayStart, MayStep}
-use Rattle.planning.proofs.Steps.{may-step-after}
-use Rattle.planning.proofs.Targets.{target-missed, target-reached}
+use Rattle.refusal_laws.proofs.Limits.{limits-pass}
+use Rattle.planner_laws.proofs.Checks.{MayStart, MayStep}
+use Rattle.planner_laws.proofs.Steps.{may-step-after}
+use Rattle.planner_laws.proofs.Targets.{target-missed, target-reached}
 
 -- no turn: a plan with no round done is a fresh one
 pub no-turn : (p : Plan) {k : ℕ} → p .rounds ≡ 0 → k ≡ 0 → p ≡ after k (planFrom (p .settings) (p .accuracy))

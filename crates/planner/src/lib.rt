@@ -7,9 +7,9 @@ ghost use lib.Dec.{eqb, leb, ltb};
 ghost use Rattle.model.specs.Planner.{ceilDiv, nextWindow, withWindow, planFrom, advance, after};
 ghost use Rattle.model.specs.Refusals.{orNext, badPlan, firstOf, settingsChecks, planningChecks, planChecks};
 ghost use Rattle.model.specs.Calls.{plan, step, Target};
-ghost use Rattle.ensemble.specs.Answers.{checkOf};
+ghost use Rattle.settings_checks.specs.Answers.{checkOf};
 ghost use Rattle.planner.specs.Answers.{planOf, plannedOf, countedOf};
-use ensemble::Screened;
+use settings_checks::Screened;
 use model::Refusal;
 use model::Settings;
 
@@ -73,7 +73,7 @@ fn first_of(check: Screened, next: Screened) -> Screened
 fn check_all(settings: Settings, fails: bool) -> Screened
     ensures { λ r. ⌜ checkOf r ≡ firstOf (planningChecks settings fails) ⌝ }
 {
-    let of_settings = ensemble::screen(settings);
+    let of_settings = settings_checks::screen(settings);
     let of_plan = check_plan(fails);
     first_of(of_settings, of_plan)
 }

@@ -13,10 +13,10 @@ use Rattle.model.specs.declared.Settings.{Settings}
 use Rattle.model.specs.Ensemble.{Reading, missing, present, quorum}
 use Rattle.model.specs.RoundSheet.{cca, byte, markAt, bitsAt, entryCount, entryAt, headerSize}
 use Rattle.model.specs.Steps.{decidedReading, decideRow, readingsOf}
-use Rattle.crusaders.proofs.Rows.{read-direct, read-decided, read-all}
-use Rattle.sheets.proofs.Words.{word-fits}
-use Rattle.rounds.specs.Held.{heldOf, readingOf}
-use Rattle.rounds.proofs.Held.{reading-held}
+use Rattle.decision_laws.proofs.Rows.{read-direct, read-decided, read-all}
+use Rattle.sheet_laws.proofs.Words.{word-fits}
+use Rattle.round_laws.specs.Held.{heldOf, readingOf}
+use Rattle.round_laws.proofs.Held.{reading-held}
 use Rattle.agreement.proofs.Biasing.{wrapped-up}
 
 -- what is held of a reading is the reading

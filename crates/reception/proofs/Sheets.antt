@@ -15,14 +15,14 @@ use mir.Val.{toZ}
 use Rattle.arithmetic.specs.Writing.{table, overwrite}
 use Rattle.arithmetic.proofs.Bools.{and-left, and-right}
 use Rattle.arithmetic.proofs.Writing.{length-table, overwrite-whole, table-ext}
-use Rattle.crusaders.proofs.Decision.{decide-ext}
-use Rattle.crusaders.proofs.Rows.{read-direct, read-decided}
+use Rattle.decision_laws.proofs.Decision.{decide-ext}
+use Rattle.decision_laws.proofs.Rows.{read-direct, read-decided}
 use Rattle.model.specs.declared.Settings.{Settings}
 use Rattle.model.specs.Ensemble.{missing, present}
 use Rattle.model.specs.RoundSheet.{cca, byte, word, entryCount, entryAt, rowEntries, rowPart}
 use Rattle.model.specs.Steps.{decidedReading, decideRow, readingsOf}
-use Rattle.sheets.proofs.Words.{word-ext}
-use Rattle.rounds.specs.Held.{heldOf}
+use Rattle.sheet_laws.proofs.Words.{word-ext}
+use Rattle.round_laws.specs.Held.{heldOf}
 use Rattle.decisions.specs.Rows.{copyAt, rowDecision}
 use Rattle.rows.specs.Parts.{partAt}
 use Rattle.reception.specs.Receiving.{rowReading, heldAt, fitting, receivedOf}

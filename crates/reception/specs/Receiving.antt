@@ -14,7 +14,7 @@ use Rattle.model.specs.declared.Settings.{Settings}
 use Rattle.model.specs.Ensemble.{Reading}
 use Rattle.model.specs.RoundSheet.{entryCount, entryAt, sheetLength}
 use Rattle.model.specs.Steps.{decidedReading, readingsOf}
-use Rattle.rounds.specs.Held.{heldOf}
+use Rattle.round_laws.specs.Held.{heldOf}
 use Rattle.decisions.specs.Rows.{rowDecision}
 use Rattle.rows.specs.Parts.{partAt}
 

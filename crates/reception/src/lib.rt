@@ -4,7 +4,7 @@ ghost use Prim.Native.Nat.{_+_, _*_, _≤_, _<_};
 ghost use lib.ListN.{length};
 ghost use Rattle.arithmetic.specs.Writing.{table, overwrite};
 ghost use Rattle.model.specs.Steps.{decidedReading};
-ghost use Rattle.rounds.specs.Held.{heldOf};
+ghost use Rattle.round_laws.specs.Held.{heldOf};
 ghost use Rattle.decisions.specs.Rows.{copyAt, rowDecision};
 ghost use Rattle.reception.specs.Receiving.{rowReading, fitting, receivedOf};
 use decisions::Decided;
@@ -59,7 +59,7 @@ fn fits(settings: Settings, sheet: usize, values: usize) -> bool
     let n = settings.n as usize;
     let m = settings.m as usize;
     ((n <= 64) & (2 * m < n))
-        & ((sheet == 8 + 5 * inspection::entry_count(settings)) & (values == n))
+        & ((sheet == 8 + 5 * sheet_checks::entry_count(settings)) & (values == n))
 }
 
 // Fills the list with the sheet's readings. Where the sizes do not fit it changes nothing, and answers false.

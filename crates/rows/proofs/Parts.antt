@@ -12,8 +12,8 @@ use lib.ListN.{length, take, drop}
 use Rattle.model.specs.declared.Settings.{Settings}
 use Rattle.model.specs.RoundSheet.{cca, rowEntries, rowStart, rowLength, rowPart}
 use Rattle.model.specs.Calls.{row}
-use Rattle.sheets.proofs.Inspection.{Validated}
-use Rattle.sheets.proofs.Shown.{row-within, row-part, row-empty}
+use Rattle.sheet_laws.proofs.Inspection.{Validated}
+use Rattle.sheet_laws.proofs.Shown.{row-within, row-part, row-empty}
 use Rattle.rows.specs.Parts.{rowEnd, partAt}
 
 module _ (c : Settings) (small : c .n ≤ 255) where

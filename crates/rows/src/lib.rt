@@ -24,7 +24,7 @@ pub fn row_part(sheet: &[u8], settings: Settings, r: usize) -> &[u8]
         return &sheet[..0];
     }
     let width = row_entries(settings);
-    let start = 8 + inspection::entry_count(settings) + 4 * (r * width);
+    let start = 8 + sheet_checks::entry_count(settings) + 4 * (r * width);
     let end = start + 4 * width;
     if sheet.len() < end {
         return &sheet[..0];

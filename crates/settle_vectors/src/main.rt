@@ -1,7 +1,7 @@
 // Prints what settling answers to the vectors of the file stdin (see the crate vectors): the length of the
 // answer sheet, N, the accepted count, the estimate and the new value, the marks, the used values, and what
 // stands behind the answer in the buffer, which holds 165 everywhere before the call.
-use round::Settled;
+use settling::Settled;
 
 fn show_answer(buffer: &[u8], size: usize) {
     let cabinets = words::byte_at(buffer, 0) as usize;
@@ -16,7 +16,7 @@ fn show_answer(buffer: &[u8], size: usize) {
 }
 
 fn show(sheet: &[u8], buffer: &mut [u8]) {
-    match round::settle(sheet, buffer) {
+    match settling::settle(sheet, buffer) {
         Settled::Granted(size) => show_answer(buffer, size),
         Settled::Refused(refusal) => {
             vectors::refused(refusal);

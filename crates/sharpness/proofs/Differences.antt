@@ -5,7 +5,7 @@ use Prim.Native.Nat.{ℕ, _+_, _-_, _≤_}
 use native.Mathlib.Omega.{arith}
 use lib.IntN.{pos, _-ℤ_}
 use Rattle.arithmetic.proofs.Shift.{up, down-ind}
-use Rattle.guarantee.proofs.Distances.{difference-down}
+use Rattle.demand_3.proofs.Distances.{difference-down}
 
 pub up-difference : (K a b : ℕ) → b ≤ K → up K (pos a -ℤ pos b) ≡ a + K - b
 up-difference K a b h =

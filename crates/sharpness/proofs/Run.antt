@@ -24,14 +24,14 @@ use Rattle.model.specs.RoundSheet.{fca, median}
 use Rattle.model.specs.AnswerSheet.{answerLength}
 use Rattle.model.specs.Planner.{ceilDiv}
 use Rattle.model.specs.Cases.{settings, at}
-use Rattle.planning.proofs.Checks.{MayStart, none-may-start}
-use Rattle.guarantee.specs.Guarantee.{IsReading, Start, Allowed, start, heard, Good, bad}
-use Rattle.guarantee.specs.Witnesses.{below, listed, Meets}
-use Rattle.guarantee.proofs.Entries.{heard-sound, seen, seen-direct}
+use Rattle.planner_laws.proofs.Checks.{MayStart, none-may-start}
+use Rattle.demand_3.specs.Guarantee.{IsReading, Start, Allowed, start, heard, Good, bad}
+use Rattle.demand_3.specs.Witnesses.{below, listed, Meets}
+use Rattle.demand_3.proofs.Entries.{heard-sound, seen, seen-direct}
 use Rattle.sharpness.specs.Sharpness.{Covered}
 use Rattle.sharpness.proofs.Worst.{needed, spread, firstReading, worstStation, worstSends, trueValue}
 use Rattle.sharpness.proofs.Intervals.{count-below}
-use Rattle.guarantee.proofs.Distances.{difference-down}
+use Rattle.demand_3.proofs.Distances.{difference-down}
 
 -- ---- how far good readings are apart
 

@@ -11,13 +11,13 @@ use Rattle.arithmetic.proofs.Shift.{down-cong, pos-down, dist-down}
 use Rattle.model.specs.RoundSheet.{fca, median}
 use Rattle.model.specs.Steps.{mean}
 use Rattle.model.specs.Cases.{settings}
-use Rattle.rounds.specs.Naturals.{mean-nat}
-use Rattle.planning.proofs.Checks.{may-start-none}
-use Rattle.guarantee.specs.Guarantee.{Station, apart}
-use Rattle.guarantee.specs.Exact.{exactGap, exactError}
-use Rattle.guarantee.specs.Regulator.{nearestSeventh}
+use Rattle.round_laws.specs.Naturals.{mean-nat}
+use Rattle.planner_laws.proofs.Checks.{may-start-none}
+use Rattle.demand_3.specs.Guarantee.{Station, apart}
+use Rattle.demand_3.specs.Exact.{exactGap, exactError}
+use Rattle.demand_3.specs.Regulator.{nearestSeventh}
 use Rattle.sharpness.specs.Sharpness.{Covered, Reached, SevenAt, SevenReached}
-use Rattle.guarantee.proofs.Distances.{mean-below-zero, mean-above-zero}
+use Rattle.demand_3.proofs.Distances.{mean-below-zero, mean-above-zero}
 use Rattle.sharpness.proofs.Sharpness.{always-reached}
 
 seven-covered :

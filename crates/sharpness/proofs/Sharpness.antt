@@ -18,17 +18,17 @@ use Rattle.model.specs.Ensemble.{present, isPresent}
 use Rattle.model.specs.RoundSheet.{fca, median}
 use Rattle.model.specs.Steps.{mean}
 use Rattle.model.specs.Cases.{settings}
-use Rattle.rounds.specs.Naturals.{mean-nat}
-use Rattle.limits.proofs.Means.{mean-mono, mean-lower}
-use Rattle.limits.proofs.Settled.{Receiver, accepts, usedBy, valueBy}
-use Rattle.guarantee.specs.Guarantee.{Station, State, Sends, start, next, newValue, apart}
-use Rattle.guarantee.specs.Witnesses.{below}
-use Rattle.guarantee.proofs.Ready as ready
-use Rattle.guarantee.proofs.Ready.{ready-start}
-use Rattle.guarantee.proofs.Received.{received-count}
+use Rattle.round_laws.specs.Naturals.{mean-nat}
+use Rattle.limit_laws.proofs.Means.{mean-mono, mean-lower}
+use Rattle.limit_laws.proofs.Settled.{Receiver, accepts, usedBy, valueBy}
+use Rattle.demand_3.specs.Guarantee.{Station, State, Sends, start, next, newValue, apart}
+use Rattle.demand_3.specs.Witnesses.{below}
+use Rattle.demand_3.proofs.Ready as ready
+use Rattle.demand_3.proofs.Ready.{ready-start}
+use Rattle.demand_3.proofs.Received.{received-count}
 use Rattle.sharpness.specs.Sharpness.{Covered, AlwaysReached}
 use Rattle.sharpness.proofs.Worst.{needed, spread, worstStation, worstSends, trueValue}
-use Rattle.guarantee.proofs.Distances.{difference-down, mean-below-zero, mean-above-zero}
+use Rattle.demand_3.proofs.Distances.{difference-down, mean-below-zero, mean-above-zero}
 use Rattle.sharpness.proofs.Gains.{low-sum, high-mean, high-mean-one}
 use Rattle.sharpness.proofs.Run.{spread-whole, spread-one, sees, may-start, planned, some-n, parts, joins}
 use Rattle.sharpness.proofs.Run.{starts, allowed, meets, t-bad}

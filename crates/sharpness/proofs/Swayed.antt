@@ -17,13 +17,13 @@ use Rattle.arithmetic.proofs.Bools.{both-ways, clash, and-left, and-right, and-
 use Rattle.arithmetic.proofs.Counting.{count-mono, count-not}
 use Rattle.arithmetic.proofs.Sums.{total-ext}
 use Rattle.model.specs.RoundSheet.{median}
-use Rattle.rounds.specs.Naturals.{estimate-nat}
-use Rattle.limits.proofs.Acceptance.{insideSpan, inside-intro, inside-low, inside-high}
-use Rattle.limits.proofs.Acceptance.{NatSpan, accepted-in-span, span-accepted}
-use Rattle.limits.proofs.Counts.{count-split}
-use Rattle.limits.proofs.Estimates.{median-numbered}
-use Rattle.limits.proofs.Ranks.{Numbered}
-use Rattle.limits.proofs.Settled.{Receiver, accepts, estimateBy, usedBy, used-accepted, used-replaced}
+use Rattle.round_laws.specs.Naturals.{estimate-nat}
+use Rattle.limit_laws.proofs.Acceptance.{insideSpan, inside-intro, inside-low, inside-high}
+use Rattle.limit_laws.proofs.Acceptance.{NatSpan, accepted-in-span, span-accepted}
+use Rattle.limit_laws.proofs.Counts.{count-split}
+use Rattle.limit_laws.proofs.Estimates.{median-numbered}
+use Rattle.limit_laws.proofs.Ranks.{Numbered}
+use Rattle.limit_laws.proofs.Settled.{Receiver, accepts, estimateBy, usedBy, used-accepted, used-replaced}
 use Rattle.sharpness.proofs.Intervals.{between, between-low, between-high, count-below, count-between, total-two}
 
 -- y is further than w from L

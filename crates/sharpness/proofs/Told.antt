@@ -17,12 +17,12 @@ use Rattle.arithmetic.proofs.Shift.{up}
 use Rattle.model.specs.Ensemble.{Reading, present, isPresent, ticks}
 use Rattle.model.specs.RoundSheet.{fca, median}
 use Rattle.model.specs.Cases.{settings}
-use Rattle.limits.proofs.Settled.{Receiver}
-use Rattle.guarantee.specs.Guarantee.{IsReading, start}
-use Rattle.guarantee.specs.Witnesses.{listed}
-use Rattle.guarantee.proofs.Ready as ready
-use Rattle.guarantee.proofs.Ready.{ready-start}
-use Rattle.guarantee.proofs.Received.{received}
+use Rattle.limit_laws.proofs.Settled.{Receiver}
+use Rattle.demand_3.specs.Guarantee.{IsReading, start}
+use Rattle.demand_3.specs.Witnesses.{listed}
+use Rattle.demand_3.proofs.Ready as ready
+use Rattle.demand_3.proofs.Ready.{ready-start}
+use Rattle.demand_3.proofs.Received.{received}
 use Rattle.sharpness.specs.Sharpness.{Covered}
 use Rattle.sharpness.proofs.Worst.{needed, spread, firstReading, worstStation, worstSends}
 use Rattle.sharpness.proofs.Differences.{up-difference}

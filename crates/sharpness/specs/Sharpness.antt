@@ -1,6 +1,6 @@
 -- The exact limits for more than m bad are reached, so that no smaller ones would be true: for all settings of FCA with
 -- median that the planner grants, where m < t < N-m, N ≤ 2m+t and κ is not 0, there is a first round with t bad after
--- which a sound cabinet is as far from true time as `exactError` of crates/guarantee/specs/Exact.antt allows; and where
+-- which a sound cabinet is as far from true time as `exactError` of crates/demand_3/specs/Exact.antt allows; and where
 -- δ ≤ 2κ, two are as far apart as `exactGap` allows. (Where 2κ is below δ, good readings are less than δ apart, as each
 -- lies within κ of true time.) The theorem is `always-reached` of proofs/Sharpness.antt.
 --
@@ -20,10 +20,10 @@ use lib.IntN.{ℤ}
 use Rattle.model.specs.RoundSheet.{fca, median}
 use Rattle.model.specs.Refusals.{firstOf, planChecks}
 use Rattle.model.specs.Cases.{settings}
-use Rattle.guarantee.specs.Guarantee.{Station, Sends, start, Unrefused, Sound, bad}
-use Rattle.guarantee.specs.Exact.{exactGap, exactError}
-use Rattle.guarantee.specs.Regulator.{nearestSeventh}
-use Rattle.guarantee.specs.Witnesses.{gap, error, Meets}
+use Rattle.demand_3.specs.Guarantee.{Station, Sends, start, Unrefused, Sound, bad}
+use Rattle.demand_3.specs.Exact.{exactGap, exactError}
+use Rattle.demand_3.specs.Regulator.{nearestSeventh}
+use Rattle.demand_3.specs.Witnesses.{gap, error, Meets}
 
 pub record Covered (n m t δ κ : ℕ) : Type 0 where
   -- "settings that the planner grants for 0 rounds"

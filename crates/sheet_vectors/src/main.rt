@@ -1,7 +1,7 @@
 // Prints what the reader, the row accessor and the writer answer to the vectors of the file stdin (see the crate
 // vectors), and what they leave in what they are lent, which holds 7 everywhere before each call.
-use ensemble::Tick;
-use inspection::Opened;
+use tick::Tick;
+use sheet_checks::Opened;
 use sheet_writer::Filled;
 
 fn show_tick(ticks: i32) {
@@ -33,7 +33,7 @@ fn show_opened(opened: Opened) {
 }
 
 fn show_read(sheet: &[u8], marks: &mut [u8], readings: &mut [i32]) {
-    show_opened(sheet::read(sheet, marks, readings));
+    show_opened(sheet_reader::read(sheet, marks, readings));
     vectors::bytes(b"; marks", marks, 0, marks.len());
     show_readings(readings);
 }
@@ -57,7 +57,7 @@ fn show_row(vector: &[u8]) {
     }
     let high = words::word_at(vector, 5) as usize;
     let r = 4_294_967_296 * high + (words::word_at(vector, 1) as usize);
-    let part = sheet::row(&vector[9..], r);
+    let part = sheet_reader::row(&vector[9..], r);
     vectors::bytes(b"  row", part, 0, part.len());
     vectors::end();
 }

@@ -7,15 +7,15 @@ ghost use mir.Syntax.{w32};
 ghost use mir.Val.{ofZ};
 ghost use Rattle.arithmetic.specs.Counting.{lowest};
 ghost use Rattle.arithmetic.specs.Writing.{overwrite};
-ghost use Rattle.ensemble.specs.Answers.{checkOf};
+ghost use Rattle.settings_checks.specs.Answers.{checkOf};
 ghost use Rattle.model.specs.RoundSheet.{byte, bitsIn, readingBytes, sizeBytes};
 ghost use Rattle.model.specs.Refusals.{firstOf, notZero, arrayChecks, writeChecks};
 ghost use Rattle.model.specs.Calls.{write};
-ghost use Rattle.entries.specs.Answers.{foundOf};
+ghost use Rattle.entry_checks.specs.Answers.{foundOf};
 ghost use Rattle.sheet_writer.specs.Answers.{writtenOf};
-use ensemble::Screened;
-use ensemble::Tick;
-use entries::Found;
+use settings_checks::Screened;
+use tick::Tick;
+use entry_checks::Found;
 use model::Refusal;
 use model::Settings;
 
@@ -58,7 +58,7 @@ fn check_arrays(marks: &[u8], readings: &[i32]) -> Screened
         ≡ firstOf (arrayChecks (byte (now (marks .entry))) (bitsIn (now (readings .entry)))
         (length (now (marks .entry)))) ⌝ }
 {
-    match entries::bad_mark(marks) {
+    match entry_checks::bad_mark(marks) {
         Found::At(e) => Screened::Refused(Refusal {
             number: 8,
             place: e as u32,
@@ -79,10 +79,10 @@ fn check_arrays(marks: &[u8], readings: &[i32]) -> Screened
 fn check(settings: Settings, marks: &[u8], readings: &[i32], room: usize) -> Screened
     ensures { λ r. ⌜ checkOf r ≡ firstOf (writeChecks settings (now (marks .entry)) (now (readings .entry)) room) ⌝ }
 {
-    match ensemble::screen(settings) {
+    match settings_checks::screen(settings) {
         Screened::Refused(r) => Screened::Refused(r),
         Screened::Passed => {
-            let entries = inspection::entry_count(settings);
+            let entries = sheet_checks::entry_count(settings);
             if marks.len() != entries {
                 return Screened::Refused(Refusal {
                     number: 6,

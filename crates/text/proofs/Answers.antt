@@ -14,7 +14,7 @@ use Rattle.model.specs.RoundSheet.{byte, word}
 use Rattle.model.specs.AnswerSheet.{answerBytes}
 use Rattle.model.specs.Steps.{Round}
 use Rattle.model.specs.Listing.{cabinetLines, roundText}
-use Rattle.sheets.proofs.Answer.{answer-cabinets, answer-count, answer-estimate, answer-value, answer-mark, answer-used}
+use Rattle.sheet_laws.proofs.Answer.{answer-cabinets, answer-count, answer-estimate, answer-value, answer-mark, answer-used}
 use Rattle.text.specs.Putting.{Puts}
 use Rattle.text.specs.Text.{answerRound, roundLine, cabinetLine, roundCapacity, textIn, roundWritten}
 use Rattle.text.proofs.Putting.{puts-then}

@@ -14,9 +14,9 @@ use Rattle.model.specs.declared.Settings.{Settings}
 use Rattle.model.specs.RoundSheet.{cca, settingsAt, entryCount, rowEntries, rowStart, rowLength, rowPart}
 use Rattle.model.specs.Refusals.{Check, firstOf, rowChecks}
 use Rattle.model.specs.Calls.{granted, verdict, row}
-use Rattle.sheets.proofs.Inspection.{Validated, validated}
-use Rattle.sheets.proofs.Outcomes.{row-refused}
-use Rattle.sheets.proofs.Shown.{row-within, row-part, row-empty}
+use Rattle.sheet_laws.proofs.Inspection.{Validated, validated}
+use Rattle.sheet_laws.proofs.Outcomes.{row-refused}
+use Rattle.sheet_laws.proofs.Shown.{row-within, row-part, row-empty}
 use Rattle.tohiranga.specs.Answers.{upperHalf, lowerHalf, packedRow, partIn}
 use Rattle.tohiranga.specs.Statements.{RowNamed}
 use Rattle.tohiranga.proofs.Halves.{upper-back, lower-back}

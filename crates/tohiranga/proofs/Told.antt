@@ -23,14 +23,14 @@ use Rattle.model.specs.Refusals.{badLength, noRoom, notZero, badMark, badMissin
 use Rattle.model.specs.Refusals.{settingsChecks, sheetChecks, arrayChecks, entryChecks, planningChecks}
 use Rattle.model.specs.Refusals.{readChecks, writeChecks, settleChecks, planChecks, stepChecks, targetChecks}
 use Rattle.model.specs.Calls.{Verdict, granted, refused, verdict, read, write, settle, plan, step, Target}
-use Rattle.refusals.proofs.Checks.{first-append, first-snoc, next-none-left}
-use Rattle.refusals.proofs.Limits.{limits, entries-most}
-use Rattle.sheets.proofs.Checks.{settings-passed}
-use Rattle.sheets.proofs.Words.{word-fits}
-use Rattle.sheets.proofs.Orders.{read-checks, write-checks, settle-checks}
-use Rattle.planning.proofs.Checks.{none-may-start, none-may-step}
-use Rattle.planning.proofs.Rounds.{rounds-after}
-use Rattle.answer_sheet.specs.Fields.{answerChecks, cabinetChecks, cabinetsIn, countIn, estimateIn, valueIn, markIn, usedIn}
+use Rattle.refusal_laws.proofs.Checks.{first-append, first-snoc, next-none-left}
+use Rattle.refusal_laws.proofs.Limits.{limits, entries-most}
+use Rattle.sheet_laws.proofs.Checks.{settings-passed}
+use Rattle.sheet_laws.proofs.Words.{word-fits}
+use Rattle.sheet_laws.proofs.Orders.{read-checks, write-checks, settle-checks}
+use Rattle.planner_laws.proofs.Checks.{none-may-start, none-may-step}
+use Rattle.planner_laws.proofs.Rounds.{rounds-after}
+use Rattle.answer_reader.specs.Fields.{answerChecks, cabinetChecks, cabinetsIn, countIn, estimateIn, valueIn, markIn, usedIn}
 use Rattle.tohiranga.specs.Answers.{packedRefusal, packed, openingOf, planningOf, TargetPacked}
 use Rattle.tohiranga.specs.Statements.{Refuses, AnswerTells, FieldsTell, GrantsBelow}
 use Rattle.tohiranga.proofs.Halves.{upper-back, lower-back}

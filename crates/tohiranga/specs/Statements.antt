@@ -15,7 +15,7 @@ use Rattle.model.specs.declared.Settings.{Settings}
 use Rattle.model.specs.RoundSheet.{byte}
 use Rattle.model.specs.Planner.{Plan}
 use Rattle.model.specs.Calls.{Verdict, granted, refused, read, write, row, settle, plan, step}
-use Rattle.answer_sheet.specs.Fields.{cabinetsIn, countIn, estimateIn, valueIn, markIn, usedIn}
+use Rattle.answer_reader.specs.Fields.{cabinetsIn, countIn, estimateIn, valueIn, markIn, usedIn}
 use Rattle.tohiranga.specs.Answers.{twoTo32, upperHalf, lowerHalf, packed, openingOf, planningOf}
 use Rattle.tohiranga.specs.Answers.{packedRow, partIn, TargetPacked}
 

@@ -1,10 +1,10 @@
 // The fields of an answer sheet of any bytes, for C and for Rust, and the version. Signed numbers go out as their 32
 // bits.
 ghost use mathlib.Core.Path.{_≡_};
-ghost use Rattle.answer_sheet.specs.Fields.{shownOf, cabinetsIn, countIn, estimateIn, valueIn, markIn, usedIn};
+ghost use Rattle.answer_reader.specs.Fields.{shownOf, cabinetsIn, countIn, estimateIn, valueIn, markIn, usedIn};
 ghost use Rattle.version.specs.Version.{versionNumber};
 ghost use Rattle.tohiranga.specs.Answers.{packed};
-use answer_sheet::Shown;
+use answer_reader::Shown;
 
 fn pack(shown: Shown) -> u64
     ensures { λ r. ⌜ r ≡ packed (shownOf shown) ⌝ }
@@ -20,7 +20,7 @@ fn pack(shown: Shown) -> u64
 pub extern "C" fn tohiranga_answer_cabinets(answer: &[u8]) -> u64
     ensures { λ r. ⌜ r ≡ packed (cabinetsIn (now (answer .entry))) ⌝ }
 {
-    pack(answer_sheet::cabinets(answer))
+    pack(answer_reader::cabinets(answer))
 }
 
 // How many readings were accepted.
@@ -28,7 +28,7 @@ pub extern "C" fn tohiranga_answer_cabinets(answer: &[u8]) -> u64
 pub extern "C" fn tohiranga_answer_count(answer: &[u8]) -> u64
     ensures { λ r. ⌜ r ≡ packed (countIn (now (answer .entry))) ⌝ }
 {
-    pack(answer_sheet::count(answer))
+    pack(answer_reader::count(answer))
 }
 
 // The estimate.
@@ -36,7 +36,7 @@ pub extern "C" fn tohiranga_answer_count(answer: &[u8]) -> u64
 pub extern "C" fn tohiranga_answer_estimate(answer: &[u8]) -> u64
     ensures { λ r. ⌜ r ≡ packed (estimateIn (now (answer .entry))) ⌝ }
 {
-    pack(answer_sheet::estimate(answer))
+    pack(answer_reader::estimate(answer))
 }
 
 // The new value.
@@ -44,7 +44,7 @@ pub extern "C" fn tohiranga_answer_estimate(answer: &[u8]) -> u64
 pub extern "C" fn tohiranga_answer_value(answer: &[u8]) -> u64
     ensures { λ r. ⌜ r ≡ packed (valueIn (now (answer .entry))) ⌝ }
 {
-    pack(answer_sheet::value(answer))
+    pack(answer_reader::value(answer))
 }
 
 // A cabinet's mark.
@@ -52,7 +52,7 @@ pub extern "C" fn tohiranga_answer_value(answer: &[u8]) -> u64
 pub extern "C" fn tohiranga_answer_mark(answer: &[u8], cabinet: u32) -> u64
     ensures { λ r. ⌜ r ≡ packed (markIn (now (answer .entry)) cabinet) ⌝ }
 {
-    pack(answer_sheet::mark(answer, cabinet))
+    pack(answer_reader::mark(answer, cabinet))
 }
 
 // A cabinet's used value.
@@ -60,7 +60,7 @@ pub extern "C" fn tohiranga_answer_mark(answer: &[u8], cabinet: u32) -> u64
 pub extern "C" fn tohiranga_answer_used(answer: &[u8], cabinet: u32) -> u64
     ensures { λ r. ⌜ r ≡ packed (usedIn (now (answer .entry)) cabinet) ⌝ }
 {
-    pack(answer_sheet::used(answer, cabinet))
+    pack(answer_reader::used(answer, cabinet))
 }
 
 // The version of the library: major × 2^16 + minor × 2^8 + patch.

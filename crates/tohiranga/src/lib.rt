@@ -4,13 +4,13 @@ ghost use Rattle.model.specs.Calls.{settle, read, write, plan, step};
 ghost use Rattle.planner.specs.Answers.{plannedOf};
 ghost use Rattle.tohiranga.specs.Answers.{packedRefusal, packed, settingsOf, sizesOf, schedulePlanOf, noSizes};
 ghost use Rattle.tohiranga.specs.Answers.{openingOf, planningOf, packedRow, TargetPacked};
-use inspection::Opened;
+use sheet_checks::Opened;
 use model::Refusal;
 use model::Settings;
 use planner::Counted;
 use planner::Plan;
 use planner::Planned;
-use round::Settled;
+use settling::Settled;
 use sheet_writer::Filled;
 
 mod answers;
@@ -95,7 +95,7 @@ pub extern "C" fn tohiranga_settle(sheet: &[u8], answer: &mut [u8]) -> u64
     ensures { λ r. ⌜ r ≡ packed (settle (now (sheet .entry)) (now (answer .entry)) .verdict) ⌝ }
     ensures { λ _. ⌜ now (answer .exit) ≡ settle (now (sheet .entry)) (now (answer .entry)) .buffer ⌝ }
 {
-    match round::settle(sheet, answer) {
+    match settling::settle(sheet, answer) {
         Settled::Granted(size) => size as u64,
         Settled::Refused(refusal) => refused(refusal),
     }
@@ -110,9 +110,9 @@ pub extern "C" fn tohiranga_read(sheet: &[u8], marks: &mut [u8], readings: &mut 
     ensures { λ _.
         ⌜ now (readings .exit) ≡ read (now (sheet .entry)) (now (marks .entry)) (now (readings .entry)) .readings ⌝ }
 {
-    match sheet::read(sheet, marks, readings) {
+    match sheet_reader::read(sheet, marks, readings) {
         Opened::Granted(settings) => {
-            let entries = inspection::entry_count(settings);
+            let entries = sheet_checks::entry_count(settings);
             let sizes = sizes_of(settings);
             Opening {
                 answer: entries as u64,
@@ -221,7 +221,7 @@ pub extern "C" fn tohiranga_target(settings: Sizes, accuracy: u32, target: u32) 
 pub extern "C" fn tohiranga_row(sheet: &[u8], cabinet: u32) -> u64
     ensures { λ r. ⌜ r ≡ packedRow (now (sheet .entry)) cabinet ⌝ }
 {
-    let Opened::Granted(settings) = inspection::validate(sheet) else {
+    let Opened::Granted(settings) = sheet_checks::validate(sheet) else {
         return 0;
     };
     let n = settings.n as u32;
@@ -229,6 +229,6 @@ pub extern "C" fn tohiranga_row(sheet: &[u8], cabinet: u32) -> u64
         return 0;
     }
     let width = rows::row_entries(settings);
-    let start = 8 + inspection::entry_count(settings) + 4 * ((cabinet as usize) * width);
+    let start = 8 + sheet_checks::entry_count(settings) + 4 * ((cabinet as usize) * width);
     (start as u64) * 4_294_967_296 + 4 * (width as u64)
 }

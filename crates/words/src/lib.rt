@@ -3,7 +3,7 @@
 ghost use mathlib.Core.Path.{_≡_};
 ghost use Prim.Native.Nat.{_+_, _*_};
 ghost use Rattle.model.specs.RoundSheet.{byte, word};
-ghost use Rattle.sheets.specs.Storing.{putWord};
+ghost use Rattle.sheet_laws.specs.Storing.{putWord};
 
 // The byte at i.
 pub fn byte_at(s: &[u8], i: usize) -> u8

@@ -5,7 +5,7 @@ use native.Mathlib.Omega.{arith}
 use Prim.Native.Nat.{_-_}
 use lib.ListN.{length}
 use Rattle.acceptance.proofs.Testing.{Testing, test-none, test-one, test-small, all-counted, all-tested, flags-long}
-use Rattle.loops.proofs.Loops.{flag-small}
+use Rattle.loop_laws.proofs.Loops.{flag-small}
 use Rattle.acceptance.proofs.accept_each.Statement.{statement}
 use Rattle.acceptance.proofs.accept_each.Tie as tie
 

@@ -4,7 +4,7 @@ use borrow.Author.Needs.{needs}
 use mathlib.Core.Path.{ap, _∙_}
 use lib.Dec.{leb}
 use Rattle.arithmetic.specs.Counting.{bit}
-use Rattle.loops.proofs.Loops.{flag}
+use Rattle.loop_laws.proofs.Loops.{flag}
 use Rattle.acceptance.proofs.Spans.{wrapped}
 use native.Mathlib.Omega.{arith}
 use Rattle.acceptance.proofs.held.Statement.{statement}

@@ -4,7 +4,7 @@ use borrow.Author.Needs.{needs}
 use native.Mathlib.Omega.{arith}
 use Prim.Native.Nat.{_-_}
 use lib.ListN.{length}
-use Rattle.loops.proofs.Loops.{flag-small, Counts, count-none, count-small, count-one, count-all}
+use Rattle.loop_laws.proofs.Loops.{flag-small, Counts, count-none, count-small, count-one, count-all}
 use Rattle.decisions.proofs.Voting.{holds-copy, holds-test}
 use Rattle.decisions.proofs.count_copies.Statement.{statement}
 use Rattle.decisions.proofs.count_copies.Tie as tie

@@ -1,7 +1,7 @@
 -- `estimates::mean` meets its contract: the quotient is the definition's, and below 2^32.
 -- Assumes nothing.
 use Rattle.estimates.proofs.Evaluating.{mean-small}
-use Rattle.rounds.specs.Naturals.{mean-nat}
+use Rattle.round_laws.specs.Naturals.{mean-nat}
 use borrow.Author.Needs.{needs}
 use Rattle.estimates.proofs.mean.Statement.{statement}
 use Rattle.estimates.proofs.mean.Tie as tie

@@ -5,7 +5,7 @@ use native.Mathlib.Omega.{arith}
 use Prim.Native.Nat.{_-_}
 use lib.Dec.{ltb, leb}
 use lib.ListN.{length, getD}
-use Rattle.loops.proofs.Loops.{flag-small, Counts, count-none, count-small, count-one, count-all}
+use Rattle.loop_laws.proofs.Loops.{flag-small, Counts, count-none, count-small, count-one, count-all}
 use Rattle.estimates.proofs.rank.Statement.{statement}
 use Rattle.estimates.proofs.rank.Tie as tie
 

@@ -5,7 +5,7 @@ use native.Mathlib.Omega.{arith}
 use Prim.Native.Nat.{_-_}
 use lib.ListN.{length}
 use mathlib.Core.Logic.{⊎-elim}
-use Rattle.loops.proofs.Loops.{count-small}
+use Rattle.loop_laws.proofs.Loops.{count-small}
 use Rattle.estimates.specs.Values.{presentIn}
 use Rattle.estimates.proofs.Gathering.{Gathered, gather-none, gather-present, gather-missing, gather-all}
 use Rattle.estimates.proofs.summarize.Statement.{statement}

@@ -8,9 +8,9 @@ use Prim.Native.Nat.{ℕ}
 use lib.ListN.{take}
 use Rattle.model.specs.declared.Refusal.{Refusal}
 use Rattle.model.specs.Calls.{settle}
-use Rattle.round.specs.declared.Settled.{Settled}
-use Rattle.round.specs.declared.Settled.the-variants.{Granted, Refused}
-use Rattle.round.specs.Answers.{settlingOf}
+use Rattle.settling.specs.declared.Settled.{Settled}
+use Rattle.settling.specs.declared.Settled.the-variants.{Granted, Refused}
+use Rattle.settling.specs.Answers.{settlingOf}
 use Rattle.text.specs.Text.{Text, roundWritten, refusalWritten}
 use Rattle.listing.specs.Listed.{listingIn}
 use Rattle.listing.proofs.Outcomes.{read-length, refusal-listed, round-listed}

@@ -3,7 +3,7 @@
 use borrow.Author.Needs.{needs}
 use mathlib.Core.Path.{sym, ap₂, _∙_}
 use Rattle.model.specs.Refusals.{orNext, badPlan, settingsChecks}
-use Rattle.refusals.proofs.Checks.{first-snoc}
+use Rattle.refusal_laws.proofs.Checks.{first-snoc}
 use Rattle.planner.proofs.check_all.Statement.{statement}
 use Rattle.planner.proofs.check_all.Tie as tie
 

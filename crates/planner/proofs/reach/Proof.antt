@@ -5,7 +5,7 @@ use mathlib.Core.Path.{_≡_, refl}
 use Prim.Native.Nat.{_-_, _≤_, zero-le}
 use native.Mathlib.Omega.{arith}
 use Rattle.model.specs.Planner.{planFrom, after}
-use Rattle.planning.proofs.Checks.{none-may-start}
+use Rattle.planner_laws.proofs.Checks.{none-may-start}
 use Rattle.planner.specs.Answers.{planOf}
 use Rattle.planner.proofs.Turns.{no-turn, turn, turn-allowed, turn-missed, turn-reached}
 use Rattle.planner.proofs.reach.Statement.{statement}

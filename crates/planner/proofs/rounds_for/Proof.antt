@@ -3,8 +3,8 @@
 use borrow.Author.Needs.{needs}
 use mathlib.Core.Path.{_≡_, sym, ap, _∙_}
 use Rattle.model.specs.Calls.{granted, plan}
-use Rattle.planning.proofs.Steps.{plan-refused-check}
-use Rattle.planning.proofs.Targets.{start-refuses-target}
+use Rattle.planner_laws.proofs.Steps.{plan-refused-check}
+use Rattle.planner_laws.proofs.Targets.{start-refuses-target}
 use Rattle.planner.specs.Answers.{planOf, plannedOf, countedOf}
 use Rattle.planner.proofs.Fresh.{fresh-passes, fresh-rounds, fresh-target}
 use Rattle.planner.proofs.rounds_for.Statement.{statement}

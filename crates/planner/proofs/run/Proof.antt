@@ -5,7 +5,7 @@ use mathlib.Core.Path.{_≡_, ap, _∙_}
 use Prim.Native.Nat.{ℕ, _-_, _≤_}
 use native.Mathlib.Omega.{arith}
 use Rattle.model.specs.Planner.{planFrom, after}
-use Rattle.planning.proofs.Checks.{none-may-start}
+use Rattle.planner_laws.proofs.Checks.{none-may-start}
 use Rattle.planner.specs.Answers.{planOf}
 use Rattle.planner.proofs.Turns.{no-turn, turn, turn-allowed}
 use Rattle.planner.proofs.run.Statement.{statement}

@@ -4,7 +4,7 @@ use borrow.Author.Needs.{needs}
 use mathlib.Core.Path.{refl}
 use native.Mathlib.Omega.{arith}
 use Rattle.model.specs.Planner.{ceilDiv}
-use Rattle.refusals.proofs.Limits.{limits}
+use Rattle.refusal_laws.proofs.Limits.{limits}
 use Rattle.planner.proofs.Shares.{faults-window-le, dividend-le, quotient-le}
 use Rattle.planner.proofs.share.Statement.{statement}
 use Rattle.planner.proofs.share.Tie as tie

@@ -5,7 +5,7 @@ use mathlib.Core.Path.{ap}
 use native.Mathlib.Omega.{arith}
 use Prim.Native.Nat.{ℕ, _+_, _*_, _≤_}
 use lib.Dec.{leb, ltb, eqb}
-use Rattle.inspection.proofs.Body.{byte-entries-most}
+use Rattle.sheet_checks.proofs.Body.{byte-entries-most}
 use Rattle.reception.specs.Receiving.{fitting}
 use borrow.Author.Needs.{needs}
 use Rattle.reception.proofs.fits.Statement.{statement}

@@ -9,9 +9,9 @@ use lib.ListN.{length, getD, length-set}
 use Rattle.arithmetic.specs.Writing.{table, overwrite}
 use Rattle.model.specs.RoundSheet.{word}
 use Rattle.decisions.specs.Rows.{copyAt}
-use Rattle.rounds.specs.Held.{heldOf}
+use Rattle.round_laws.specs.Held.{heldOf}
 use Rattle.agreement.specs.Values.{entryHeld}
-use Rattle.loops.proofs.Loops.{store-none, store-next, store-ended}
+use Rattle.loop_laws.proofs.Loops.{store-none, store-next, store-ended}
 use Rattle.reception.proofs.receive_direct.Statement.{statement}
 use Rattle.reception.proofs.receive_direct.Tie as tie
 

@@ -9,9 +9,9 @@ use Prim.Native.Nat.{ℕ, _+_, _*_, _-_, _≤_}
 use lib.ListN.{length, take, drop, length-set}
 use Rattle.arithmetic.specs.Writing.{table, overwrite}
 use Rattle.model.specs.Steps.{decidedReading}
-use Rattle.rounds.specs.Held.{heldOf}
+use Rattle.round_laws.specs.Held.{heldOf}
 use Rattle.decisions.specs.Rows.{rowDecision}
-use Rattle.loops.proofs.Loops.{store-none, store-next, store-ended}
+use Rattle.loop_laws.proofs.Loops.{store-none, store-next, store-ended}
 use Rattle.reception.specs.Receiving.{rowReading}
 use Rattle.reception.proofs.Squares.{row-room, square-most}
 use Rattle.reception.proofs.receive_relayed.Statement.{statement}

@@ -2,7 +2,7 @@
 -- Assumes nothing.
 use mathlib.Core.Path.{sym, ap, _∙_}
 use Rattle.model.specs.Steps.{decidedReading}
-use Rattle.rounds.specs.Held.{heldOf}
+use Rattle.round_laws.specs.Held.{heldOf}
 use Rattle.decisions.specs.Rows.{decisionOf}
 use borrow.Author.Needs.{needs}
 use Rattle.reception.proofs.receive_row.Statement.{statement}

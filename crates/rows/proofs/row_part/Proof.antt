@@ -5,7 +5,7 @@ use borrow.Author.Needs.{needs}
 use mathlib.Core.Path.{_≡_}
 use native.Mathlib.Omega.{arith}
 use Prim.Native.Nat.{ℕ, _+_, _*_, _-_, _≤_}
-use Rattle.inspection.proofs.Body.{byte-entries-most}
+use Rattle.sheet_checks.proofs.Body.{byte-entries-most}
 use Rattle.rows.proofs.Parts.{row-entries-most, row-most, past-last, past-end, row-lies}
 use Rattle.rows.proofs.row_part.Statement.{statement}
 use Rattle.rows.proofs.row_part.Tie as tie

@@ -11,8 +11,8 @@ use mir.Val.{ofZ}
 use Rattle.arithmetic.specs.Counting.{lowest}
 use Rattle.model.specs.RoundSheet.{byte, bitsIn}
 use Rattle.model.specs.Refusals.{notZero}
-use Rattle.sheets.proofs.Readings.{bits-again}
-use Rattle.sheets.proofs.Searching.{search-none, search-more, search-found, search-ended}
+use Rattle.sheet_laws.proofs.Readings.{bits-again}
+use Rattle.sheet_laws.proofs.Searching.{search-none, search-more, search-found, search-ended}
 use Rattle.sheet_writer.proofs.bad_missing.Statement.{statement}
 use Rattle.sheet_writer.proofs.bad_missing.Tie as tie
 

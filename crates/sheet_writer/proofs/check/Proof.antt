@@ -4,10 +4,10 @@ use borrow.Author.Needs.{needs}
 use mathlib.Core.Option.{none}
 use mathlib.Core.Path.{_≡_, sym, ap, _∙_}
 use native.Mathlib.Omega.{arith}
-use Rattle.ensemble.specs.Answers.{checkOf}
+use Rattle.settings_checks.specs.Answers.{checkOf}
 use Rattle.model.specs.Refusals.{firstOf, settingsChecks}
-use Rattle.refusals.proofs.Limits.{limits, entries-most}
-use Rattle.sheets.proofs.Filling.{writing-refused, marks-length-refused, readings-length-refused, room-refused, arrays-decide}
+use Rattle.refusal_laws.proofs.Limits.{limits, entries-most}
+use Rattle.sheet_laws.proofs.Filling.{writing-refused, marks-length-refused, readings-length-refused, room-refused, arrays-decide}
 use Rattle.sheet_writer.proofs.check.Statement.{statement}
 use Rattle.sheet_writer.proofs.check.Tie as tie
 

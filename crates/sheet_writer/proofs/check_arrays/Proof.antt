@@ -10,9 +10,9 @@ use mir.Syntax.{w32}
 use mir.Val.{ofZ}
 use Rattle.arithmetic.proofs.Counting.{lowest-found}
 use Rattle.model.specs.RoundSheet.{byte, bitsIn}
-use Rattle.entries.specs.Answers.{foundOf}
+use Rattle.entry_checks.specs.Answers.{foundOf}
 use Rattle.model.specs.Refusals.{notZero}
-use Rattle.sheets.proofs.Filling.{array-mark-refused, array-missing-refused, arrays-pass}
+use Rattle.sheet_laws.proofs.Filling.{array-mark-refused, array-missing-refused, arrays-pass}
 use Rattle.sheet_writer.proofs.check_arrays.Statement.{statement}
 use Rattle.sheet_writer.proofs.check_arrays.Tie as tie
 

@@ -3,7 +3,7 @@
 use borrow.Author.Needs.{needs}
 use mathlib.Core.Path.{sym, _∙_}
 use Rattle.model.specs.RoundSheet.{readingBytes}
-use Rattle.sheets.proofs.Storing.{tail-written, copy-overwrites}
+use Rattle.sheet_laws.proofs.Storing.{tail-written, copy-overwrites}
 use Rattle.sheet_writer.proofs.put_entries.Statement.{statement}
 use Rattle.sheet_writer.proofs.put_entries.Tie as tie
 

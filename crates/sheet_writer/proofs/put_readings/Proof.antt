@@ -9,8 +9,8 @@ use lib.IntN.{pos}
 use lib.ListN.{length, getD, take}
 use Rattle.arithmetic.specs.Writing.{overwrite}
 use Rattle.model.specs.RoundSheet.{readingBytes}
-use Rattle.sheets.proofs.Readings.{bits-again}
-use Rattle.sheets.proofs.Storing.{put-none, put-next, put-ended}
+use Rattle.sheet_laws.proofs.Readings.{bits-again}
+use Rattle.sheet_laws.proofs.Storing.{put-none, put-next, put-ended}
 use Rattle.sheet_writer.proofs.put_readings.Statement.{statement}
 use Rattle.sheet_writer.proofs.put_readings.Tie as tie
 

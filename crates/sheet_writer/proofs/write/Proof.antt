@@ -7,13 +7,13 @@ use mathlib.Core.Path.{_≡_, sym, ap, _∙_}
 use Prim.Native.Nat.{_-_}
 use native.Mathlib.Omega.{arith}
 use lib.ListN.{length, take, drop}
-use Rattle.ensemble.specs.Answers.{checkOf}
+use Rattle.settings_checks.specs.Answers.{checkOf}
 use Rattle.model.specs.RoundSheet.{readingBytes, sizeBytes}
 use Rattle.model.specs.Refusals.{firstOf, writeChecks}
-use Rattle.sheets.proofs.Outcomes.{write-refuses}
-use Rattle.sheets.proofs.Written.{length-sizeBytes}
-use Rattle.sheets.proofs.Storing.{length-tail, tail-written}
-use Rattle.sheets.proofs.Filling.{Writable, writable, writer-fills}
+use Rattle.sheet_laws.proofs.Outcomes.{write-refuses}
+use Rattle.sheet_laws.proofs.Written.{length-sizeBytes}
+use Rattle.sheet_laws.proofs.Storing.{length-tail, tail-written}
+use Rattle.sheet_laws.proofs.Filling.{Writable, writable, writer-fills}
 use Rattle.sheet_writer.proofs.write.Statement.{statement}
 use Rattle.sheet_writer.proofs.write.Tie as tie
 

@@ -1,9 +1,9 @@
--- `tohiranga::tohiranga_read` meets its contract: the settings or the refusal of `sheet::read`, handed over, over the arrays that it leaves.
+-- `tohiranga::tohiranga_read` meets its contract: the settings or the refusal of `sheet_reader::read`, handed over, over the arrays that it leaves.
 -- Assumes nothing.
 use borrow.Author.Needs.{needs}
 use mathlib.Core.Path.{sym, ap, _∙_}
 use Rattle.model.specs.Calls.{read}
-use Rattle.inspection.specs.Answers.{openedOf}
+use Rattle.sheet_checks.specs.Answers.{openedOf}
 use Rattle.tohiranga.proofs.Handing.{opening-granted, opening-refused}
 use Rattle.tohiranga.proofs.tohiranga_read.Statement.{statement}
 use Rattle.tohiranga.proofs.tohiranga_read.Tie as tie

@@ -9,10 +9,10 @@ use native.Mathlib.Omega.{arith}
 use Rattle.model.specs.declared.Settings.{Settings}
 use Rattle.model.specs.RoundSheet.{settingsAt}
 use Rattle.model.specs.Refusals.{firstOf, rowChecks}
-use Rattle.inspection.specs.Answers.{openedOf}
-use Rattle.sheets.proofs.Outcomes.{refused-some, row-refused}
-use Rattle.sheets.proofs.Inspection.{Validated, validated}
-use Rattle.sheets.proofs.Shown.{row-empty}
+use Rattle.sheet_checks.specs.Answers.{openedOf}
+use Rattle.sheet_laws.proofs.Outcomes.{refused-some, row-refused}
+use Rattle.sheet_laws.proofs.Inspection.{Validated, validated}
+use Rattle.sheet_laws.proofs.Shown.{row-empty}
 use Rattle.tohiranga.proofs.Parts.{empty-packed, row-few, row-packed}
 use Rattle.tohiranga.proofs.tohiranga_row.Statement.{statement}
 use Rattle.tohiranga.proofs.tohiranga_row.Tie as tie

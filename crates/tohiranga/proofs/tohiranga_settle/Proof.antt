@@ -1,8 +1,8 @@
--- `tohiranga::tohiranga_settle` meets its contract: the length or the refusal of `round::settle`, packed, over the buffer that it leaves.
+-- `tohiranga::tohiranga_settle` meets its contract: the length or the refusal of `settling::settle`, packed, over the buffer that it leaves.
 -- Assumes nothing.
 use borrow.Author.Needs.{needs}
 use mathlib.Core.Path.{sym, ap, _∙_}
-use Rattle.round.specs.Answers.{settledOf}
+use Rattle.settling.specs.Answers.{settledOf}
 use Rattle.tohiranga.specs.Answers.{packed}
 use Rattle.tohiranga.proofs.tohiranga_settle.Statement.{statement}
 use Rattle.tohiranga.proofs.tohiranga_settle.Tie as tie

@@ -5,10 +5,10 @@ use mathlib.Core.Option.{none}
 use mathlib.Core.Path.{_≡_, sym, ap, _∙_}
 use Rattle.model.specs.Refusals.{firstOf, stepChecks}
 use Rattle.model.specs.Calls.{granted}
-use Rattle.ensemble.specs.Answers.{checkOf}
-use Rattle.refusals.proofs.Limits.{limits-pass}
-use Rattle.planning.proofs.Checks.{none-may-step}
-use Rattle.planning.proofs.Steps.{step-by-check}
+use Rattle.settings_checks.specs.Answers.{checkOf}
+use Rattle.refusal_laws.proofs.Limits.{limits-pass}
+use Rattle.planner_laws.proofs.Checks.{none-may-step}
+use Rattle.planner_laws.proofs.Steps.{step-by-check}
 use Rattle.planner.specs.Answers.{planOf}
 use Rattle.planner.proofs.Checks.{step-check}
 use Rattle.planner.proofs.Plan.step.Statement.{statement}

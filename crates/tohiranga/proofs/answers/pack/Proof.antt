@@ -2,8 +2,8 @@
 -- Assumes nothing.
 use borrow.Author.Needs.{needs}
 use mathlib.Core.Path.{sym, ap, _∙_}
-use Rattle.answer_sheet.specs.declared.Shown.{Shown}
-use Rattle.answer_sheet.specs.Fields.{shownOf}
+use Rattle.answer_reader.specs.declared.Shown.{Shown}
+use Rattle.answer_reader.specs.Fields.{shownOf}
 use Rattle.tohiranga.specs.Answers.{packed}
 use Rattle.tohiranga.proofs.answers.pack.Statement.{statement}
 use Rattle.tohiranga.proofs.answers.pack.Tie as tie

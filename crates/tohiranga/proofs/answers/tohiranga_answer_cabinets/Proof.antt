@@ -1,4 +1,4 @@
--- `tohiranga::answers::tohiranga_answer_cabinets` meets its contract: what `answer_sheet::cabinets` shows, packed.
+-- `tohiranga::answers::tohiranga_answer_cabinets` meets its contract: what `answer_reader::cabinets` shows, packed.
 -- Assumes nothing.
 use borrow.Author.Needs.{needs}
 use mathlib.Core.Path.{ap, _∙_}

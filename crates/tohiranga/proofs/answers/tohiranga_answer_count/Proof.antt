@@ -1,4 +1,4 @@
--- `tohiranga::answers::tohiranga_answer_count` meets its contract: what `answer_sheet::count` shows, packed.
+-- `tohiranga::answers::tohiranga_answer_count` meets its contract: what `answer_reader::count` shows, packed.
 -- Assumes nothing.
 use borrow.Author.Needs.{needs}
 use mathlib.Core.Path.{ap, _∙_}

@@ -1,4 +1,4 @@
--- `tohiranga::answers::tohiranga_answer_estimate` meets its contract: what `answer_sheet::estimate` shows, packed.
+-- `tohiranga::answers::tohiranga_answer_estimate` meets its contract: what `answer_reader::estimate` shows, packed.
 -- Assumes nothing.
 use borrow.Author.Needs.{needs}
 use mathlib.Core.Path.{ap, _∙_}

@@ -1,4 +1,4 @@
--- `tohiranga::answers::tohiranga_answer_mark` meets its contract: what `answer_sheet::mark` shows, packed.
+-- `tohiranga::answers::tohiranga_answer_mark` meets its contract: what `answer_reader::mark` shows, packed.
 -- Assumes nothing.
 use borrow.Author.Needs.{needs}
 use mathlib.Core.Path.{ap, _∙_}

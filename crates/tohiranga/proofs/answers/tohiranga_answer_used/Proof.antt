@@ -1,4 +1,4 @@
--- `tohiranga::answers::tohiranga_answer_used` meets its contract: what `answer_sheet::used` shows, packed.
+-- `tohiranga::answers::tohiranga_answer_used` meets its contract: what `answer_reader::used` shows, packed.
 -- Assumes nothing.
 use borrow.Author.Needs.{needs}
 use mathlib.Core.Path.{ap, _∙_}

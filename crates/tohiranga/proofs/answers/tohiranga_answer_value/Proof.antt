@@ -1,4 +1,4 @@
--- `tohiranga::answers::tohiranga_answer_value` meets its contract: what `answer_sheet::value` shows, packed.
+-- `tohiranga::answers::tohiranga_answer_value` meets its contract: what `answer_reader::value` shows, packed.
 -- Assumes nothing.
 use borrow.Author.Needs.{needs}
 use mathlib.Core.Path.{ap, _∙_}

@@ -1,0 +1,113 @@
+-- The numbers of a round that a sheet settles are numbers of 32 bits: each entry is one, so each reading is, as sent or
+-- as decided.
+-- Assumes nothing.
+use mathlib.Core.Bool.{Bool, true, false, cond}
+use mathlib.Core.List.{List}
+use mathlib.Core.Option.{Option, none, some}
+use mathlib.Core.Path.{_≡_, sym, _∙_}
+use Prim.Native.Nat.{ℕ, _+_, _*_, _<_}
+use native.Mathlib.Nat.{pos-of-ne-zero}
+use native.Mathlib.Omega.{arith}
+use borrow.Author.Tests.{eq-eqb}
+use lib.Dec.{leb, eqb}
+use lib.IntN.{pos}
+use lib.ListN.{length}
+use mir.Facts.{fits-of-lt, sfits-toZ}
+use mir.Syntax.{w32}
+use mir.Val.{SFits, toZ}
+use Rattle.arithmetic.specs.Counting.{count, lowest}
+use Rattle.arithmetic.proofs.Bools.{clash}
+use Rattle.model.specs.declared.Settings.{Settings}
+use Rattle.model.specs.Ensemble.{Reading, missing, present, Readings, ticks, quorum}
+use Rattle.model.specs.RoundSheet.{cca, byte, settingsAt, entryCount, markAt, bitsAt, entryAt}
+use Rattle.model.specs.Steps.{same, decisionAt, decidedReading, decideRow, readingsOf, roundAt}
+use Rattle.model.specs.AnswerSheet.{answerLength}
+use Rattle.model.specs.Refusals.{Check, orNext, firstOf, sheetChecks, entryChecks, settleChecks, noRoom, tooManyFaults}
+use Rattle.sheet_laws.proofs.Words.{word-fits}
+use Rattle.refusal_laws.proofs.Checks.{next-none-left, next-none-right, when-none}
+use Rattle.sheet_laws.proofs.Orders.{settle-checks}
+use Rattle.refusal_laws.proofs.Limits.{limits}
+use Rattle.sheet_laws.proofs.Checks.{settings-passed}
+use Rattle.demand_1_2.proofs.Values.{estimate-fits, used-fits, value-fits}
+
+-- 32 bits hold the ticks of a reading
+abbrev Holds : Reading → Type 0
+Holds v = SFits w32 (ticks v)
+
+none-fits : SFits w32 (pos 0)
+none-fits = record { sfits = omega arith }
+
+one-of : (b : Bool) (v u : Reading) → Holds v → Holds u → Holds (cond b v u)
+one-of true v u hv hu = hv
+one-of false v u hv hu = hu
+
+decided-fits :
+    (need n : ℕ) (copy : Readings) → ((s : ℕ) → Holds (copy s)) → Holds (decidedReading (decideRow need n copy))
+unfolding decideRow
+decided-fits need n copy fits = go (lowest (λ s. leb need (count (λ t. same (copy s) (copy t)) n)) n)
+  where
+    go : (o : Option ℕ) → Holds (decidedReading (decisionAt copy o))
+    go none = none-fits
+    go (some s) = fits s
+
+reading-fits : (c : Settings) (entry : Readings) → ((e : ℕ) → Holds (entry e)) → (r : ℕ) → Holds (readingsOf c entry r)
+unfolding readingsOf
+reading-fits c entry fits r =
+    one-of (eqb (c .rule) cca) (decidedReading (decideRow (quorum c) (c .n) (λ s. entry (r * c .n + s)))) (entry r)
+    (decided-fits (quorum c) (c .n) (λ s. entry (r * c .n + s)) (λ s. fits (r * c .n + s)))
+    (fits r)
+
+module _ (s : List ℕ) (small : (j : ℕ) → byte s j < 256) where
+  entry-fits : (E e : ℕ) → Holds (entryAt s E e)
+  unfolding entryAt
+  entry-fits E e =
+      one-of (eqb (markAt s e) 1) (present (toZ w32 (bitsAt s E e))) missing
+      (sfits-toZ {w = w32} (fits-of-lt (word-fits s (8 + E + 4 * e) small)))
+      none-fits
+
+  abbrev readings : Readings
+  readings = readingsOf (settingsAt s) (entryAt s (entryCount (settingsAt s)))
+
+  readings-fit : (r : ℕ) → r < settingsAt s .n → Holds (readings r)
+  readings-fit r h =
+      reading-fits (settingsAt s) (entryAt s (entryCount (settingsAt s))) (entry-fits (entryCount (settingsAt s))) r
+
+  module _ (answer : List ℕ) (granted : firstOf (settleChecks s (length answer)) ≡ none) where
+    abbrev room : Check
+    room = noRoom (length answer) (answerLength (settingsAt s .n))
+
+    abbrev faults : Check
+    faults = tooManyFaults (roundAt s .count)
+
+    checks : orNext (firstOf (sheetChecks s)) (orNext room (orNext (firstOf (entryChecks s)) faults)) ≡ none
+    checks = sym (settle-checks s (length answer)) ∙ granted
+
+    some-cabinet : 0 < settingsAt s .n
+    some-cabinet =
+        limits (settingsAt s)
+        (settings-passed s
+        (next-none-left (firstOf (sheetChecks s)) (orNext room (orNext (firstOf (entryChecks s)) faults)) checks))
+        .someCabinet
+
+    few-faults : faults ≡ none
+    few-faults =
+        next-none-right (firstOf (entryChecks s)) faults
+        (next-none-right room (orNext (firstOf (entryChecks s)) faults)
+        (next-none-right (firstOf (sheetChecks s)) (orNext room (orNext (firstOf (entryChecks s)) faults)) checks))
+
+    some-accepted : 0 < roundAt s .count
+    unfolding tooManyFaults
+    some-accepted =
+        pos-of-ne-zero (λ z. clash (eq-eqb (roundAt s .count) 0 z) (when-none (eqb (roundAt s .count) 0) 10 few-faults))
+
+    pub settled-estimate : SFits w32 (roundAt s .estimate)
+    unfolding roundAt
+    settled-estimate = estimate-fits (settingsAt s) readings readings-fit some-accepted
+
+    pub settled-value : SFits w32 (roundAt s .value)
+    unfolding roundAt
+    settled-value = value-fits (settingsAt s) readings readings-fit some-accepted some-cabinet
+
+    pub settled-used : (r : ℕ) → r < settingsAt s .n → SFits w32 (roundAt s .used r)
+    unfolding roundAt
+    settled-used = used-fits (settingsAt s) readings readings-fit some-accepted

@@ -1,0 +1,169 @@
+-- Every round of every run, however many are bad: before it the plan is the planner's, and what sound cabinets hold
+-- are readings of 32 bits (`Ready`). So each sheet passes checks 1 to 9, and is granted or refused under 10; the
+-- plan's step is granted; and the next state is ready.
+-- Assumes nothing.
+use mathlib.Core.Bool.{true}
+use mathlib.Core.List.{List, [], _∷_}
+use mathlib.Core.Logic.{_⊎_, inl, inr}
+use mathlib.Core.Option.{none}
+use mathlib.Core.Path.{_≡_, refl, sym, ap, _∙_, subst, subst⁻¹}
+use Prim.Native.Nat.{ℕ, zero, suc, _+_, _*_, _≤_, _<_}
+use native.Mathlib.Omega.{arith}
+use lib.ListN.{length}
+use mir.Syntax.{w32}
+use mir.Val.{SFits}
+use Rattle.arithmetic.proofs.Biased.{bias}
+use Rattle.arithmetic.proofs.Bools.{clash}
+use Rattle.arithmetic.specs.Naturals.{down}
+use Rattle.model.specs.declared.Settings.{Settings}
+use Rattle.model.specs.Ensemble.{missing, present, isPresent, ticks}
+use Rattle.model.specs.RoundSheet.{entryCount}
+use Rattle.model.specs.AnswerSheet.{answerLength}
+use Rattle.model.specs.Planner.{Plan, planFrom, advance, after, withWindow}
+use Rattle.model.specs.Refusals.{refusal, firstOf, settingsChecks}
+use Rattle.model.specs.Calls.{Verdict, granted, refused, step}
+use Rattle.refusal_laws.proofs.Limits.{Limits, limits-pass}
+use Rattle.planner_laws.proofs.Checks.{none-may-start}
+use Rattle.planner_laws.proofs.Rounds.{settings-after}
+use Rattle.planner_laws.proofs.Steps.{start-step-granted}
+use Rattle.planner_laws.proofs.Windows.{passes-after}
+use Rattle.limit_laws.proofs.Settled.{valueBy}
+use Rattle.demand_3.specs.Guarantee.{IsReading, Station, N, m, κ, Start, Sends, Allowed, State, start, entryOf}
+use Rattle.demand_3.specs.Guarantee.{settled, holds, next, Sound, Every, Orderly, Each}
+use Rattle.demand_3.proofs.Entries.{seen, seen-reading, entry-fits}
+use Rattle.demand_3.proofs.Link.{found, settled-refused, settled-granted, settled-holds}
+use Rattle.demand_3.proofs.Received.{received, received-value, new-value-fits}
+
+-- j rounds are done before
+pub record Ready (st : Station) (j : ℕ) (now : State) : Type 0 where
+  pub plan : now .plan ≡ after j (planFrom (st .settings) (κ st))
+  pub readings : (r : ℕ) → Sound st r → IsReading (now .held r)
+
+module _ (st : Station) (begins : Start st) (j : ℕ) (now : State) (ready : Ready st j now) where
+  -- the window and the settings of the round
+  abbrev w : ℕ
+  w = now .plan .settings .window
+
+  abbrev c : Settings
+  c = withWindow (st .settings) w
+
+  pub plan-settings : now .plan .settings ≡ c
+  plan-settings =
+      subst⁻¹ (λ (p : Plan). p .settings ≡ withWindow (st .settings) (p .settings .window)) (ready .plan)
+      (settings-after j (planFrom (st .settings) (κ st)))
+
+  limits-hold : Limits c
+  limits-hold =
+      subst Limits plan-settings
+      (subst⁻¹ (λ (p : Plan). Limits (p .settings)) (ready .plan)
+      (passes-after j (planFrom (st .settings) (κ st))
+      (none-may-start (st .settings) (κ st) 0 (begins .grants) .passes)))
+
+  pub some-n : 0 < N st
+  some-n = limits-hold .someCabinet
+
+  pub planned : 3 * m st < N st
+  planned = omega (arith, limits-hold .faults)
+
+  pass : firstOf (settingsChecks c) ≡ none
+  pass = limits-pass c limits-hold
+
+  plan-steps : j < 32 → step (now .plan) ≡ granted (advance (now .plan))
+  unfolding after
+  plan-steps early =
+      subst⁻¹ (λ (p : Plan). step p ≡ granted (advance p)) (ready .plan)
+      (start-step-granted (st .settings) (κ st) j (begins .grants) early)
+
+  module _ (x : Sends) (allowed : Allowed st x) where
+    -- ---- what the cabinets read
+
+    held-readings : (r : ℕ) → r < N st → st .sound r ≡ true → IsReading (now .held r)
+    held-readings r l s = ready .readings r (l, s)
+
+    pub reads : (p r : ℕ) → r < N st → IsReading (seen st now x w p r)
+    reads p r l = seen-reading st now x allowed held-readings w p r l (omega (arith, planned))
+
+    fits : (p e : ℕ) → e < entryCount (st .settings) → SFits w32 (ticks (entryOf st now x p e))
+    fits p e l = entry-fits st now x allowed held-readings p e l some-n
+
+    -- ---- a cabinet's sheet
+
+    module _ (p : ℕ) where
+      refuses : found st now x w p .count ≡ 0 → settled st now x p .verdict ≡ refused (refusal 10 0)
+      refuses = settled-refused st now x w p plan-settings pass allowed (fits p)
+
+      pub grants : 0 < found st now x w p .count → settled st now x p .verdict ≡ granted (answerLength (N st))
+      grants = settled-granted st now x w p plan-settings pass allowed (fits p)
+
+      -- where no reading is accepted p holds nothing, and else the round's new value
+      holds-nothing : found st now x w p .count ≡ 0 → next st now x .held p ≡ missing
+      unfolding next
+      holds-nothing e = ap (λ (v : Verdict ℕ). holds v (settled st now x p .buffer)) (refuses e)
+
+      module _ (some-acc : 0 < found st now x w p .count) where
+        value-fits : SFits w32 (found st now x w p .value)
+        value-fits = new-value-fits c (seen st now x w p) (reads p) some-n some-acc
+
+        holds-value : next st now x .held p ≡ present (found st now x w p .value)
+        unfolding next
+        holds-value = settled-holds st now x w p plan-settings pass allowed (fits p) some-acc value-fits
+
+        -- as a natural, moved down by k
+        pub new-value :
+            (k : ℕ) → bias ≤ k
+            → next st now x .held p
+            ≡ present (down k (valueBy (N st) (m st) w (received c (seen st now x w p) (reads p) k)))
+        new-value k h =
+            holds-value ∙ ap present (received-value c (seen st now x w p) (reads p) k h some-n some-acc)
+
+      -- by what p accepts
+      either : {A : Type 0} → (found st now x w p .count ≡ 0 → A) → (0 < found st now x w p .count → A) → A
+      either {A} f g = go (found st now x w p .count) refl
+        where
+          go : (k : ℕ) → found st now x w p .count ≡ k → A
+          go zero e = f e
+          go (suc k) e = g (omega arith)
+
+      pub accepts-some : isPresent (next st now x .held p) ≡ true → 0 < found st now x w p .count
+      accepts-some e = either (λ h. clash e (ap isPresent (holds-nothing h))) (λ h. h)
+
+      passes :
+          (settled st now x p .verdict ≡ granted (answerLength (N st)))
+          ⊎ (settled st now x p .verdict ≡ refused (refusal 10 0))
+      passes = either (λ h. inr (refuses h)) (λ h. inl (grants h))
+
+      holds-reading : IsReading (next st now x .held p)
+      holds-reading =
+          either
+          (λ h. subst⁻¹ IsReading (holds-nothing h) tt)
+          (λ h. subst⁻¹ IsReading (holds-value h) (value-fits h))
+
+    -- ---- the round
+
+    module _ (early : j < 32) where
+      pub next-plan : next st now x .plan ≡ advance (now .plan)
+      unfolding next
+      next-plan = rw (plan-steps early)
+
+      pub orderly : Orderly st now x
+      orderly = record { passes = λ p s. passes p; steps = plan-steps early ∙ ap granted (sym next-plan) }
+
+      pub ready-next : Ready st (suc j) (next st now x)
+      unfolding after
+      ready-next = record { plan = next-plan ∙ ap advance (ready .plan); readings = λ p s. holds-reading p }
+
+module _ (st : Station) (begins : Start st) where
+  pub ready-start : Ready st 0 (start st)
+  unfolding after
+  ready-start = record { plan = refl; readings = λ r s. begins .readings r }
+
+  pub every-orderly :
+      (rounds : List Sends) (now : State) (j : ℕ) → j + length rounds ≤ 32 → Each (Allowed st) rounds
+      → Ready st j now → Every st (Orderly st) now rounds
+  every-orderly [] now j l each ready = tt
+  every-orderly (x ∷ xs) now j l each ready =
+      let early : j < 32 = omega arith in (
+        orderly st begins j now ready x (each .0) early,
+        every-orderly xs (next st now x) (suc j) (omega arith) (each .1)
+            (ready-next st begins j now ready x (each .0) early),
+      )

@@ -1,0 +1,85 @@
+-- The theorems are not empty: `guarantee`, `exact-limits` and `regulators-case` apply to runs of specs/Witnesses.antt,
+-- of which all their hypotheses hold.
+-- Assumes nothing.
+use mathlib.Core.Bool.{Bool, false}
+use mathlib.Core.List.{List, [], _∷_}
+use mathlib.Core.Path.{refl}
+use Prim.Native.Nat.{ℕ, _≤_}
+use lib.Dec.{lit<, lit≤}
+use lib.IntN.{ℤ, pos}
+use lib.ListN.{length}
+use Rattle.arithmetic.proofs.Bools.{clash}
+use Rattle.demand_3.specs.Guarantee.{Station, Start, Sends, Allowed, Each, start, Good}
+use Rattle.demand_3.specs.Guarantee.{Every, First, Orderly, Close, Wide, Guarantee}
+use Rattle.demand_3.specs.Exact.{ExactFirst}
+use Rattle.demand_3.specs.Regulator.{SevenPlannedForTwo, ThreeBad}
+use Rattle.demand_3.specs.Witnesses.{Meets, below, wideStation, wideSends, exactStation, exactSends}
+use Rattle.demand_3.specs.Witnesses.{directStation, directFirst, directSecond}
+use Rattle.demand_3.specs.Witnesses.{crusadersStation, crusadersFirst, crusadersSecond}
+use Rattle.demand_3.proofs.Exact.{exact-limits}
+use Rattle.demand_3.proofs.Guarantee.{guarantee}
+use Rattle.demand_3.proofs.Regulator.{regulators-case}
+use Rattle.demand_3.proofs.Computed.Witnesses.{wide-reached, exact-reached, direct-rounds, crusaders-rounds}
+
+promised :
+    (st : Station) (rounds : List Sends) (good : ℕ → Bool) (truth : ℤ)
+    → Meets st rounds good truth → Guarantee st rounds good truth
+promised st rounds good truth m = guarantee st (m .starts) rounds (m .most) (m .allowed) good truth (m .goodness)
+
+-- what holds whatever t is needs no good cabinet: the empty set is a good one
+pub every-run-orderly :
+    (st : Station) → Start st → (rounds : List Sends) → length rounds ≤ 32 → Each (Allowed st) rounds
+    → Every st (Orderly st) (start st) rounds
+every-run-orderly st begins rounds most each =
+    guarantee st begins rounds most each (λ p. false) (pos 0) none-good .every-round
+  where
+    none-good : Good st (λ p. false) (pos 0)
+    none-good =
+        record {
+          sound = λ p l e. clash e refl;
+          present = λ p l e. clash e refl;
+          accurate = λ p l e. clash e refl;
+          precise = λ p q lp lq ep eq. clash ep refl;
+        }
+
+-- two rounds, at most m bad
+pub direct-promised :
+    Every directStation (Close directStation (pos 0)) (start directStation) (directFirst ∷ directSecond ∷ [])
+direct-promised =
+    promised directStation (directFirst ∷ directSecond ∷ []) (below 3) (pos 0) (direct-rounds .meets) .few
+    (rw (direct-rounds .counts) (unfold directStation in lit≤ tt))
+
+pub crusaders-promised :
+    Every
+    crusadersStation
+    (Close crusadersStation (pos 0))
+    (start crusadersStation)
+    (crusadersFirst ∷ crusadersSecond ∷ [])
+crusaders-promised =
+    promised crusadersStation (crusadersFirst ∷ crusadersSecond ∷ []) (below 3) (pos 0) (crusaders-rounds .meets) .few
+    (rw (crusaders-rounds .counts) (unfold crusadersStation in lit≤ tt))
+
+-- three of seven bad
+pub wide-promised : First (Wide wideStation 3 (pos 0)) (start wideStation) (wideSends ∷ [])
+wide-promised =
+    rw (wide-reached .counts) at
+    (promised wideStation (wideSends ∷ []) (below 4) (pos 0) (wide-reached .meets) .many
+    (rw (wide-reached .counts) (unfold wideStation in lit< tt))
+    (rw (wide-reached .counts) (unfold wideStation in lit< tt)))
+
+pub exact-promised : ExactFirst exactStation (exactSends ∷ []) 3 (pos 0)
+exact-promised =
+    let m : Meets exactStation (exactSends ∷ []) (below 4) (pos 0) = exact-reached .meets in
+    rw (exact-reached .counts) at
+    (exact-limits
+    exactStation (m .starts) (exactSends ∷ []) (m .most) (m .allowed) (below 4) (pos 0) (m .goodness)
+    (rw (exact-reached .counts) (unfold exactStation in lit< tt))
+    (rw (exact-reached .counts) (unfold exactStation in lit< tt)))
+
+pub wide-answered : First (ThreeBad wideStation (pos 0)) (start wideStation) (wideSends ∷ [])
+wide-answered =
+    let m : Meets wideStation (wideSends ∷ []) (below 4) (pos 0) = wide-reached .meets in
+    let seven : SevenPlannedForTwo wideStation = unfold wideStation in record { seven = refl; two = refl } in
+    regulators-case
+    wideStation seven (m .starts) (wideSends ∷ []) (m .most) (m .allowed) (below 4) (pos 0) (m .goodness)
+    .three (wide-reached .counts)

@@ -1,2 +1,0 @@
-pub mod Screens
-pub mod Bits

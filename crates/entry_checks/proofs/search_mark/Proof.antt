@@ -1,0 +1,79 @@
+-- `entry_checks::search_mark` meets its contract. The loop's invariant: no mark passed is at fault. The measure is what is left of the marks.
+-- Assumes nothing.
+use borrow.Author.Tests.{lt-ltb, le-ltb}
+use mathlib.Core.Option.{none}
+use mathlib.Core.Path.{_≡_, sym}
+use Prim.Native.Nat.{_-_, _≤_}
+use native.Mathlib.Omega.{arith}
+use lib.Dec.{ltb}
+use lib.ListN.{length}
+use Rattle.arithmetic.specs.Counting.{lowest}
+use Rattle.model.specs.RoundSheet.{byte}
+use Rattle.sheet_laws.proofs.Searching.{search-none, search-more, search-found, search-ended}
+use Rattle.entry_checks.proofs.search_mark.Statement.{statement}
+use Rattle.entry_checks.proofs.search_mark.Tie as tie
+
+abbrev Inv-entries : tie.InvT-entries
+Inv-entries marks e₀ e = (e ≤ length marks) × (lowest (λ i. ltb 1 (byte marks i)) e ≡ none)
+
+abbrev μ-entries : tie.MeasureT-entries
+μ-entries marks e₀ e = length marks - e
+
+entries-holds : tie.Need-entries-holds Inv-entries μ-entries
+entries-holds c = (omega arith, search-none (λ i. ltb 1 (byte (c .args .marks .now) i)))
+
+shared-slice-read-mark : tie.Need-shared-slice-read-mark Inv-entries μ-entries
+shared-slice-read-mark c = omega arith
+
+returns : tie.Need-returns Inv-entries μ-entries
+returns c =
+    let a = c .before .before .before .before .args in
+    let entries = c .before .before .before .entries in
+    sym
+    (search-found (λ i. ltb 1 (byte (a .marks .now) i))
+    (length (a .marks .now))
+    (entries .e)
+    (omega arith)
+    (entries .inv .1)
+    (lt-ltb 1 (byte (a .marks .now) (entries .e)) (c .if1 .taken)))
+
+add-e : tie.Need-add-e Inv-entries μ-entries
+add-e c = omega arith
+
+entries-less : tie.Need-entries-less Inv-entries μ-entries
+entries-less c = omega arith
+
+entries-again : tie.Need-entries-again Inv-entries μ-entries
+entries-again c =
+    let a = c .before .before .before .before .args in
+    let entries = c .before .before .before .entries in (
+      omega arith,
+      search-more (λ i. ltb 1 (byte (a .marks .now) i))
+          (entries .e)
+          (entries .inv .1)
+          (le-ltb 1 (byte (a .marks .now) (entries .e)) (c .if1 .left)),
+    )
+
+returns-2 : tie.Need-returns-2 Inv-entries μ-entries
+returns-2 c =
+    sym
+    (search-ended (λ i. ltb 1 (byte (c .before .before .args .marks .now) i))
+    (length (c .before .before .args .marks .now))
+    (c .before .entries .e)
+    (c .before .entries .inv .0)
+    (c .entries-test .left)
+    (c .before .entries .inv .1))
+
+pub search-mark-spec : {M : Type 1} → statement M
+search-mark-spec =
+    tie.close
+    (tie.spec
+    Inv-entries
+    μ-entries
+    entries-holds
+    shared-slice-read-mark
+    returns
+    add-e
+    entries-less
+    entries-again
+    returns-2)

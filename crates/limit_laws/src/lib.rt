@@ -1,0 +1,1 @@
+// The limits of one round for sound cabinets. It has no function.

@@ -1,0 +1,121 @@
+-- What the guarantee states, by cases: each outcome of the code, on plain values. Products are small, since the settings pass.
+-- Assumes nothing.
+use mathlib.Core.Bool.{Bool, true, _&&_}
+use mathlib.Core.Option.{none, some}
+use mathlib.Core.Path.{_≡_, refl, sym, ap, ap₂, _∙_, subst}
+use Prim.Native.Nat.{ℕ, _+_, _*_, _-_, _/_, _≤_, _<_}
+use native.Mathlib.Nat.{mul-le-mul}
+use native.Mathlib.Omega.{arith}
+use borrow.Author.Tests.{le-leb, lt-leb, leb-true, ltb-true, eqb-true}
+use lib.Dec.{leb, ltb, eqb}
+use Rattle.arithmetic.proofs.Bools.{and-left, and-right}
+use Rattle.model.specs.declared.Settings.{Settings}
+use Rattle.model.specs.declared.Refusal.{Refusal}
+use Rattle.model.specs.RoundSheet.{fca, median}
+use Rattle.model.specs.Planner.{ceilDiv}
+use Rattle.model.specs.Cases.{settings}
+use Rattle.model.specs.Refusals.{firstOf, settingsChecks, planChecks}
+use Rattle.planner_laws.proofs.Ceiling.{ceil-div-le}
+use Rattle.planner_laws.proofs.Checks.{none-may-start}
+use Rattle.refusal_laws.proofs.Limits.{Limits, limits, limits-pass}
+use Rattle.limit_laws.proofs.Means.{rise, fall}
+use Rattle.demand_3.specs.Exact.{exactGap, exactError}
+use Rattle.demand_3.proofs.Exact.{gap-is, error-is}
+use Rattle.sharpness.specs.Sharpness.{Covered}
+use Rattle.limits.specs.Limits.{Stated, planned, wider, nothing, refused, stationOf, reachable, widerAt, bounds, stated}
+use Rattle.limits.proofs.Quotients.{rise-is, fall-is}
+
+module _ (c : Settings) where
+  module _ (e : firstOf (settingsChecks c) ≡ none) (parts : ℕ) (l : parts ≤ 256) where
+    pub product-le : parts * c .window ≤ 256000000
+    product-le = mul-le-mul {n₂ = 256} {m₂ = 1000000} l (limits c e .window)
+
+    pub share-le : ceilDiv (parts * c .window) (c .n) ≤ 256000063
+    share-le = let a = ceil-div-le (c .n) (limits c e .someCabinet) (parts * c .window) in omega (arith, product-le)
+
+  module _ (κ : ℕ) (e : firstOf (planChecks c κ 0) ≡ none) where
+    pub granted-settings : firstOf (settingsChecks c) ≡ none
+    granted-settings = limits-pass c (none-may-start c κ 0 e .passes)
+
+    pub granted-passes : Limits c
+    granted-passes = none-may-start c κ 0 e .passes
+
+    pub granted-accuracy : κ ≤ 1000000000
+    granted-accuracy = none-may-start c κ 0 e .accurate
+
+    -- the sizes of what is multiplied and added
+    module _ (t : ℕ) (h : t < c .n - c .m) where
+      pub all-parts : c .n + 2 * t + 2 * c .m ≤ 256
+      all-parts = let p = granted-passes in omega (arith, p .cabinets, p .faults)
+
+      pub bad-parts : c .m + t ≤ 256
+      bad-parts = let p = granted-passes in omega (arith, p .cabinets, p .faults)
+
+      pub excess-le : (c .m + t) * c .window ≤ 256000000
+      excess-le = product-le granted-settings (c .m + t) bad-parts
+
+  pub bounds-planned : (κ t : ℕ) → t ≤ c .m → planned ≡ bounds c κ t
+  unfolding bounds
+  bounds-planned κ t l = rw (le-leb t (c .m) l) refl
+
+  pub bounds-nothing : (κ t : ℕ) → c .m < t → c .n - c .m ≤ t → nothing ≡ bounds c κ t
+  unfolding bounds
+  bounds-nothing κ t l h = rw (lt-leb t (c .m) l, le-leb (c .n - c .m) t h) refl
+
+  pub bounds-wider : (κ t : ℕ) {s : Stated} → c .m < t → t < c .n - c .m → s ≡ widerAt c κ t → s ≡ bounds c κ t
+  unfolding bounds
+  bounds-wider κ t l h e = rw (lt-leb t (c .m) l, lt-leb (c .n - c .m) t h) e
+
+  -- the wider limits, from their parts
+  pub wider-at : (κ t : ℕ) {gap growth above below : ℕ} {known : Bool} → 0 < c .n
+      → gap ≡ ceilDiv ((c .n + 2 * t + 2 * c .m) * c .window) (c .n)
+      → growth ≡ ceilDiv ((c .m + t) * c .window) (c .n)
+      → above ≡ (2 * ((c .m + t) * c .window) + c .n) / (2 * c .n)
+      → below ≡ (2 * ((c .m + t) * c .window) + (c .n - 1)) / (2 * c .n)
+      → known ≡ reachable c κ t
+      → wider gap (κ + growth) (c .window + (above + below)) (κ + above) known ≡ widerAt c κ t
+  unfolding widerAt
+  wider-at κ t {gap} {growth} {above} {below} {known} any g e a b k =
+      let x : ℕ = (c .m + t) * c .window in
+      let rises : above ≡ rise (c .n) x = a ∙ sym (rise-is (c .n) x) in
+      let falls : below ≡ fall (c .n) x = b ∙ sym (fall-is (c .n) x any) in
+      let widest : c .window + (above + below) ≡ exactGap (stationOf c κ) t =
+      ap₂ (λ (i j : ℕ). c .window + (i + j)) rises falls ∙ sym (gap-is (stationOf c κ) any t) in
+      let farthest : κ + above ≡ exactError (stationOf c κ) t =
+      ap (λ (i : ℕ). κ + i) rises ∙ sym (error-is (stationOf c κ) any t) in
+      rw (g, e, widest, farthest, k)
+
+  -- what is said to be reached is: `always-reached` speaks of it
+  pub reachable-covered : (κ t : ℕ) → firstOf (planChecks c κ 0) ≡ none → c .m < t → t < c .n - c .m
+      → reachable c κ t ≡ true → Covered (c .n) (c .m) t (c .window) κ × (c .window ≤ 2 * κ)
+  unfolding reachable
+  reachable-covered κ t passes more fewer h =
+      let fast : Bool = eqb (c .rule) 0 in
+      let middle : Bool = eqb (c .estimator) 1 in
+      let many : Bool = leb (c .n) (2 * c .m + t) in
+      let inexact : Bool = ltb 0 κ in
+      let wide : Bool = leb (c .window) (2 * κ) in
+      let method = and-left (fast && middle) (many && (inexact && wide)) h in
+      let sizes = and-right (fast && middle) (many && (inexact && wide)) h in
+      let accuracy = and-right many (inexact && wide) sizes in
+      let rule : c .rule ≡ 0 = eqb-true (c .rule) 0 (and-left fast middle method) in
+      let estimator : c .estimator ≡ 1 = eqb-true (c .estimator) 1 (and-right fast middle method) in
+      let same : c ≡ settings (c .n) (c .m) fca median (c .window) =
+      ap₂ (λ (i j : ℕ). settings (c .n) (c .m) i j (c .window)) rule estimator in (
+        record {
+          grants = subst (λ (d : Settings). firstOf (planChecks d κ 0) ≡ none) same passes;
+          more = more;
+          fewer = fewer;
+          crowded = leb-true (c .n) (2 * c .m + t) (and-left many (inexact && wide) sizes);
+          inexact = ltb-true 0 κ (and-left inexact wide accuracy);
+        },
+        leb-true (c .window) (2 * κ) (and-right inexact wide accuracy),
+      )
+
+  pub stated-refused : (κ t : ℕ) {r : Refusal} → firstOf (planChecks c κ 0) ≡ some r → refused r ≡ stated c κ t
+  unfolding stated
+  stated-refused κ t e = rw e refl
+
+  pub stated-bounds : (κ t : ℕ) {s : Stated} → firstOf (planChecks c κ 0) ≡ none → s ≡ bounds c κ t → s ≡ stated c κ t
+  unfolding stated
+  stated-bounds κ t e h = rw e h

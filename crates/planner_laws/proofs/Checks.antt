@@ -1,0 +1,69 @@
+-- What it means that no check of a call refuses, as facts of numbers.
+-- Assumes nothing.
+use mathlib.Core.Bool.{Bool, false, _||_}
+use mathlib.Core.List.{[], _∷_, _++_}
+use mathlib.Core.Option.{none}
+use mathlib.Core.Path.{_≡_, _∙_}
+use Prim.Native.Nat.{ℕ, _≤_, _<_}
+use lib.Dec.{ltb, leb}
+use borrow.Author.Tests.{ltb-false, leb-false, le-ltb, lt-leb}
+use Rattle.arithmetic.proofs.Bools.{or-false, or-left, or-right}
+use Rattle.model.specs.declared.Settings.{Settings}
+use Rattle.model.specs.Planner.{Plan}
+use Rattle.model.specs.Refusals.{firstOf, settingsChecks, planChecks, stepChecks, badPlan}
+use Rattle.refusal_laws.proofs.Checks.{first-snoc, none-at, none-left, none-right, when-none}
+use Rattle.refusal_laws.proofs.Limits.{Limits, limits, limits-pass}
+
+-- checks 2 to 5, and then 11
+module _ (c : Settings) (fails : Bool) where
+  none-eleven : firstOf (settingsChecks c ++ (badPlan fails ∷ [])) ≡ none → Limits c × (fails ≡ false)
+  unfolding badPlan
+  none-eleven e =
+      (limits c (none-left (settingsChecks c) (badPlan fails ∷ []) e), when-none fails 11 (none-at (badPlan fails ∷ []) (none-right (settingsChecks c) (badPlan fails ∷ []) e) 0))
+
+  eleven-none : Limits c → fails ≡ false → firstOf (settingsChecks c ++ (badPlan fails ∷ [])) ≡ none
+  unfolding badPlan
+  eleven-none p t = first-snoc (settingsChecks c) (badPlan fails) ∙ (rw (limits-pass c p, t))
+
+-- a start that the planner grants for k rounds
+pub record MayStart (c : Settings) (κ k : ℕ) : Type 0 where
+  pub passes : Limits c
+  pub accurate : κ ≤ 1000000000
+  pub few : k ≤ 32
+
+module _ (c : Settings) (κ k : ℕ) where
+  pub none-may-start : firstOf (planChecks c κ k) ≡ none → MayStart c κ k
+  unfolding planChecks
+  none-may-start e =
+      let parts = none-eleven c (ltb 1000000000 κ || ltb 32 k) e in
+      record {
+        passes = parts .0;
+        accurate = ltb-false 1000000000 κ (or-left (ltb 1000000000 κ) (ltb 32 k) (parts .1));
+        few = ltb-false 32 k (or-right (ltb 1000000000 κ) (ltb 32 k) (parts .1));
+      }
+
+  pub may-start-none : MayStart c κ k → firstOf (planChecks c κ k) ≡ none
+  unfolding planChecks
+  may-start-none s = eleven-none c _ (s .passes) (or-false (le-ltb 1000000000 κ (s .accurate)) (le-ltb 32 k (s .few)))
+
+-- a plan whose step is granted
+pub record MayStep (p : Plan) : Type 0 where
+  pub passes : Limits (p .settings)
+  pub early : p .rounds < 32
+  pub accurate : p .accuracy ≤ 1100000000
+
+module _ (p : Plan) where
+  pub none-may-step : firstOf (stepChecks p) ≡ none → MayStep p
+  unfolding stepChecks
+  none-may-step e =
+      let parts = none-eleven (p .settings) (leb 32 (p .rounds) || ltb 1100000000 (p .accuracy)) e in
+      record {
+        passes = parts .0;
+        early = leb-false 32 (p .rounds) (or-left (leb 32 (p .rounds)) (ltb 1100000000 (p .accuracy)) (parts .1));
+        accurate = ltb-false 1100000000 (p .accuracy) (or-right (leb 32 (p .rounds)) (ltb 1100000000 (p .accuracy)) (parts .1));
+      }
+
+  pub may-step-none : MayStep p → firstOf (stepChecks p) ≡ none
+  unfolding stepChecks
+  may-step-none s =
+      eleven-none (p .settings) _ (s .passes) (or-false (lt-leb 32 (p .rounds) (s .early)) (le-ltb 1100000000 (p .accuracy) (s .accurate)))

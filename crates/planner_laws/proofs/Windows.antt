@@ -1,0 +1,99 @@
+-- Windows never grow, and the accuracy grows each round by at most the widest window: so settings that pass go on passing.
+-- Assumes nothing.
+use mathlib.Core.Bool.{Bool, true, false, cond, _&&_}
+use mathlib.Core.Path.{_≡_, sym, ap, _∙_}
+use Prim.Native.Nat.{ℕ, zero, suc, _+_, _*_, _-_, _≤_, _<_}
+use native.Mathlib.Nat.{le-refl, le-trans, mul-assoc, mul-comm, mul-le-mul-right, one-mul}
+use native.Mathlib.Omega.{arith}
+use lib.Dec.{eqb}
+use Rattle.model.specs.declared.Settings.{Settings}
+use Rattle.model.specs.Planner.{Plan, ceilDiv, windowFactor, nextWindow, growth, withWindow, advance, after}
+use Rattle.planner_laws.proofs.Ceiling.{ceil-div-least}
+use Rattle.refusal_laws.proofs.Limits.{Limits}
+use Rattle.planner_laws.proofs.Rounds.{after-add}
+
+-- the factor of the next window is 1 or 2
+factor-le : (b : Bool) → cond b 1 2 ≤ 2
+factor-le true = omega arith
+factor-le false = omega arith
+
+pub window-factor-le : (c : Settings) → windowFactor c ≤ 2
+unfolding windowFactor
+window-factor-le c = factor-le (eqb (c .rule) 1 && eqb (c .estimator) 1)
+
+-- f m δ / N rounded up is at most δ, where f m is at most N
+pub share-le : (f : ℕ) (c : Settings) → 0 < c .n → f * c .m ≤ c .n → ceilDiv (f * (c .m * c .window)) (c .n) ≤ c .window
+share-le f c h l =
+    let e = mul-assoc f (c .m) (c .window) in
+    let d = mul-comm (c .n) (c .window) in
+    let b = mul-le-mul-right (c .window) l in
+    ceil-div-least (c .n) h (omega arith)
+
+pub next-window-le : (c : Settings) → Limits c → nextWindow c ≤ c .window
+unfolding nextWindow
+next-window-le c s =
+    let f = mul-le-mul-right (c .m) (window-factor-le c) in
+    share-le (windowFactor c) c (s .someCabinet) (omega arith)
+
+pub growth-le : (c : Settings) → Limits c → growth c ≤ c .window
+unfolding growth
+growth-le c s =
+    let one = ap (λ (a : ℕ). ceilDiv a (c .n)) (one-mul (c .m * c .window)) in
+    let l = share-le 1 c (s .someCabinet) (omega arith) in
+    omega arith
+
+-- settings pass with any window that does
+pub passes-window : (c : Settings) (w : ℕ) → Limits c → w ≤ 1000000 → Limits (withWindow c w)
+passes-window c w s l =
+    record {
+      someCabinet = s .someCabinet;
+      cabinets = s .cabinets;
+      faults = s .faults;
+      rule = s .rule;
+      estimator = s .estimator;
+      window = l;
+    }
+
+pub passes-advance : (p : Plan) → Limits (p .settings) → Limits (advance p .settings)
+unfolding advance
+passes-advance p s = passes-window (p .settings) _ s (le-trans (next-window-le (p .settings) s) (s .window))
+
+pub passes-after : (k : ℕ) (p : Plan) → Limits (p .settings) → Limits (after k p .settings)
+unfolding after
+passes-after zero p s = s
+passes-after (suc k) p s = passes-advance (after k p) (passes-after k p s)
+
+-- ---- windows never grow
+
+window-advance-le : (p : Plan) → Limits (p .settings) → advance p .settings .window ≤ p .settings .window
+unfolding advance
+window-advance-le p s = next-window-le (p .settings) s
+
+pub window-after-le : (k : ℕ) (p : Plan) → Limits (p .settings) → after k p .settings .window ≤ p .settings .window
+unfolding after
+window-after-le zero p s = le-refl _
+window-after-le (suc k) p s = le-trans (window-advance-le (after k p) (passes-after k p s)) (window-after-le k p s)
+
+pub window-after-mono : (j k : ℕ) (p : Plan) → Limits (p .settings) → j ≤ k
+    → after k p .settings .window ≤ after j p .settings .window
+window-after-mono j k p s l =
+    let e : k - j + j ≡ k = omega arith in
+    let split = ap (λ (i : ℕ). after i p .settings .window) (sym e) ∙ ap (λ (q : Plan). q .settings .window) (after-add (k - j) j p) in
+    let d = window-after-le (k - j) (after j p) (passes-after j p s) in
+    omega arith
+
+-- ---- the accuracy grows each round by at most the widest window
+
+accuracy-advance-le : (p : Plan) → Limits (p .settings) → advance p .accuracy ≤ p .accuracy + 1000000
+unfolding advance
+accuracy-advance-le p s =
+    let g = growth-le (p .settings) s in
+    omega arith
+
+pub accuracy-after-le : (k : ℕ) (p : Plan) → Limits (p .settings) → after k p .accuracy ≤ p .accuracy + k * 1000000
+unfolding after
+accuracy-after-le zero p s = omega arith
+accuracy-after-le (suc k) p s =
+    let ih = accuracy-after-le k p s in
+    let a = accuracy-advance-le (after k p) (passes-after k p s) in
+    omega arith

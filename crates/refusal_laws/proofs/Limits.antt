@@ -1,0 +1,62 @@
+-- What settings that pass checks 2 to 5 are: the limits of N, m, rule, estimator and window, and of the number of entries.
+-- Assumes nothing.
+use mathlib.Core.Bool.{Bool, true, false, cond, _||_}
+use mathlib.Core.Option.{none}
+use mathlib.Core.Path.{_≡_}
+use Prim.Native.Nat.{_+_, _*_, _≤_}
+use native.Mathlib.Nat.{mul-le-mul}
+use native.Mathlib.Omega.{arith}
+use borrow.Author.Tests.{ltb-false, le-ltb, ne-eqb}
+use lib.Dec.{ltb, eqb}
+use Rattle.arithmetic.proofs.Bools.{or-left, or-right}
+use Rattle.model.specs.declared.Settings.{Settings}
+use Rattle.model.specs.RoundSheet.{entryCount}
+use Rattle.model.specs.Refusals.{firstOf, settingsChecks, badCabinets, badFaults, badMethod, badWindow}
+use Rattle.refusal_laws.proofs.Checks.{none-at, when-none}
+
+-- settings within document 01's limits
+pub record Limits (c : Settings) : Type 0 where
+  pub someCabinet : 1 ≤ c .n
+  pub cabinets : c .n ≤ 64
+  pub faults : 3 * c .m + 1 ≤ c .n
+  pub rule : c .rule ≤ 1
+  pub estimator : c .estimator ≤ 2
+  pub window : c .window ≤ 1_000_000
+
+module _ (c : Settings) where
+  pub limits : firstOf (settingsChecks c) ≡ none → Limits c
+  unfolding settingsChecks badCabinets badFaults badMethod badWindow
+  limits h =
+      let cabinets = when-none (eqb (c .n) 0 || ltb 64 (c .n)) 2 (none-at (settingsChecks c) h 0) in
+      let faults = when-none (ltb (c .n) (3 * c .m + 1)) 3 (none-at (settingsChecks c) h 1) in
+      let method = when-none (ltb 1 (c .rule) || ltb 2 (c .estimator)) 4 (none-at (settingsChecks c) h 2) in
+      let window = when-none (ltb 1_000_000 (c .window)) 5 (none-at (settingsChecks c) h 3) in
+      let three : 3 * c .m + 1 ≤ c .n = ltb-false (c .n) (3 * c .m + 1) faults in
+      record {
+        someCabinet = omega arith;
+        cabinets = ltb-false 64 (c .n) (or-right (eqb (c .n) 0) (ltb 64 (c .n)) cabinets);
+        faults = three;
+        rule = ltb-false 1 (c .rule) (or-left (ltb 1 (c .rule)) (ltb 2 (c .estimator)) method);
+        estimator = ltb-false 2 (c .estimator) (or-right (ltb 1 (c .rule)) (ltb 2 (c .estimator)) method);
+        window = ltb-false 1_000_000 (c .window) window;
+      }
+
+  pub limits-pass : Limits c → firstOf (settingsChecks c) ≡ none
+  unfolding firstOf settingsChecks badCabinets badFaults badMethod badWindow
+  limits-pass l =
+      let some-cabinet : eqb (c .n) 0 ≡ false = ne-eqb (c .n) 0 (λ e. let s = l .someCabinet in omega arith) in
+      let cabinets : ltb 64 (c .n) ≡ false = le-ltb 64 (c .n) (l .cabinets) in
+      let faults : ltb (c .n) (3 * c .m + 1) ≡ false = le-ltb (c .n) (3 * c .m + 1) (l .faults) in
+      let rule : ltb 1 (c .rule) ≡ false = le-ltb 1 (c .rule) (l .rule) in
+      let estimator : ltb 2 (c .estimator) ≡ false = le-ltb 2 (c .estimator) (l .estimator) in
+      let window : ltb 1_000_000 (c .window) ≡ false = le-ltb 1_000_000 (c .window) (l .window) in
+      rw (some-cabinet, cabinets, faults, rule, estimator, window)
+
+  -- at most 64 × 64 entries
+  pub entries-most : c .n ≤ 64 → entryCount c ≤ 4096
+  unfolding entryCount
+  entries-most h = go (eqb (c .rule) 1)
+    where
+      go : (b : Bool) → cond b (c .n * c .n) (c .n) ≤ 4096
+      go true = mul-le-mul h h
+      go false = omega arith

@@ -1,0 +1,42 @@
+-- `sheet_checks::sizes` meets its contract: each field is the byte or the number that was read.
+-- Assumes nothing.
+use borrow.Author.Needs.{needs}
+use Rattle.sheet_checks.proofs.sizes.Statement.{statement}
+use Rattle.sheet_checks.proofs.sizes.Tie as tie
+
+byte-at-requires : tie.Need-byte-at-requires
+byte-at-requires c κs = search needs
+
+byte-at-requires-2 : tie.Need-byte-at-requires-2
+byte-at-requires-2 c κs = search needs
+
+byte-at-requires-3 : tie.Need-byte-at-requires-3
+byte-at-requires-3 c κs = search needs
+
+byte-at-requires-4 : tie.Need-byte-at-requires-4
+byte-at-requires-4 c κs = search needs
+
+word-at-requires : tie.Need-word-at-requires
+word-at-requires c κs = search needs
+
+returns : tie.Need-returns
+returns c =
+    λ i.
+    record {
+      n = c .before .before .before .before .byte-at .ensures i;
+      m = c .before .before .before .byte-at2 .ensures i;
+      rule = c .before .before .byte-at3 .ensures i;
+      estimator = c .before .byte-at4 .ensures i;
+      window = c .word-at .ensures i;
+    }
+
+pub sizes-spec : {M : Type 1} → statement M
+sizes-spec =
+    tie.close
+    (tie.spec
+    byte-at-requires
+    byte-at-requires-2
+    byte-at-requires-3
+    byte-at-requires-4
+    word-at-requires
+    returns)

@@ -1,0 +1,94 @@
+// Document 01, "The round sheet": the row accessor and the reader.
+ghost use mathlib.Core.Path.{_≡_};
+ghost use Prim.Native.Nat.{_+_, _*_, _≤_};
+ghost use lib.ListN.{length};
+ghost use mir.Syntax.{w32};
+ghost use mir.Val.{toZ};
+ghost use Rattle.arithmetic.specs.Writing.{table, overwrite};
+ghost use Rattle.model.specs.RoundSheet.{settingsAt, bitsAt};
+ghost use Rattle.model.specs.Refusals.{firstOf, readChecks};
+ghost use Rattle.model.specs.Calls.{verdict, row, read};
+ghost use Rattle.sheet_checks.specs.Answers.{openedOf};
+ghost use Rattle.sheet_reader.specs.Answers.{readOf};
+use settings_checks::Screened;
+use tick::Tick;
+use sheet_checks::Opened;
+use model::Refusal;
+
+// The part of the sheet that holds cabinet r's readings. It is empty for a sheet that checks 1 to 6, 8 or 9 refuse,
+// and from cabinet N on.
+pub fn row(sheet: &[u8], r: usize) -> &[u8]
+    ensures { λ part. ⌜ now part ≡ row (now (sheet .entry)) r ⌝ }
+{
+    let Opened::Granted(settings) = sheet_checks::validate(sheet) else {
+        return &sheet[..0];
+    };
+    rows::row_part(sheet, settings, r)
+}
+
+// Fills the first entries of readings with the sheet's.
+fn decode(sheet: &[u8], entries: usize, readings: &mut [i32])
+    requires { ⌜ (8 + entries + 4 * entries ≤ length (now sheet)) × (entries ≤ length (now readings)) ⌝ }
+    ensures { λ _.
+        ⌜ now (readings .exit)
+        ≡ overwrite (table (λ e. toZ w32 (bitsAt (now (sheet .entry)) entries e)) entries)
+        (now (readings .entry)) ⌝ }
+{
+    let mut e: usize = 0;
+    'entries: while e < entries {
+        let i = 8 + entries + 4 * e;
+        let tick = Tick::from_bits(words::join(sheet[i], sheet[i + 1], sheet[i + 2], sheet[i + 3]));
+        let ticks = tick.0;
+        readings[e] = ticks;
+        e += 1;
+    }
+}
+
+// Checks 1 to 9 of the reader, lent arrays of these lengths.
+fn open(sheet: &[u8], marks: usize, readings: usize) -> Opened
+    ensures { λ r.
+        ⌜ openedOf r
+        ≡ verdict (firstOf (readChecks (now (sheet .entry)) marks readings)) (settingsAt (now (sheet .entry))) ⌝ }
+{
+    match sheet_checks::inspect(sheet) {
+        Opened::Refused(r) => Opened::Refused(r),
+        Opened::Granted(settings) => {
+            let entries = sheet_checks::entry_count(settings);
+            if marks < entries {
+                return Opened::Refused(Refusal {
+                    number: 7,
+                    place: 0,
+                });
+            }
+            if readings < entries {
+                return Opened::Refused(Refusal {
+                    number: 7,
+                    place: 0,
+                });
+            }
+            match sheet_checks::check_entries(sheet, settings) {
+                Screened::Refused(r) => Opened::Refused(r),
+                Screened::Passed => Opened::Granted(settings),
+            }
+        }
+    }
+}
+
+// The reader: the settings, with the first entries of marks and readings filled from the sheet, or the first refusal
+// of checks 1 to 9, which fills nothing.
+pub fn read(sheet: &[u8], marks: &mut [u8], readings: &mut [i32]) -> Opened
+    ensures { λ r.
+        ⌜ readOf r (now (marks .exit)) (now (readings .exit))
+        ≡ read (now (sheet .entry)) (now (marks .entry)) (now (readings .entry)) ⌝ }
+{
+    match open(sheet, marks.len(), readings.len()) {
+        Opened::Refused(r) => Opened::Refused(r),
+        Opened::Granted(settings) => {
+            let entries = sheet_checks::entry_count(settings);
+            let body = 8 + entries;
+            bytes::copy(&sheet[8..body], marks);
+            decode(sheet, entries, readings);
+            Opened::Granted(settings)
+        }
+    }
+}

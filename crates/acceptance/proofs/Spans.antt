@@ -16,6 +16,8 @@ use lib.Seq.{getD-set-same, getD-set-other}
 use Rattle.arithmetic.specs.Counting.{bit, count}
 use Rattle.arithmetic.proofs.Bools.{iff-eq, and-left, and-right, and-intro, and-false, clash}
 use Rattle.arithmetic.proofs.Counting.{split-last, bit-le-one, count-le, any-true, any-false}
+use Rattle.arithmetic.specs.Words.{twoTo31, twoTo32}
+use Rattle.model.specs.Ensemble.{maxCabinets}
 use Rattle.round_laws.specs.Naturals.{within-nat, spans, accepted-nat}
 use Rattle.round_laws.proofs.Shifted.{accepted-shifted}
 use Rattle.round_laws.proofs.Natural.{accepted-present}
@@ -27,7 +29,7 @@ pub held-small : (a b far h : ℕ) → h ≡ bit (leb a b && leb b (a + far)) �
 held-small a b far h e = let l = bit-le-one (leb a b && leb b (a + far)) in omega arith
 
 -- a difference that wraps lies within w just where b is no less than a and no more than a + w
-pub wrapped : (a b d w : ℕ) → a < 4294967296 → w < 4294967296 → d < 2 ^ 64 → (d + a) % 2 ^ 64 ≡ b → leb d w ≡ (leb a b && leb b (a + w))
+pub wrapped : (a b d w : ℕ) → a < twoTo32 → w < twoTo32 → d < 2 ^ 64 → (d + a) % 2 ^ 64 ≡ b → leb d w ≡ (leb a b && leb b (a + w))
 wrapped a b d w ha hw hd e =
     iff-eq (leb d w) (leb a b && leb b (a + w))
     (λ t. let l : d ≤ w = leb-true d w t in and-intro (le-leb a b (omega arith)) (le-leb b (a + w) (omega arith)))
@@ -52,28 +54,28 @@ wrapped-from a b d w hb hd e = go (leb a b) refl
     go false h = refl
 
 -- a start at or below a present reading is present
-pub tries-within : (w a b : ℕ) → (ltb b 4294967296 && (leb a b && leb b (a + w))) ≡ within-nat w (ltb a 4294967296) a (ltb b 4294967296) b
+pub tries-within : (w a b : ℕ) → (ltb b twoTo32 && (leb a b && leb b (a + w))) ≡ within-nat w (ltb a twoTo32) a (ltb b twoTo32) b
 tries-within w a b =
-    iff-eq (ltb b 4294967296 && (leb a b && leb b (a + w))) (within-nat w (ltb a 4294967296) a (ltb b 4294967296) b)
+    iff-eq (ltb b twoTo32 && (leb a b && leb b (a + w))) (within-nat w (ltb a twoTo32) a (ltb b twoTo32) b)
     (λ t.
-    let l = ltb-true b 4294967296 (and-left (ltb b 4294967296) _ t) in
-    let m = leb-true a b (and-left (leb a b) _ (and-right (ltb b 4294967296) _ t)) in
-    and-intro (lt-ltb a 4294967296 (omega arith)) t)
-    (λ t. and-right (ltb a 4294967296) _ t)
+    let l = ltb-true b twoTo32 (and-left (ltb b twoTo32) _ t) in
+    let m = leb-true a b (and-left (leb a b) _ (and-right (ltb b twoTo32) _ t)) in
+    and-intro (lt-ltb a twoTo32 (omega arith)) t)
+    (λ t. and-right (ltb a twoTo32) _ t)
 
 -- a span cut at the last reading holds the present readings of the whole span
-pub cut-within : (w a b : ℕ) → a < 4294967296 → (leb a b && leb b (a + min w (4294967295 - a))) ≡ within-nat w (ltb a 4294967296) a (ltb b 4294967296) b
+pub cut-within : (w a b : ℕ) → a < twoTo32 → (leb a b && leb b (a + min w (4294967295 - a))) ≡ within-nat w (ltb a twoTo32) a (ltb b twoTo32) b
 cut-within w a b h =
-    iff-eq (leb a b && leb b (a + min w (4294967295 - a))) (within-nat w (ltb a 4294967296) a (ltb b 4294967296) b)
+    iff-eq (leb a b && leb b (a + min w (4294967295 - a))) (within-nat w (ltb a twoTo32) a (ltb b twoTo32) b)
     (λ t.
     let l = leb-true a b (and-left (leb a b) _ t) in
     let m = leb-true b (a + min w (4294967295 - a)) (and-right (leb a b) _ t) in
-    and-intro (lt-ltb a 4294967296 h)
-    (and-intro (lt-ltb b 4294967296 (omega arith)) (and-intro (le-leb a b l) (le-leb b (a + w) (omega arith)))))
+    and-intro (lt-ltb a twoTo32 h)
+    (and-intro (lt-ltb b twoTo32 (omega arith)) (and-intro (le-leb a b l) (le-leb b (a + w) (omega arith)))))
     (λ t.
-    let u = and-right (ltb a 4294967296) _ t in
-    let v = and-right (ltb b 4294967296) _ u in
-    let l = ltb-true b 4294967296 (and-left (ltb b 4294967296) _ u) in
+    let u = and-right (ltb a twoTo32) _ t in
+    let v = and-right (ltb b twoTo32) _ u in
+    let l = ltb-true b twoTo32 (and-left (ltb b twoTo32) _ u) in
     let m = leb-true a b (and-left (leb a b) _ v) in
     let k = leb-true b (a + w) (and-right (leb a b) _ v) in
     and-intro (le-leb a b m) (le-leb b (a + min w (4294967295 - a)) (omega arith)))
@@ -97,12 +99,12 @@ module _ (w : ℕ) (values : List ℕ) where
   tried-holds mark s r e t = and-right (not (eqb mark 1)) (spansAt w values s r) (sym e ∙ t)
 
   -- a start whose span holds a reading is present
-  pub start-present : (s r : ℕ) → spansAt w values s r ≡ true → getD values s 0 < 4294967296
+  pub start-present : (s r : ℕ) → spansAt w values s r ≡ true → getD values s 0 < twoTo32
   unfolding spansAt
-  start-present s r e = ltb-true (getD values s 0) 4294967296 (and-left (ltb (getD values s 0) 4294967296) _ e)
+  start-present s r e = ltb-true (getD values s 0) twoTo32 (and-left (ltb (getD values s 0) twoTo32) _ e)
 
   -- what the code counts for t is t's place in the span
-  pub held-spans : (s t far h : ℕ) → getD values s 0 < 4294967296 → far ≡ min w (4294967295 - getD values s 0) → h ≡ bit (leb (getD values s 0) (getD values t 0) && leb (getD values t 0) (getD values s 0 + far)) → h ≡ bit (spansAt w values s t)
+  pub held-spans : (s t far h : ℕ) → getD values s 0 < twoTo32 → far ≡ min w (4294967295 - getD values s 0) → h ≡ bit (leb (getD values s 0) (getD values t 0) && leb (getD values t 0) (getD values s 0 + far)) → h ≡ bit (spansAt w values s t)
   unfolding spansAt
   held-spans s t far h p e q = q ∙ rw e (ap bit (cut-within w (getD values s 0) (getD values t 0) p))
 
@@ -114,7 +116,7 @@ module _ (w need : ℕ) (values : List ℕ) where
   -- document 01's test is that of the naturals
   accepted-held : (r : ℕ) → acceptedIn w need values r ≡ accepted-nat w (presentIn values) (valueAt values) need (length values) r
   unfolding acceptedIn
-  accepted-held r = accepted-shifted w (presentIn values) (valueAt values) 2147483648 need (length values) r
+  accepted-held r = accepted-shifted w (presentIn values) (valueAt values) twoTo31 need (length values) r
 
   -- an accepted reading is present
   pub held-present : (r : ℕ) → acceptedIn w need values r ≡ true → presentIn values r ≡ true
@@ -139,7 +141,7 @@ module _ (w need : ℕ) (values : List ℕ) where
   -- where the starts below s are tried, and the memory is sound
   pub record Tried (r : ℕ) (known : List ℕ) (found : Bool) (s : ℕ) : Type 0 where
     pub upTo : s ≤ length values
-    pub few : length values ≤ 64
+    pub few : length values ≤ maxCabinets
     pub long : length known ≡ 64
     pub yet : found ≡ false
     pub none : (a : ℕ) → a < s → admits r a ≡ false
@@ -153,7 +155,7 @@ module _ (w need : ℕ) (values : List ℕ) where
     pub short : 0 < t → counted < need
 
   -- the loop over starts begins
-  pub untried : (r : ℕ) (known : List ℕ) → length values ≤ 64 → length known ≡ 64 → Remembered w need values known → Tried r known false 0
+  pub untried : (r : ℕ) (known : List ℕ) → length values ≤ maxCabinets → length known ≡ 64 → Remembered w need values known → Tried r known false 0
   untried r known f l m =
       record { upTo = zero-le; few = f; long = l; yet = refl; none = λ a h. absurd (not-suc-le-zero h); memory = m }
 
@@ -200,7 +202,7 @@ module _ (w need : ℕ) (values : List ℕ) where
     count-begin = record { tried = tried; upTo = zero-le; exact = refl; short = λ h. absurd (not-suc-le-zero h) }
 
     module _ (c t : ℕ) (so-far : Counted r known found s c t) where
-      pub count-small : c ≤ 64
+      pub count-small : c ≤ maxCabinets
       count-small =
           let l = count-le (spansAt w values s) t in
           let e = so-far .exact in

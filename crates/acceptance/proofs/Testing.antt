@@ -15,6 +15,7 @@ use Rattle.arithmetic.specs.Writing.{table, overwrite}
 use Rattle.arithmetic.proofs.Bools.{or-left, or-right}
 use Rattle.arithmetic.proofs.Counting.{count-le}
 use Rattle.arithmetic.proofs.Writing.{length-table, length-overwrite}
+use Rattle.model.specs.Ensemble.{maxCabinets}
 use Rattle.acceptance.specs.Values.{acceptedIn, acceptedCount, countGiven, flagsOf, Remembered}
 use Rattle.loop_laws.proofs.Loops.{flag, count-next, store-none, store-next, store-ended}
 
@@ -22,14 +23,14 @@ module _ (w need : ℕ) (values : List ℕ) (flags₀ : List Bool) where
   -- where the readings below r are tested
   pub record Testing (known : List ℕ) (flags : List Bool) (counted r : ℕ) : Type 0 where
     pub upTo : r ≤ length values
-    pub few : length values ≤ 64
+    pub few : length values ≤ maxCabinets
     pub long : length known ≡ 64
     pub room : length values ≤ length flags₀
     pub memory : Remembered w need values known
     pub exact : counted ≡ count (acceptedIn w need values) r
     pub written : flags ≡ overwrite (table (acceptedIn w need values) r) flags₀
 
-  pub test-none : (known : List ℕ) → length values ≤ 64 → length known ≡ 64 → length values ≤ length flags₀ → Remembered w need values known → Testing known flags₀ 0 0
+  pub test-none : (known : List ℕ) → length values ≤ maxCabinets → length known ≡ 64 → length values ≤ length flags₀ → Remembered w need values known → Testing known flags₀ 0 0
   unfolding count
   test-none known f l s m =
       record {
@@ -50,7 +51,7 @@ module _ (w need : ℕ) (values : List ℕ) (flags₀ : List Bool) where
         let u = so-far .upTo in
         ap length (so-far .written) ∙ length-overwrite (table (acceptedIn w need values) r) flags₀ (omega arith)
 
-    pub test-small : c ≤ 64
+    pub test-small : c ≤ maxCabinets
     test-small =
         let l = count-le (acceptedIn w need values) r in
         let e = so-far .exact in
@@ -78,12 +79,12 @@ module _ (w need : ℕ) (values : List ℕ) (flags₀ : List Bool) where
     all-tested h = store-ended (acceptedIn w need values) (length values) r flags₀ flags (so-far .upTo) h (so-far .written)
 
 -- nothing is remembered of any start
-pub remember-none : (w need : ℕ) (s : List ℕ) → length s ≤ 64 → Remembered w need s (replicate 64 0)
+pub remember-none : (w need : ℕ) (s : List ℕ) → length s ≤ maxCabinets → Remembered w need s (replicate 64 0)
 remember-none w need s few a l = inl (getD-replicate 64 a 0 0 (omega arith))
 
 -- ---- the answers
 
-module _ (w need : ℕ) (s : List ℕ) (old : List Bool) {b : Bool} (test : b ≡ (ltb 64 (length s) || ltb (length old) (length s))) where
+module _ (w need : ℕ) (s : List ℕ) (old : List Bool) {b : Bool} (test : b ≡ (ltb maxCabinets (length s) || ltb (length old) (length s))) where
   pub count-unfit : b ≡ true → 0 ≡ countGiven w need s old
   unfolding countGiven
   count-unfit t = rw (sym test ∙ t)
@@ -93,11 +94,11 @@ module _ (w need : ℕ) (s : List ℕ) (old : List Bool) {b : Bool} (test : b �
   flags-unfit t = rw (sym test ∙ t)
 
   module _ (f : b ≡ false) where
-    pub fit-few : length s ≤ 64
-    fit-few = ltb-false 64 (length s) (or-left (ltb 64 (length s)) (ltb (length old) (length s)) (sym test ∙ f))
+    pub fit-few : length s ≤ maxCabinets
+    fit-few = ltb-false 64 (length s) (or-left (ltb maxCabinets (length s)) (ltb (length old) (length s)) (sym test ∙ f))
 
     pub fit-room : length s ≤ length old
-    fit-room = ltb-false (length old) (length s) (or-right (ltb 64 (length s)) (ltb (length old) (length s)) (sym test ∙ f))
+    fit-room = ltb-false (length old) (length s) (or-right (ltb maxCabinets (length s)) (ltb (length old) (length s)) (sym test ∙ f))
 
     pub count-fit : (n : ℕ) → n ≡ acceptedCount w need s → n ≡ countGiven w need s old
     unfolding countGiven

@@ -16,6 +16,7 @@ use lib.ListN.{length, getD}
 use Rattle.arithmetic.specs.Counting.{bit, count}
 use Rattle.arithmetic.specs.Writing.{table, overwrite}
 use Rattle.model.specs.Steps.{accepted}
+use Rattle.model.specs.Ensemble.{maxCabinets}
 use Rattle.round_laws.specs.Held.{readingsIn}
 use Rattle.round_laws.specs.Naturals.{spans}
 use Rattle.estimates.specs.Values.{valueAt, presentIn}
@@ -27,7 +28,7 @@ unfoldable pub acceptedCount : ℕ → ℕ → List ℕ → ℕ
 acceptedCount w need s = count (acceptedIn w need s) (length s)
 
 abbrev pub flagsMisfit : List ℕ → List Bool → Bool
-flagsMisfit s old = ltb 64 (length s) || ltb (length old) (length s)
+flagsMisfit s old = ltb maxCabinets (length s) || ltb (length old) (length s)
 
 unfoldable pub countGiven : ℕ → ℕ → List ℕ → List Bool → ℕ
 countGiven w need s old = cond (flagsMisfit s old) 0 (acceptedCount w need s)

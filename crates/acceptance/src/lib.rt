@@ -6,6 +6,8 @@ ghost use lib.Dec.{leb, ltb, eqb};
 ghost use lib.ListN.{length};
 ghost use Rattle.arithmetic.specs.Counting.{bit};
 ghost use Rattle.arithmetic.specs.Writing.{table, overwrite};
+ghost use Rattle.arithmetic.specs.Words.{twoTo32};
+ghost use Rattle.model.specs.Ensemble.{maxCabinets};
 ghost use Rattle.round_laws.specs.Naturals.{within-nat};
 ghost use Rattle.acceptance.specs.Values.{acceptedIn, Remembered, acceptedCount, countGiven, flagsOf};
 use estimates::LIMIT;
@@ -19,7 +21,7 @@ const ENOUGH: u8 = 2;
 
 // Whether a span is to be tried for a present reading: it holds the reading, and was not found short.
 fn tries(mark: u8, start: u64, value: u64, window: u32) -> bool
-    ensures { λ r. ⌜ r ≡ (not (eqb mark 1) && within-nat window (ltb start 4294967296) start (ltb value 4294967296) value) ⌝ }
+    ensures { λ r. ⌜ r ≡ (not (eqb mark 1) && within-nat window (ltb start twoTo32) start (ltb value twoTo32) value) ⌝ }
 {
     (mark != SHORT)
         & ((value < LIMIT)
@@ -28,7 +30,7 @@ fn tries(mark: u8, start: u64, value: u64, window: u32) -> bool
 
 // How far the span from a present start reaches, up to the last reading.
 fn reach(start: u64, window: u32) -> u64
-    requires { ⌜ start < 4294967296 ⌝ }
+    requires { ⌜ start < twoTo32 ⌝ }
     ensures { λ r. ⌜ r ≡ min window (4294967295 - start) ⌝ }
 {
     let rest = LIMIT - 1 - start;
@@ -41,7 +43,7 @@ fn reach(start: u64, window: u32) -> u64
 
 // 1 where a reading is within reach of a start, else 0.
 fn held(start: u64, reach: u64, value: u64) -> u32
-    requires { ⌜ (start < 4294967296) × (reach < 4294967296) ⌝ }
+    requires { ⌜ (start < twoTo32) × (reach < twoTo32) ⌝ }
     ensures { λ r. ⌜ r ≡ bit (leb start value && leb value (start + reach)) ⌝ }
 {
     (std::num::wrapping_sub_u64(value, start) <= reach) as u32
@@ -51,7 +53,7 @@ fn held(start: u64, reach: u64, value: u64) -> u32
 // readings are left by a label at the first span that does. `known` remembers what was found of each start, so that
 // none is counted twice.
 fn accepts(values: &[u64], window: u32, need: u32, known: &mut [u8], r: usize) -> bool
-    requires { ⌜ (r < length (now values)) × (length (now values) ≤ 64) × (length (now known) ≡ 64) ⌝ }
+    requires { ⌜ (r < length (now values)) × (length (now values) ≤ maxCabinets) × (length (now known) ≡ 64) ⌝ }
     requires { ⌜ Remembered window need (now values) (now known) ⌝ }
     ensures { λ a. ⌜ a ≡ acceptedIn window need (now (values .entry)) r ⌝ }
     ensures { λ a. ⌜ Remembered window need (now (values .entry)) (now (known .exit)) ⌝ }
@@ -94,7 +96,7 @@ fn accept_each(
     known: &mut [u8],
     accepted: &mut [bool],
 ) -> u32
-    requires { ⌜ (length (now values) ≤ 64) × (length (now known) ≡ 64) × (length (now values) ≤ length (now accepted)) ⌝ }
+    requires { ⌜ (length (now values) ≤ maxCabinets) × (length (now known) ≡ 64) × (length (now values) ≤ length (now accepted)) ⌝ }
     requires { ⌜ Remembered window need (now values) (now known) ⌝ }
     ensures { λ n. ⌜ n ≡ acceptedCount window need (now (values .entry)) ⌝ }
     ensures { λ _. ⌜ now (accepted .exit) ≡ overwrite (table (acceptedIn window need (now (values .entry))) (length (now (values .entry)))) (now (accepted .entry)) ⌝ }
@@ -111,7 +113,7 @@ fn accept_each(
 }
 
 fn misfit(n: usize, room: usize) -> bool
-    ensures { λ r. ⌜ r ≡ (ltb 64 n || ltb room n) ⌝ }
+    ensures { λ r. ⌜ r ≡ (ltb maxCabinets n || ltb room n) ⌝ }
 {
     (64 < n) | (room < n)
 }

@@ -14,7 +14,9 @@ use Rattle.arithmetic.specs.Writing.{table, overwrite}
 use Rattle.arithmetic.proofs.Counting.{count-ext}
 use Rattle.arithmetic.proofs.Sums.{sum-ext}
 use Rattle.arithmetic.proofs.Writing.{length-table, getD-table}
+use Rattle.arithmetic.specs.Words.{twoTo31, twoTo32}
 use Rattle.model.specs.Steps.{estimate, mean, usedValue}
+use Rattle.model.specs.Ensemble.{maxCabinets}
 use Rattle.round_laws.specs.Held.{readingOf, readingsIn}
 use Rattle.round_laws.proofs.Local.{estimate-local, used-local}
 use Rattle.estimates.specs.Values.{presentIn, estimateOfHeld, meanIn, evaluatedOf, nothing}
@@ -29,7 +31,7 @@ or-same true = refl
 or-same false = refl
 
 -- what is struck out is not present
-struck-out : (p : Bool) → ltb (cond p 4294967297 4294967296) 4294967296 ≡ false
+struck-out : (p : Bool) → ltb (cond p 4294967297 twoTo32) twoTo32 ≡ false
 struck-out true = refl
 struck-out false = refl
 
@@ -45,11 +47,11 @@ module _ (w need : ℕ) (s : List ℕ) where
 
   -- a kept reading is present just where it was accepted, and is the reading itself
   pub kept-present : (r : ℕ) → r < length s → presentIn kept r ≡ acceptedIn w need s r
-  kept-present r l = ap (λ (v : ℕ). ltb v 4294967296) (kept-at r l) ∙ go (acceptedIn w need s r) (held-present w need s r)
+  kept-present r l = ap (λ (v : ℕ). ltb v twoTo32) (kept-at r l) ∙ go (acceptedIn w need s r) (held-present w need s r)
     where
-      go : (b : Bool) → (b ≡ true → presentIn s r ≡ true) → ltb (keptValue b (getD s r 0)) 4294967296 ≡ b
+      go : (b : Bool) → (b ≡ true → presentIn s r ≡ true) → ltb (keptValue b (getD s r 0)) twoTo32 ≡ b
       go true f = f refl
-      go false f = struck-out (ltb (getD s r 0) 4294967296)
+      go false f = struck-out (ltb (getD s r 0) twoTo32)
 
   kept-reading : (r : ℕ) → r < length s → presentIn kept r ≡ true → readingsIn kept r ≡ readingsIn s r
   kept-reading r l e = ap readingOf (kept-at r l ∙ ap (λ (b : Bool). keptValue b (getD s r 0)) (sym (kept-present r l) ∙ e))
@@ -68,10 +70,10 @@ module _ (w need : ℕ) (s : List ℕ) where
       (used-local (length s) (readingsIn kept) (readingsIn s) (presentIn kept) (acceptedIn w need s) kept-present kept-reading p))
 
   answer : ℕ → ℤ → ℤ → Estimated
-  answer n e v = cond (eqb n 0) nothing (record { count = n; estimate = up 2147483648 e; value = up 2147483648 v })
+  answer n e v = cond (eqb n 0) nothing (record { count = n; estimate = up twoTo31 e; value = up twoTo31 v })
 
   -- the evaluation of what is kept is that of the accepted readings
-  evaluated-kept : (kind : ℕ) → ltb 64 (length s) ≡ false → evaluatedOf kind kept ≡ agreedOf w need kind s
+  evaluated-kept : (kind : ℕ) → ltb maxCabinets (length s) ≡ false → evaluatedOf kind kept ≡ agreedOf w need kind s
   unfolding evaluatedOf estimateOfHeld meanIn agreedOf answer
   evaluated-kept kind few =
       rw (length-kept, few)
@@ -81,18 +83,18 @@ module _ (w need : ℕ) (s : List ℕ) where
   -- ---- what `agree` answers, by what `accept` told it with 64 flags
 
   module _ (flags₀ : List Bool) (wide : length flags₀ ≡ 64) where
-    misfit-many : flagsMisfit s flags₀ ≡ ltb 64 (length s)
-    misfit-many = ap (λ (k : ℕ). ltb 64 (length s) || ltb k (length s)) wide ∙ or-same (ltb 64 (length s))
+    misfit-many : flagsMisfit s flags₀ ≡ ltb maxCabinets (length s)
+    misfit-many = ap (λ (k : ℕ). ltb maxCabinets (length s) || ltb k (length s)) wide ∙ or-same (ltb maxCabinets (length s))
 
-    count-many : ltb 64 (length s) ≡ true → countGiven w need s flags₀ ≡ 0
+    count-many : ltb maxCabinets (length s) ≡ true → countGiven w need s flags₀ ≡ 0
     unfolding countGiven
     count-many t = rw (misfit-many ∙ t)
 
-    count-few : ltb 64 (length s) ≡ false → countGiven w need s flags₀ ≡ acceptedCount w need s
+    count-few : ltb maxCabinets (length s) ≡ false → countGiven w need s flags₀ ≡ acceptedCount w need s
     unfolding countGiven
     count-few t = rw (misfit-many ∙ t)
 
-    flags-few : ltb 64 (length s) ≡ false → flagsOf w need s flags₀ ≡ overwrite (table (acceptedIn w need s) (length s)) flags₀
+    flags-few : ltb maxCabinets (length s) ≡ false → flagsOf w need s flags₀ ≡ overwrite (table (acceptedIn w need s) (length s)) flags₀
     unfolding flagsOf
     flags-few t = rw (misfit-many ∙ t)
 
@@ -101,30 +103,30 @@ module _ (w need : ℕ) (s : List ℕ) where
       module _ (none : n ≡ 0) where
         pub agreed-none : (kind : ℕ) → nothing ≡ agreedOf w need kind s
         unfolding agreedOf
-        agreed-none kind = go (ltb 64 (length s)) refl
+        agreed-none kind = go (ltb maxCabinets (length s)) refl
           where
-            go : (b : Bool) → ltb 64 (length s) ≡ b → nothing ≡ agreedOf w need kind s
+            go : (b : Bool) → ltb maxCabinets (length s) ≡ b → nothing ≡ agreedOf w need kind s
             go true t = rw t
             go false t = rw (t, eq-eqb (acceptedCount w need s) 0 (sym (count-few t) ∙ sym counted ∙ none))
 
         pub kept-none : s ≡ keptOf w need s
         unfolding keptOf
-        kept-none = go (ltb 64 (length s)) refl
+        kept-none = go (ltb maxCabinets (length s)) refl
           where
-            go : (b : Bool) → ltb 64 (length s) ≡ b → s ≡ keptOf w need s
+            go : (b : Bool) → ltb maxCabinets (length s) ≡ b → s ≡ keptOf w need s
             go true t = rw t
             go false t = rw (t, eq-eqb (acceptedCount w need s) 0 (sym (count-few t) ∙ sym counted ∙ none))
 
       -- something is accepted
       module _ (some : n ≡ 0 → ⊥) where
-        few : ltb 64 (length s) ≡ false
-        few = go (ltb 64 (length s)) refl
+        few : ltb maxCabinets (length s) ≡ false
+        few = go (ltb maxCabinets (length s)) refl
           where
-            go : (b : Bool) → ltb 64 (length s) ≡ b → ltb 64 (length s) ≡ false
+            go : (b : Bool) → ltb maxCabinets (length s) ≡ b → ltb maxCabinets (length s) ≡ false
             go true t = absurd (some (counted ∙ count-many t))
             go false t = t
 
-        pub few-readings : length s ≤ 64
+        pub few-readings : length s ≤ maxCabinets
         few-readings = ltb-false 64 (length s) few
 
         -- the lists as the calls left them

@@ -1,4 +1,3 @@
-pub mod Biasing
 pub mod Kept
 pub mod Agreeing
 pub mod Rounds

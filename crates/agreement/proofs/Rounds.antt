@@ -10,6 +10,7 @@ use Rattle.arithmetic.specs.Counting.{sum}
 use Rattle.arithmetic.specs.Naturals.{down, up, total}
 use Rattle.arithmetic.proofs.Counting.{count-le}
 use Rattle.arithmetic.proofs.Shift.{up-down}
+use Rattle.arithmetic.specs.Words.{twoTo31}
 use Rattle.model.specs.Steps.{mean, usedValue}
 use Rattle.round_laws.specs.Held.{readingsIn}
 use Rattle.round_laws.specs.Naturals.{estimate-nat, mean-nat, used-nat}
@@ -19,27 +20,27 @@ use Rattle.acceptance.specs.Values.{acceptedIn, acceptedCount}
 use Rattle.acceptance.proofs.Spans.{held-present}
 use Rattle.agreement.specs.Values.{agreedRound}
 
-moved-back : (z : ℤ) (x : ℕ) → z ≡ down 2147483648 x → down 2147483648 (up 2147483648 z) ≡ z
-moved-back z x e = ap (λ y. down 2147483648 (up 2147483648 y)) e ∙ ap (down 2147483648) (up-down 2147483648 x) ∙ sym e
+moved-back : (z : ℤ) (x : ℕ) → z ≡ down twoTo31 x → down twoTo31 (up twoTo31 z) ≡ z
+moved-back z x e = ap (λ y. down twoTo31 (up twoTo31 y)) e ∙ ap (down twoTo31) (up-down twoTo31 x) ∙ sym e
 
 module _ (w need kind : ℕ) (s : List ℕ) (some : 0 < acceptedCount w need s) where
   -- the estimate over naturals
   est : ℕ
-  est = estimate-nat 2147483648 kind (acceptedIn w need s) (length s) (valueAt s)
+  est = estimate-nat twoTo31 kind (acceptedIn w need s) (length s) (valueAt s)
 
-  estimate-down : agreedRound w need kind s .estimate ≡ down 2147483648 est
+  estimate-down : agreedRound w need kind s .estimate ≡ down twoTo31 est
   unfolding acceptedCount est
-  estimate-down = estimate-shifted 2147483648 (presentIn s) (valueAt s) (acceptedIn w need s) (length s) (held-present w need s) some kind
+  estimate-down = estimate-shifted twoTo31 (presentIn s) (valueAt s) (acceptedIn w need s) (length s) (held-present w need s) some kind
 
-  pub estimate-back : down 2147483648 (up 2147483648 (agreedRound w need kind s .estimate)) ≡ agreedRound w need kind s .estimate
+  pub estimate-back : down twoTo31 (up twoTo31 (agreedRound w need kind s .estimate)) ≡ agreedRound w need kind s .estimate
   estimate-back = moved-back (agreedRound w need kind s .estimate) est estimate-down
 
   some-reading : 0 < length s
   unfolding acceptedCount
   some-reading = omega (arith, some, count-le (acceptedIn w need s) (length s))
 
-  pub value-back : down 2147483648 (up 2147483648 (agreedRound w need kind s .value)) ≡ agreedRound w need kind s .value
+  pub value-back : down twoTo31 (up twoTo31 (agreedRound w need kind s .value)) ≡ agreedRound w need kind s .value
   value-back =
       moved-back (agreedRound w need kind s .value) (mean-nat (length s) (total (used-nat (acceptedIn w need s) (valueAt s) est) (length s)))
       (ap (λ z. mean (length s) (sum (usedValue (acceptedIn w need s) (readingsIn s) z) (length s))) estimate-down
-      ∙ value-shifted 2147483648 (presentIn s) (valueAt s) (acceptedIn w need s) (length s) (held-present w need s) est some-reading)
+      ∙ value-shifted twoTo31 (presentIn s) (valueAt s) (acceptedIn w need s) (length s) (held-present w need s) est some-reading)

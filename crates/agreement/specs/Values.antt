@@ -13,7 +13,8 @@ use mir.Syntax.{w32}
 use mir.Val.{toZ}
 use Rattle.arithmetic.specs.Naturals.{up}
 use Rattle.arithmetic.specs.Writing.{table}
-use Rattle.model.specs.Ensemble.{present, missing}
+use Rattle.arithmetic.specs.Words.{twoTo31, twoTo32}
+use Rattle.model.specs.Ensemble.{present, missing, maxCabinets}
 use Rattle.model.specs.Steps.{estimate, Round, roundWith}
 use Rattle.round_laws.specs.Held.{heldOf, readingsIn}
 use Rattle.estimates.specs.Values.{nothing}
@@ -33,22 +34,22 @@ agreedRound w need kind s =
 -- the estimate and the new value are moved up by 2^31
 unfoldable pub agreedOf : ℕ → ℕ → ℕ → List ℕ → Estimated
 agreedOf w need kind s =
-    cond (ltb 64 (length s)) nothing
+    cond (ltb maxCabinets (length s)) nothing
     (cond (eqb (acceptedCount w need s) 0) nothing
     (record {
       count = acceptedCount w need s;
-      estimate = up 2147483648 (agreedRound w need kind s .estimate);
-      value = up 2147483648 (agreedRound w need kind s .value);
+      estimate = up twoTo31 (agreedRound w need kind s .estimate);
+      value = up twoTo31 (agreedRound w need kind s .value);
     }))
 
 -- what is kept of a reading: an accepted one as it is, 2^32 + 1 for one that is present and not accepted, 2^32 for a
 -- missing one
 abbrev pub keptValue : Bool → ℕ → ℕ
-keptValue accepted v = cond accepted v (cond (ltb v 4294967296) 4294967297 4294967296)
+keptValue accepted v = cond accepted v (cond (ltb v twoTo32) 4294967297 twoTo32)
 
 abbrev pub keptAt : ℕ → ℕ → List ℕ → ℕ → ℕ
 keptAt w need s r = keptValue (acceptedIn w need s r) (getD s r 0)
 
 -- the list is left as it is where nothing is accepted
 unfoldable pub keptOf : ℕ → ℕ → List ℕ → List ℕ
-keptOf w need s = cond (ltb 64 (length s)) s (cond (eqb (acceptedCount w need s) 0) s (table (keptAt w need s) (length s)))
+keptOf w need s = cond (ltb maxCabinets (length s)) s (cond (eqb (acceptedCount w need s) 0) s (table (keptAt w need s) (length s)))

@@ -7,6 +7,8 @@ ghost use mir.Syntax.{w32};
 ghost use mir.Val.{toZ, ofZ};
 ghost use Rattle.arithmetic.specs.Writing.{table};
 ghost use Rattle.arithmetic.specs.Naturals.{down, up};
+ghost use Rattle.arithmetic.specs.Words.{twoTo31, twoTo32};
+ghost use Rattle.model.specs.Ensemble.{maxCabinets};
 ghost use Rattle.agreement.specs.Values.{entryHeld, keptValue, keptOf, agreedOf};
 use estimates::Estimated;
 use estimates::LIMIT;
@@ -19,14 +21,14 @@ const HALF: u32 = 2_147_483_648;
 
 // The natural of a reading: the number that 32 bits in two's complement are, moved up by 2^31.
 pub fn bias(bits: u32) -> u64
-    ensures { λ r. ⌜ r ≡ up 2147483648 (toZ w32 bits) ⌝ }
+    ensures { λ r. ⌜ r ≡ up twoTo31 (toZ w32 bits) ⌝ }
 {
     std::num::wrapping_add_u32(bits, HALF) as u64
 }
 
 // The bits of the reading that a natural is, of which the lower 32 bits count.
 pub fn unbias(value: u64) -> u32
-    ensures { λ r. ⌜ r ≡ ofZ w32 (down 2147483648 (value % 4294967296)) ⌝ }
+    ensures { λ r. ⌜ r ≡ ofZ w32 (down twoTo31 (value % twoTo32)) ⌝ }
 {
     std::num::wrapping_add_u32((value % LIMIT) as u32, HALF)
 }
@@ -68,7 +70,7 @@ fn strike(values: &mut [u64], accepted: &[bool])
 pub fn agree(values: &mut [u64], window: u32, need: u32, kind: u8) -> Estimated
     ensures { λ r. ⌜ r ≡ agreedOf window need kind (now (values .entry)) ⌝ }
     ensures { λ _. ⌜ now (values .exit) ≡ keptOf window need (now (values .entry)) ⌝ }
-    ensures { λ r. ⌜ (r .count ≤ 64) × (r .estimate < 4294967296) × (r .value < 4294967296) ⌝ }
+    ensures { λ r. ⌜ (r .count ≤ maxCabinets) × (r .estimate < twoTo32) × (r .value < twoTo32) ⌝ }
 {
     let mut accepted = [false; 64];
     let count = acceptance::accept(&*values, window, need, &mut accepted);

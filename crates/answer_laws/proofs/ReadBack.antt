@@ -17,6 +17,7 @@ use Rattle.model.specs.AnswerSheet.{answerLength, answerBytes}
 use Rattle.model.specs.Steps.{roundAt}
 use Rattle.model.specs.Refusals.{Check, firstOf, settleChecks, sheetChecks, badCabinets, badLength, noRoom}
 use Rattle.model.specs.Calls.{granted, verdict, settle, writtenAfter}
+use Rattle.model.specs.Ensemble.{maxCabinets}
 use Rattle.refusal_laws.proofs.Checks.{first-snoc, none-left}
 use Rattle.refusal_laws.proofs.Limits.{Limits}
 use Rattle.sheet_laws.proofs.Outcomes.{granted-none, granted-same}
@@ -81,7 +82,7 @@ module _ (s buffer : List ℕ) (size : ℕ) (settled : Settled s buffer size) wh
         let one = within .someCabinet in
         let most = within .cabinets in
         let some-cabinet : eqb (byte b 0) 0 ≡ false = ne-eqb (byte b 0) 0 (λ e. omega arith) in
-        let few : ltb 64 (byte b 0) ≡ false = le-ltb 64 (byte b 0) (omega arith) in
+        let few : ltb maxCabinets (byte b 0) ≡ false = le-ltb maxCabinets (byte b 0) (omega arith) in
         let same : eqb (length b) (answerLength (byte b 0)) ≡ true =
         eq-eqb (length b) (answerLength (byte b 0)) (long ∙ ap answerLength (sym cabinets)) in
         rw (some-cabinet, few, same)

@@ -11,28 +11,30 @@ use lib.Dec.{eqb, ltb}
 use lib.ListN.{length}
 use Rattle.model.specs.declared.Refusal.{Refusal}
 use Rattle.model.specs.RoundSheet.{byte}
-use Rattle.model.specs.AnswerSheet.{answerLength}
-use Rattle.model.specs.Refusals.{Check, refusal, orNext, firstOf, badCabinets, badLength, noRoom}
+use Rattle.model.specs.AnswerSheet.{answerLength, answerHeaderSize}
+use Rattle.model.specs.Refusals.{Check, refusal, orNext, firstOf, badCabinets, badLength, noRoom, badCabinetsNumber}
+use Rattle.model.specs.Ensemble.{maxCabinets}
+use Rattle.model.specs.Refusals.{badLengthNumber, noRoomNumber}
 use Rattle.refusal_laws.proofs.Checks.{first-snoc}
 use Rattle.answer_reader.specs.Fields.{answerChecks, cabinetChecks}
 
 module _ (a : List ℕ) (n : ℕ) (cabinets : n ≡ byte a 0) where
-  byte-test : (outcome : Bool) → (eqb n 0 || ltb 64 n) ≡ outcome → (eqb (byte a 0) 0 || ltb 64 (byte a 0)) ≡ outcome
-  byte-test outcome h = sym (ap (λ (k : ℕ). eqb k 0 || ltb 64 k) cabinets) ∙ h
+  byte-test : (outcome : Bool) → (eqb n 0 || ltb maxCabinets n) ≡ outcome → (eqb (byte a 0) 0 || ltb maxCabinets (byte a 0)) ≡ outcome
+  byte-test outcome h = sym (ap (λ (k : ℕ). eqb k 0 || ltb maxCabinets k) cabinets) ∙ h
 
-  pub cabinets-refuse : (eqb n 0 || ltb 64 n) ≡ true → some (refusal 2 0) ≡ firstOf (answerChecks a)
+  pub cabinets-refuse : (eqb n 0 || ltb maxCabinets n) ≡ true → some (refusal badCabinetsNumber 0) ≡ firstOf (answerChecks a)
   unfolding firstOf answerChecks badCabinets
   cabinets-refuse h = rw (byte-test true h)
 
-  module _ (some-cabinets : (eqb n 0 || ltb 64 n) ≡ false) where
-    pub length-refuses : (length a ≡ 10 + 5 * n → ⊥) → some (refusal 6 0) ≡ firstOf (answerChecks a)
+  module _ (some-cabinets : (eqb n 0 || ltb maxCabinets n) ≡ false) where
+    pub length-refuses : (length a ≡ answerHeaderSize + 5 * n → ⊥) → some (refusal badLengthNumber 0) ≡ firstOf (answerChecks a)
     unfolding firstOf answerChecks badCabinets badLength
     length-refuses h =
         let other : eqb (length a) (answerLength (byte a 0)) ≡ false =
         ne-eqb (length a) (answerLength (byte a 0)) (λ e. h (e ∙ ap answerLength (sym cabinets))) in
         rw (byte-test false some-cabinets, other)
 
-    pub answer-passes : length a ≡ 10 + 5 * n → none ≡ firstOf (answerChecks a)
+    pub answer-passes : length a ≡ answerHeaderSize + 5 * n → none ≡ firstOf (answerChecks a)
     unfolding firstOf answerChecks badCabinets badLength
     answer-passes h =
         let same : eqb (length a) (answerLength (byte a 0)) ≡ true =
@@ -53,7 +55,7 @@ module _ (a : List ℕ) (r : ℕ) where
         in-order ∙ ap (λ (first : Check). orNext first (noRoom (byte a 0) (r + 1))) (sym passes)
         ∙ ap (λ (k : ℕ). noRoom k (r + 1)) (sym cabinets)
 
-    pub cabinet-refuses : n ≤ r → some (refusal 7 0) ≡ firstOf (cabinetChecks a r)
+    pub cabinet-refuses : n ≤ r → some (refusal noRoomNumber 0) ≡ firstOf (cabinetChecks a r)
     unfolding noRoom
     cabinet-refuses h = sym (last-check ∙ rw (lt-ltb n (r + 1) (omega arith)))
 

@@ -6,10 +6,15 @@ ghost use lib.Dec.{eqb, ltb};
 ghost use Rattle.settings_checks.specs.Answers.{checkOf};
 ghost use Rattle.model.specs.Refusals.{firstOf};
 ghost use Rattle.model.specs.Calls.{verdict};
+ghost use Rattle.model.specs.Ensemble.{maxCabinets};
 ghost use Rattle.answer_reader.specs.Fields.{answerChecks, cabinetChecks, shownOf};
 ghost use Rattle.answer_reader.specs.Fields.{cabinetsIn, countIn, estimateIn, valueIn, markIn, usedIn};
-use settings_checks::Screened;
+use model::ANSWER_HEADER_SIZE;
+use model::BAD_CABINETS;
+use model::BAD_LENGTH;
+use model::NO_ROOM;
 use model::Refusal;
+use settings_checks::Screened;
 
 // A number of the answer sheet, or a refusal: 2, 6 or 7.
 pub enum Shown {
@@ -18,7 +23,7 @@ pub enum Shown {
 }
 
 fn bad_cabinets(n: usize) -> bool
-    ensures { λ r. ⌜ r ≡ (eqb n 0 || ltb 64 n) ⌝ }
+    ensures { λ r. ⌜ r ≡ (eqb n 0 || ltb maxCabinets n) ⌝ }
 {
     (n == 0) | (64 < n)
 }
@@ -30,15 +35,15 @@ fn check(answer: &[u8]) -> Screened
     let n = words::byte_at(answer, 0) as usize;
     if bad_cabinets(n) {
         return Screened::Refused(Refusal {
-            number: 2,
+            number: BAD_CABINETS,
             place: 0,
         });
     }
-    if answer.len() == 10 + 5 * n {
+    if answer.len() == ANSWER_HEADER_SIZE + 5 * n {
         Screened::Passed
     } else {
         Screened::Refused(Refusal {
-            number: 6,
+            number: BAD_LENGTH,
             place: 0,
         })
     }
@@ -54,7 +59,7 @@ fn check_cabinet(answer: &[u8], cabinet: u32) -> Screened
             let n = words::byte_at(answer, 0) as u32;
             if n <= cabinet {
                 Screened::Refused(Refusal {
-                    number: 7,
+                    number: NO_ROOM,
                     place: 0,
                 })
             } else {
@@ -115,7 +120,7 @@ pub fn mark(answer: &[u8], cabinet: u32) -> Shown
     ensures { λ r. ⌜ shownOf r ≡ markIn (now (answer .entry)) cabinet ⌝ }
 {
     let screened = check_cabinet(answer, cabinet);
-    let at = 10 + (cabinet as usize);
+    let at = ANSWER_HEADER_SIZE + (cabinet as usize);
     let number = words::byte_at(answer, at) as u32;
     unless_refused(screened, number)
 }
@@ -126,7 +131,7 @@ pub fn used(answer: &[u8], cabinet: u32) -> Shown
 {
     let screened = check_cabinet(answer, cabinet);
     let n = words::byte_at(answer, 0) as usize;
-    let at = 10 + n + 4 * (cabinet as usize);
+    let at = ANSWER_HEADER_SIZE + n + 4 * (cabinet as usize);
     let number = words::word_at(answer, at);
     unless_refused(screened, number)
 }

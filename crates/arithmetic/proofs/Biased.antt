@@ -11,10 +11,11 @@ use mir.Val.{toZ, ofZ}
 use mir.Facts as facts
 use Rattle.arithmetic.specs.Naturals.{down}
 use Rattle.arithmetic.proofs.Shift.{down-pos, down-neg}
+use Rattle.arithmetic.specs.Words.{twoTo31, twoTo32}
 
 -- 2^31
 abbrev pub bias : ℕ
-bias = 2_147_483_648
+bias = twoTo31
 
 -- bits below 2^31 are a number at or above 0
 pub toZ-low : (x : ℕ) → x < bias → toZ w32 x ≡ down bias (x + bias)
@@ -24,17 +25,17 @@ toZ-low x h = rw (lt-ltb x bias h) (sym (down-pos bias (x + bias) (omega arith) 
     go = omega arith
 
 -- bits from 2^31 on are a number below 0
-pub toZ-high : (x : ℕ) → bias ≤ x → x < 4_294_967_296 → toZ w32 x ≡ down bias (x - bias)
+pub toZ-high : (x : ℕ) → bias ≤ x → x < twoTo32 → toZ w32 x ≡ down bias (x - bias)
 toZ-high x h l = rw (le-ltb x bias h) (sym (down-neg bias (x - bias) (omega arith) ∙ ap negsuc go))
   where
-    go : bias - suc (x - bias) ≡ 4_294_967_296 - suc x
+    go : bias - suc (x - bias) ≡ twoTo32 - suc x
     go = omega arith
 
 -- the bits of a number that was moved down
 pub ofZ-low : (a : ℕ) → a < bias → ofZ w32 (down bias a) ≡ a + bias
 ofZ-low a h = rw (down-neg bias a h) go
   where
-    go : 4_294_967_296 - suc (bias - suc a) ≡ a + bias
+    go : twoTo32 - suc (bias - suc a) ≡ a + bias
     go = omega arith
 
 pub ofZ-high : (a : ℕ) → bias ≤ a → ofZ w32 (down bias a) ≡ a - bias

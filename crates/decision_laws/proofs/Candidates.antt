@@ -16,6 +16,7 @@ use mir.Facts.{toZ-inj}
 use Rattle.arithmetic.specs.Counting.{count}
 use Rattle.arithmetic.proofs.Bools.{both-ways, and-left, and-right, and-intro, iff-eq}
 use Rattle.arithmetic.proofs.Counting.{count-ext, count-mono}
+use Rattle.arithmetic.specs.Words.{twoTo32}
 use Rattle.model.specs.Ensemble.{missing, present, Readings}
 use Rattle.model.specs.Steps.{same, decided, knownFaulty, decideRow}
 use Rattle.decision_laws.proofs.Equality.{same-true, eq-same, present-inj, missing-present}
@@ -55,7 +56,7 @@ pub equal-bits : (a b : ℕ) → (a ≡ b) ⊎ (a ≡ b → ⊥)
 equal-bits a b = ⊎-elim (λ e. inl (eqb-true a b e)) (λ e. inr (eqb-false a b e)) (both-ways (eqb a b))
 
 -- numbers of 32 bits in two's complement stand for one value each
-pub toZ-one : (a b : ℕ) → a < 4_294_967_296 → b < 4_294_967_296 → toZ w32 a ≡ toZ w32 b → a ≡ b
+pub toZ-one : (a b : ℕ) → a < twoTo32 → b < twoTo32 → toZ w32 a ≡ toZ w32 b → a ≡ b
 toZ-one a b h l e = toZ-inj {w = w32} (record { fits = h }) (record { fits = l }) e
 
 module _ (pres : ℕ → Bool) (bits : ℕ → ℕ) where

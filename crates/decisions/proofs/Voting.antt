@@ -14,10 +14,12 @@ use Rattle.arithmetic.specs.Counting.{count}
 use Rattle.arithmetic.proofs.Bools.{and-left, and-right}
 use Rattle.model.specs.RoundSheet.{word}
 use Rattle.model.specs.Steps.{decided, knownFaulty, decideRow}
+use Rattle.model.specs.Ensemble.{maxCabinets}
 use Rattle.decision_laws.specs.Majority.{Candidate, holds-bits}
 use Rattle.decision_laws.proofs.Majority.{candidate-lower}
 use Rattle.decision_laws.proofs.Candidates.{bits-begin, bits-agree, bits-replace, bits-missing, bits-enough, bits-spent, bits-decide, toZ-one}
 use Rattle.arithmetic.proofs.Bools.{or-left, or-right}
+use Rattle.arithmetic.specs.Words.{twoTo32}
 use Rattle.decisions.specs.Rows.{markedAt, copyBits, copyAt, Elected, Fitting, rowDecision}
 
 module _ (marks row : List ℕ) where
@@ -79,12 +81,12 @@ module _ (marks row : List ℕ) where
 
   pub decision-long : (need : ℕ) → 64 < length marks → knownFaulty ≡ rowDecision need marks row
   unfolding rowDecision
-  decision-long need l = rw (lt-ltb 64 (length marks) l)
+  decision-long need l = rw (lt-ltb maxCabinets (length marks) l)
 
-  module _ (need : ℕ) (few : length marks ≤ 64) {b : Bool} (test : b ≡ (not (eqb (length row) (4 * length marks)) || leb need (length marks / 2))) where
+  module _ (need : ℕ) (few : length marks ≤ maxCabinets) {b : Bool} (test : b ≡ (not (eqb (length row) (4 * length marks)) || leb need (length marks / 2))) where
     pub decision-unfit : b ≡ true → knownFaulty ≡ rowDecision need marks row
     unfolding rowDecision
-    decision-unfit e = rw (le-ltb 64 (length marks) few, sym test ∙ e)
+    decision-unfit e = rw (le-ltb maxCabinets (length marks) few, sym test ∙ e)
 
     pub fitting : b ≡ false → Fitting need marks row
     fitting f =
@@ -97,25 +99,25 @@ module _ (marks row : List ℕ) where
           most = omega (arith, leb-false need (length marks / 2) half);
         }
 
-  module _ (need : ℕ) (fit : Fitting need marks row) (low : (t : ℕ) → copyBits row t < 4294967296) where
+  module _ (need : ℕ) (fit : Fitting need marks row) (low : (t : ℕ) → copyBits row t < twoTo32) where
     row-decided : decideRow need (length marks) (copyAt marks row) ≡ rowDecision need marks row
     unfolding rowDecision
     row-decided =
-        rw (le-ltb 64 (length marks) (fit .few), eq-eqb (length row) (4 * length marks) (fit .sized), lt-leb need (length marks / 2) (omega (arith, fit .most)))
+        rw (le-ltb maxCabinets (length marks) (fit .few), eq-eqb (length row) (4 * length marks) (fit .sized), lt-leb need (length marks / 2) (omega (arith, fit .most)))
 
     -- one count of a value
-    module _ (c : ℕ) (below : c < 4294967296) (n : ℕ) (counted : n ≡ count (holds-copy c) (length marks)) where
+    module _ (c : ℕ) (below : c < twoTo32) (n : ℕ) (counted : n ≡ count (holds-copy c) (length marks)) where
       pub decision-enough : need ≤ n → decided (toZ w32 c) ≡ rowDecision need marks row
       decision-enough l =
           sym
-          (bits-enough (toZ w32) 4294967296 toZ-one (markedAt marks) (copyBits row) (length marks) (λ t _. low t) c need below (fit .most)
+          (bits-enough (toZ w32) twoTo32 toZ-one (markedAt marks) (copyBits row) (length marks) (λ t _. low t) c need below (fit .most)
           (omega arith))
           ∙ row-decided
 
       pub decision-spent : n < need → length marks - need < n → knownFaulty ≡ rowDecision need marks row
       decision-spent l h =
           sym
-          (bits-spent (toZ w32) 4294967296 toZ-one (markedAt marks) (copyBits row) (length marks) (λ t _. low t) c need below
+          (bits-spent (toZ w32) twoTo32 toZ-one (markedAt marks) (copyBits row) (length marks) (λ t _. low t) c need below
           (omega arith)
           (omega arith))
           ∙ row-decided
@@ -126,7 +128,7 @@ module _ (marks row : List ℕ) where
       candidate-decides =
           rw counted
           (sym
-          (bits-decide (toZ w32) 4294967296 toZ-one (markedAt marks) (copyBits row) (length marks) (λ t _. low t) c (elected .lead) (elected .vote) need (fit .most)))
+          (bits-decide (toZ w32) twoTo32 toZ-one (markedAt marks) (copyBits row) (length marks) (λ t _. low t) c (elected .lead) (elected .vote) need (fit .most)))
           ∙ row-decided
 
       pub decision-short : n < need → knownFaulty ≡ rowDecision need marks row
@@ -136,6 +138,6 @@ module _ (marks row : List ℕ) where
       decision-bits l = rw (le-leb need n l) at candidate-decides
 
 -- four bytes make a number of 32 bits
-pub bits-low : (row : List ℕ) → ((i : ℕ) → getD row i 0 < 256) → (t : ℕ) → copyBits row t < 4294967296
+pub bits-low : (row : List ℕ) → ((i : ℕ) → getD row i 0 < 256) → (t : ℕ) → copyBits row t < twoTo32
 unfolding word
 bits-low row f t = omega (arith, f (4 * t), f (4 * t + 1), f (4 * t + 2), f (4 * t + 3))

@@ -16,7 +16,7 @@ use lib.Dec.{leb, ltb, eqb}
 use lib.ListN.{length, getD}
 use mir.Syntax.{w32}
 use mir.Val.{toZ}
-use Rattle.model.specs.Ensemble.{Readings, missing, present}
+use Rattle.model.specs.Ensemble.{Readings, missing, present, maxCabinets}
 use Rattle.model.specs.RoundSheet.{word}
 use Rattle.model.specs.Steps.{Decision, decided, knownFaulty, decideRow}
 use Rattle.decision_laws.specs.Majority.{Candidate, holds-bits}
@@ -38,7 +38,7 @@ decisionOf (Bits b) = decided (toZ w32 b)
 decisionOf KnownFaulty = knownFaulty
 
 abbrev pub rowMisfit : ℕ → List ℕ → List ℕ → Bool
-rowMisfit need marks row = ltb 64 (length marks) || (not (eqb (length row) (4 * length marks)) || leb need (length marks / 2))
+rowMisfit need marks row = ltb maxCabinets (length marks) || (not (eqb (length row) (4 * length marks)) || leb need (length marks / 2))
 
 unfoldable pub rowDecision : ℕ → List ℕ → List ℕ → Decision
 rowDecision need marks row = cond (rowMisfit need marks row) knownFaulty (decideRow need (length marks) (copyAt marks row))
@@ -52,7 +52,7 @@ pub record Elected (marks row : List ℕ) (c : ℕ) : Type 0 where
 
 -- at most 64 copies, four bytes for each, of which need are more than half
 pub record Fitting (need : ℕ) (marks row : List ℕ) : Type 0 where
-  pub few : length marks ≤ 64
+  pub few : length marks ≤ maxCabinets
   pub sized : length row ≡ 4 * length marks
   pub most : length marks < need + need
 

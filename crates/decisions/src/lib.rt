@@ -7,6 +7,7 @@ ghost use Prim.Native.Nat.{_+_, _*_, _-_, _/_, _≤_, _<_};
 ghost use lib.Dec.{leb, eqb};
 ghost use lib.ListN.{length};
 ghost use Rattle.arithmetic.specs.Counting.{count};
+ghost use Rattle.model.specs.Ensemble.{maxCabinets};
 ghost use Rattle.decision_laws.specs.Majority.{holds-bits};
 ghost use Rattle.decisions.specs.Rows.{markedAt, copyBits, Elected, Fitting, Tells, decisionOf, rowDecision};
 
@@ -34,7 +35,7 @@ fn holds(mark: u8, value: u32, bits: u32) -> bool
 
 // The candidate of the majority vote: the value that more than half of the copies hold, if there is one.
 fn vote(marks: &[u8], row: &[u8]) -> u32
-    requires { ⌜ (length (now marks) ≤ 64) × (length (now row) ≡ 4 * length (now marks)) ⌝ }
+    requires { ⌜ (length (now marks) ≤ maxCabinets) × (length (now row) ≡ 4 * length (now marks)) ⌝ }
     ensures { λ r. ⌜ Elected (now (marks .entry)) (now (row .entry)) r ⌝ }
 {
     let mut candidate: u32 = 0;
@@ -58,7 +59,7 @@ fn vote(marks: &[u8], row: &[u8]) -> u32
 
 // How many present copies hold a value.
 fn count_copies(marks: &[u8], row: &[u8], value: u32) -> u32
-    requires { ⌜ (length (now marks) ≤ 64) × (length (now row) ≡ 4 * length (now marks)) ⌝ }
+    requires { ⌜ (length (now marks) ≤ maxCabinets) × (length (now row) ≡ 4 * length (now marks)) ⌝ }
     ensures { λ r. ⌜ r ≡ count (holds-bits (markedAt (now (marks .entry))) (copyBits (now (row .entry))) value) (length (now (marks .entry))) ⌝ }
 {
     let mut copies: u32 = 0;
@@ -82,7 +83,7 @@ enum Tried {
 
 // How many copies may differ from the decided value.
 fn spare(n: usize, need: u32) -> u32
-    requires { ⌜ n ≤ 64 ⌝ }
+    requires { ⌜ n ≤ maxCabinets ⌝ }
     ensures { λ r. ⌜ r ≡ n - need ⌝ }
 {
     if (n as u32) < need {
@@ -145,7 +146,7 @@ fn elect(marks: &[u8], row: &[u8], need: u32) -> Decided
 }
 
 fn misfit(need: u32, marks: usize, row: usize) -> bool
-    requires { ⌜ marks ≤ 64 ⌝ }
+    requires { ⌜ marks ≤ maxCabinets ⌝ }
     ensures { λ r. ⌜ r ≡ (not (eqb row (4 * marks)) || leb need (marks / 2)) ⌝ }
 {
     (row != 4 * marks) | (need as usize <= marks / 2)

@@ -24,7 +24,7 @@ use Rattle.model.specs.AnswerSheet.{answerLength, answerBytes}
 use Rattle.model.specs.Steps.{roundAt}
 use Rattle.model.specs.Planner.{Plan, planFrom, advance, after, windowAfter, Reaches, maxAccuracy, maxRounds}
 use Rattle.model.specs.Planner.{maxStepAccuracy}
-use Rattle.model.specs.Refusals.{refusal, Check, firstOf, noRoom, badLength, tooManyFaults}
+use Rattle.model.specs.Refusals.{refusal, Check, firstOf, noRoom, badLength, tooManyFaults, targetMissedNumber}
 use Rattle.model.specs.Refusals.{settingsChecks, sheetChecks, entryChecks, readChecks, writeChecks, rowChecks}
 use Rattle.model.specs.Refusals.{settleChecks, planChecks, stepChecks, targetChecks}
 use Rattle.model.specs.Calls.{Verdict, granted, refused, verdict, lent, marksOf, ticksOf, read, write, settle}
@@ -269,7 +269,7 @@ module _ (c : Settings) (κ : ℕ) where
         go (some r) e = (refused r, start-refuses-target c κ target e)
         go none e =
             ⊎-elim
-            (λ t. (refused (refusal 12 0), target-missed c κ target e (ltb-true target (windowAfter maxRounds c κ) t)))
+            (λ t. (refused (refusal targetMissedNumber 0), target-missed c κ target e (ltb-true target (windowAfter maxRounds c κ) t)))
             (λ f.
             let fits = ltb-false target (windowAfter maxRounds c κ) f in
             (granted maxRounds, target-reached c κ target e maxRounds (le-refl maxRounds) fits))

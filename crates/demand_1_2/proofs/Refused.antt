@@ -17,7 +17,7 @@ use Rattle.model.specs.RoundSheet.{settingsAt, entryCount, entryAt, markAt, bit
 use Rattle.model.specs.AnswerSheet.{answerLength}
 use Rattle.model.specs.Steps.{readingsOf, roundAt}
 use Rattle.model.specs.Refusals.{refusal, Check, refuseIf, orNext, firstOf, noRoom, tooManyFaults, settingsChecks}
-use Rattle.model.specs.Refusals.{sheetChecks, entryChecks, settleChecks}
+use Rattle.model.specs.Refusals.{sheetChecks, entryChecks, settleChecks, tooManyFaultsNumber}
 use Rattle.model.specs.Calls.{verdict, settle}
 use Rattle.refusal_laws.proofs.Checks.{first-snoc, none-at, none-left}
 use Rattle.refusal_laws.proofs.Limits.{limits}
@@ -70,7 +70,7 @@ module _ (s answer : List ℕ) where
   unfolding tooManyFaults each
   last-says r ten none e h = (e, zeroes (eqb (roundAt s .count) 0) refl h)
     where
-      zeroes : (b : Bool) → eqb (roundAt s .count) 0 ≡ b → refuseIf b 10 ≡ some r → roundAt s .count ≡ 0
+      zeroes : (b : Bool) → eqb (roundAt s .count) 0 ≡ b → refuseIf b tooManyFaultsNumber ≡ some r → roundAt s .count ≡ 0
       zeroes true e h = eqb-true (roundAt s .count) 0 e
       zeroes false e h = cc
   last-says r ten (some y) e h =
@@ -92,7 +92,7 @@ module _ (s answer : List ℕ) where
   faults pass =
       too-many-faults (settingsAt s) (readingsOf (settingsAt s) (entryAt s (entryCount (settingsAt s)))) (enough pass)
 
-  last-ten : (x : Check) (k : ℕ) → x ≡ none → k ≡ 0 → orNext x (tooManyFaults k) ≡ some (refusal 10 0)
+  last-ten : (x : Check) (k : ℕ) → x ≡ none → k ≡ 0 → orNext x (tooManyFaults k) ≡ some (refusal tooManyFaultsNumber 0)
   unfolding tooManyFaults
   last-ten x k p z = rw (p, eq-eqb k 0 z)
 

@@ -19,7 +19,7 @@ use Rattle.arithmetic.specs.Counting.{count, lowest}
 use Rattle.arithmetic.proofs.Bools.{clash}
 use Rattle.model.specs.declared.Settings.{Settings}
 use Rattle.model.specs.Ensemble.{Reading, missing, present, Readings, ticks, quorum}
-use Rattle.model.specs.RoundSheet.{cca, byte, settingsAt, entryCount, markAt, bitsAt, entryAt}
+use Rattle.model.specs.RoundSheet.{cca, byte, settingsAt, entryCount, markAt, bitsAt, entryAt, headerSize}
 use Rattle.model.specs.Steps.{same, decisionAt, decidedReading, decideRow, readingsOf, roundAt}
 use Rattle.model.specs.AnswerSheet.{answerLength}
 use Rattle.model.specs.Refusals.{Check, orNext, firstOf, sheetChecks, entryChecks, settleChecks, noRoom, tooManyFaults}
@@ -62,7 +62,7 @@ module _ (s : List ℕ) (small : (j : ℕ) → byte s j < 256) where
   unfolding entryAt
   entry-fits E e =
       one-of (eqb (markAt s e) 1) (present (toZ w32 (bitsAt s E e))) missing
-      (sfits-toZ {w = w32} (fits-of-lt (word-fits s (8 + E + 4 * e) small)))
+      (sfits-toZ {w = w32} (fits-of-lt (word-fits s (headerSize + E + 4 * e) small)))
       none-fits
 
   abbrev readings : Readings

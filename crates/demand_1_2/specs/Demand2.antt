@@ -41,8 +41,9 @@ use Rattle.model.specs.Ensemble.{missing, present, Readings, ticks, quorum}
 use Rattle.model.specs.RoundSheet.{fca, cca, average, median, midpoint, byte, word, settingsAt, entryCount, entryAt}
 use Rattle.model.specs.Steps.{same, readingsOf, inside, held, acceptedAt, roundOf, roundAt}
 use Rattle.model.specs.Planner.{Plan, planFrom, withWindow, maxRounds}
-use Rattle.model.specs.Refusals.{refusal, settleChecks}
+use Rattle.model.specs.Refusals.{refusal, settleChecks, tooManyFaultsNumber}
 use Rattle.model.specs.Calls.{granted, refused, read, write, settle, plan, step}
+use Rattle.model.specs.AnswerSheet.{answerHeaderSize}
 use Rattle.planner_laws.specs.Stepping.{steps}
 
 -- ---- Accepted readings
@@ -155,8 +156,8 @@ pub record Shown (s answer : List ℕ) : Type 0 where
   pub counted : byte answer 1 ≡ roundAt s .count
   pub estimate : toZ w32 (word answer 2) ≡ roundAt s .estimate
   pub value : toZ w32 (word answer 6) ≡ roundAt s .value
-  pub mark : (r : ℕ) → r < settingsAt s .n → byte answer (10 + r) ≡ roundAt s .mark r
-  pub used : (r : ℕ) → r < settingsAt s .n → toZ w32 (word answer (10 + settingsAt s .n + 4 * r)) ≡ roundAt s .used r
+  pub mark : (r : ℕ) → r < settingsAt s .n → byte answer (answerHeaderSize + r) ≡ roundAt s .mark r
+  pub used : (r : ℕ) → r < settingsAt s .n → toZ w32 (word answer (answerHeaderSize + settingsAt s .n + 4 * r)) ≡ roundAt s .used r
 
 -- ---- The planner
 
@@ -199,7 +200,7 @@ abbrev pub NoSpan : List ℕ → Type 0
 NoSpan s = FullSpan (settingsAt s) (readingsOf (settingsAt s) (entryAt s (entryCount (settingsAt s)))) → ⊥
 
 pub record TooManyFaults (s answer : List ℕ) : Type 0 where
-  pub said : Passed s answer → NoSpan s → settle s answer .verdict ≡ refused (refusal 10 0)
+  pub said : Passed s answer → NoSpan s → settle s answer .verdict ≡ refused (refusal tooManyFaultsNumber 0)
   -- "and never otherwise"
   pub never : (r : Refusal) → settle s answer .verdict ≡ refused r → r .number ≡ 10 → Passed s answer × NoSpan s
 

@@ -23,7 +23,7 @@ use Rattle.model.specs.declared.Settings.{Settings}
 use Rattle.model.specs.Ensemble.{present, Readings, ticks, quorum}
 use Rattle.model.specs.RoundSheet.{cca, settingsAt, entryCount, entryAt, sheetLength, sheetBytes}
 use Rattle.model.specs.AnswerSheet.{answerLength, answerBytes}
-use Rattle.model.specs.Refusals.{refusal, firstOf, settingsChecks, settleChecks, tooManyFaults}
+use Rattle.model.specs.Refusals.{refusal, firstOf, settingsChecks, settleChecks, tooManyFaults, tooManyFaultsNumber}
 use Rattle.model.specs.Calls.{granted, refused, Outcome, writtenAfter, write, settle}
 use Rattle.model.specs.Planner.{withWindow}
 use Rattle.model.specs.Steps.{Round, decidedReading, readingsOf, roundOf, roundAt}
@@ -146,12 +146,12 @@ module _ (st : Station) (now : State) (x : Sends) (w p : ℕ) where
     unfolding tooManyFaults
     none-check count h = rw (ne-eqb count 0 (λ e. omega arith))
 
-    some-check : (count : ℕ) → count ≡ 0 → tooManyFaults count ≡ some (refusal 10 0)
+    some-check : (count : ℕ) → count ≡ 0 → tooManyFaults count ≡ some (refusal tooManyFaultsNumber 0)
     unfolding tooManyFaults
     some-check count h = rw (eq-eqb count 0 h)
 
     -- no reading accepted: refusal 10 at place 0
-    pub settled-refused : found .count ≡ 0 → settled st now x p .verdict ≡ refused (refusal 10 0)
+    pub settled-refused : found .count ≡ 0 → settled st now x p .verdict ≡ refused (refusal tooManyFaultsNumber 0)
     settled-refused h =
         let s = settled-is in
         rw s (rw (some-check (found .count) h))

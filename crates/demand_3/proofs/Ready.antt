@@ -20,7 +20,7 @@ use Rattle.model.specs.Ensemble.{missing, present, isPresent, ticks}
 use Rattle.model.specs.RoundSheet.{entryCount}
 use Rattle.model.specs.AnswerSheet.{answerLength}
 use Rattle.model.specs.Planner.{Plan, planFrom, advance, after, withWindow}
-use Rattle.model.specs.Refusals.{refusal, firstOf, settingsChecks}
+use Rattle.model.specs.Refusals.{refusal, firstOf, settingsChecks, tooManyFaultsNumber}
 use Rattle.model.specs.Calls.{Verdict, granted, refused, step}
 use Rattle.refusal_laws.proofs.Limits.{Limits, limits-pass}
 use Rattle.planner_laws.proofs.Checks.{none-may-start}
@@ -89,7 +89,7 @@ module _ (st : Station) (begins : Start st) (j : ℕ) (now : State) (ready : Rea
     -- ---- a cabinet's sheet
 
     module _ (p : ℕ) where
-      refuses : found st now x w p .count ≡ 0 → settled st now x p .verdict ≡ refused (refusal 10 0)
+      refuses : found st now x w p .count ≡ 0 → settled st now x p .verdict ≡ refused (refusal tooManyFaultsNumber 0)
       refuses = settled-refused st now x w p plan-settings pass allowed (fits p)
 
       pub grants : 0 < found st now x w p .count → settled st now x p .verdict ≡ granted (answerLength (N st))
@@ -129,7 +129,7 @@ module _ (st : Station) (begins : Start st) (j : ℕ) (now : State) (ready : Rea
 
       passes :
           (settled st now x p .verdict ≡ granted (answerLength (N st)))
-          ⊎ (settled st now x p .verdict ≡ refused (refusal 10 0))
+          ⊎ (settled st now x p .verdict ≡ refused (refusal tooManyFaultsNumber 0))
       passes = either (λ h. inr (refuses h)) (λ h. inl (grants h))
 
       holds-reading : IsReading (next st now x .held p)

@@ -42,7 +42,7 @@ use Rattle.model.specs.Ensemble.{Reading, missing, present, Readings, isPresent
 use Rattle.model.specs.RoundSheet.{cca, entryCount, sheetLength, word}
 use Rattle.model.specs.AnswerSheet.{answerLength}
 use Rattle.model.specs.Planner.{Plan, planFrom, ceilDiv}
-use Rattle.model.specs.Refusals.{refusal, firstOf, planChecks}
+use Rattle.model.specs.Refusals.{refusal, firstOf, planChecks, tooManyFaultsNumber}
 use Rattle.model.specs.Calls.{Verdict, granted, refused, Outcome, write, settle, step}
 
 -- ---- Start
@@ -204,7 +204,7 @@ pub record Orderly (st : Station) (now : State) (x : Sends) : Type 0 where
   pub passes :
       (p : ℕ) → Sound st p
       → (settled st now x p .verdict ≡ granted (answerLength (N st)))
-      ⊎ (settled st now x p .verdict ≡ refused (refusal 10 0))
+      ⊎ (settled st now x p .verdict ≡ refused (refusal tooManyFaultsNumber 0))
   pub steps : step (now .plan) ≡ granted (next st now x .plan)
 
 -- "the next window", and "the planned accuracy", of the plan that goes one round forward

@@ -30,7 +30,7 @@ use Rattle.model.specs.Ensemble.{Reading, missing, Readings}
 use Rattle.model.specs.RoundSheet.{fca, cca, average, median, midpoint}
 use Rattle.model.specs.AnswerSheet.{answerLength}
 use Rattle.model.specs.Planner.{ceilDiv}
-use Rattle.model.specs.Refusals.{refusal}
+use Rattle.model.specs.Refusals.{refusal, tooManyFaultsNumber}
 use Rattle.model.specs.Calls.{refused}
 use Rattle.model.specs.Cases.{settings, at, minus}
 use Rattle.demand_3.specs.Guarantee.{Station, N, m, δ, Start, Sends, Allowed, Each, State, start, next, settled}
@@ -246,7 +246,7 @@ pub record MixedRefused : Type 0 where
   -- no more than m are faulty
   pub faulty : faultyCount mixedStation ≡ m mixedStation
   -- "too many faults"
-  pub refuses : settled mixedStation (start mixedStation) mixedSends 0 .verdict ≡ refused (refusal 10 0)
+  pub refuses : settled mixedStation (start mixedStation) mixedSends 0 .verdict ≡ refused (refusal tooManyFaultsNumber 0)
 
 -- ---- Two rounds
 

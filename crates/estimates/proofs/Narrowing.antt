@@ -14,26 +14,27 @@ use lib.ListN.{length, getD}
 use Rattle.arithmetic.specs.Counting.{count}
 use Rattle.arithmetic.proofs.Bools.{iff-eq, and-right, and-intro, clash}
 use Rattle.arithmetic.proofs.Counting.{count-ext}
+use Rattle.arithmetic.specs.Words.{twoTo31, twoTo32}
 use Rattle.round_laws.specs.Naturals.{is-numbered, numbered-nat}
 use Rattle.estimates.specs.Values.{valueAt, presentIn}
 use Rattle.estimates.proofs.Selection.{under, upTo, numbered-intro, too-low, too-high, numbered-value, numbered-none}
 
 module _ (s : List ℕ) where
   -- a number below a reading is a reading
-  count-under : (v : ℕ) → v ≤ 4294967296 → count (λ j. ltb (getD s j 0) v) (length s) ≡ under (presentIn s) (length s) (valueAt s) v
+  count-under : (v : ℕ) → v ≤ twoTo32 → count (λ j. ltb (getD s j 0) v) (length s) ≡ under (presentIn s) (length s) (valueAt s) v
   count-under v h =
       count-ext (λ j. ltb (getD s j 0) v) (λ j. presentIn s j && ltb (getD s j 0) v) (length s)
       (λ j _.
       iff-eq (ltb (getD s j 0) v) (presentIn s j && ltb (getD s j 0) v)
-      (λ e. let l = ltb-true (getD s j 0) v e in and-intro (lt-ltb (getD s j 0) 4294967296 (omega arith)) e)
+      (λ e. let l = ltb-true (getD s j 0) v e in and-intro (lt-ltb (getD s j 0) twoTo32 (omega arith)) e)
       (λ e. and-right (presentIn s j) (ltb (getD s j 0) v) e))
 
-  count-upTo : (v : ℕ) → v < 4294967296 → count (λ j. leb (getD s j 0) v) (length s) ≡ upTo (presentIn s) (length s) (valueAt s) v
+  count-upTo : (v : ℕ) → v < twoTo32 → count (λ j. leb (getD s j 0) v) (length s) ≡ upTo (presentIn s) (length s) (valueAt s) v
   count-upTo v h =
       count-ext (λ j. leb (getD s j 0) v) (λ j. presentIn s j && leb (getD s j 0) v) (length s)
       (λ j _.
       iff-eq (leb (getD s j 0) v) (presentIn s j && leb (getD s j 0) v)
-      (λ e. let l = leb-true (getD s j 0) v e in and-intro (lt-ltb (getD s j 0) 4294967296 (omega arith)) e)
+      (λ e. let l = leb-true (getD s j 0) v e in and-intro (lt-ltb (getD s j 0) twoTo32 (omega arith)) e)
       (λ e. and-right (presentIn s j) (leb (getD s j 0) v) e))
 
   -- whether the reading at j is numbered h from below
@@ -41,28 +42,28 @@ module _ (s : List ℕ) where
   numbered-here h j = is-numbered (presentIn s) (length s) (valueAt s) h j
 
   abbrev pub chosen : ℕ → ℕ
-  chosen h = numbered-nat 2147483648 (presentIn s) (length s) (valueAt s) h
+  chosen h = numbered-nat twoTo31 (presentIn s) (length s) (valueAt s) h
 
   pub record Narrowed (h low high t : ℕ) : Type 0 where
     pub inRange : t ≤ length s
-    pub top : high ≤ 4294967296
+    pub top : high ≤ twoTo32
     pub passed : (j : ℕ) → j < t → numbered-here h j ≡ false
     pub lows : (j : ℕ) → getD s j 0 < low → numbered-here h j ≡ false
     pub highs : (j : ℕ) → high ≤ getD s j 0 → numbered-here h j ≡ false
 
-  pub narrow-none : (h : ℕ) → Narrowed h 0 4294967296 0
+  pub narrow-none : (h : ℕ) → Narrowed h 0 twoTo32 0
   narrow-none h =
       record {
         inRange = zero-le;
-        top = le-refl 4294967296;
+        top = le-refl twoTo32;
         passed = λ j l. absurd (not-suc-le-zero l);
         lows = λ j l. absurd (not-suc-le-zero l);
-        highs = λ j l. ap (λ (b : Bool). b && (leb h (upTo (presentIn s) (length s) (valueAt s) (getD s j 0)) && ltb (under (presentIn s) (length s) (valueAt s) (getD s j 0)) h)) (le-ltb (getD s j 0) 4294967296 l);
+        highs = λ j l. ap (λ (b : Bool). b && (leb h (upTo (presentIn s) (length s) (valueAt s) (getD s j 0)) && ltb (under (presentIn s) (length s) (valueAt s) (getD s j 0)) h)) (le-ltb (getD s j 0) twoTo32 l);
       }
 
-  pub narrow-all : (h low high t : ℕ) → Narrowed h low high t → length s ≤ t → 2147483648 ≡ chosen h
+  pub narrow-all : (h low high t : ℕ) → Narrowed h low high t → length s ≤ t → twoTo31 ≡ chosen h
   narrow-all h low high t n l =
-      sym (numbered-none (presentIn s) (length s) (valueAt s) h 2147483648 (λ j m. n .passed j (omega arith)))
+      sym (numbered-none (presentIn s) (length s) (valueAt s) h twoTo31 (λ j m. n .passed j (omega arith)))
 
   module _ (h low high t : ℕ) (so-far : Narrowed h low high t) (room : t < length s) where
     -- the number at t is out of range
@@ -82,7 +83,7 @@ module _ (s : List ℕ) where
         go true true p q z = clash refl z
 
     module _ {b : Bool} (e : b ≡ (leb low (getD s t 0) && ltb (getD s t 0) high)) (f : b ≡ true) where
-      pub in-range : getD s t 0 < 4294967296
+      pub in-range : getD s t 0 < twoTo32
       in-range = omega (arith, so-far .top, ltb-true (getD s t 0) high (and-right (leb low (getD s t 0)) (ltb (getD s t 0) high) (sym e ∙ f)))
 
       -- the number at t is too high
@@ -118,7 +119,7 @@ module _ (s : List ℕ) where
       narrow-fits l m =
           let v = in-range in
           sym
-          (numbered-value (presentIn s) (length s) (valueAt s) h 2147483648 t room
-          (numbered-intro (presentIn s) (length s) (valueAt s) h t (lt-ltb (getD s t 0) 4294967296 v)
+          (numbered-value (presentIn s) (length s) (valueAt s) h twoTo31 t room
+          (numbered-intro (presentIn s) (length s) (valueAt s) h t (lt-ltb (getD s t 0) twoTo32 v)
           (rw (← count-upTo (getD s t 0) v) m)
           (rw (← count-under (getD s t 0) (omega arith)) l)))

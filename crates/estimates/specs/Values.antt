@@ -20,7 +20,9 @@ use lib.IntN.{ℤ}
 use lib.ListN.{length, getD}
 use Rattle.arithmetic.specs.Counting.{count, sum}
 use Rattle.arithmetic.specs.Naturals.{up, total}
+use Rattle.arithmetic.specs.Words.{twoTo31, twoTo32}
 use Rattle.model.specs.Steps.{estimate, mean, usedValue}
+use Rattle.model.specs.Ensemble.{maxCabinets}
 use Rattle.round_laws.specs.Held.{readingsIn}
 use Rattle.round_laws.specs.Naturals.{numbered-nat, estimate-nat}
 use Rattle.estimates.specs.declared.Estimated.{Estimated}
@@ -30,7 +32,7 @@ abbrev pub valueAt : List ℕ → ℕ → ℕ
 valueAt s t = getD s t 0
 
 abbrev pub presentIn : List ℕ → ℕ → Bool
-presentIn s t = ltb (getD s t 0) 4294967296
+presentIn s t = ltb (getD s t 0) twoTo32
 
 abbrev pub presentCount : List ℕ → ℕ
 presentCount s = count (presentIn s) (length s)
@@ -49,18 +51,18 @@ nothing = record { count = 0; estimate = 0; value = 0 }
 -- the estimate and the mean are moved up by 2^31
 unfoldable pub evaluatedOf : ℕ → List ℕ → Estimated
 evaluatedOf kind s =
-    cond (ltb 64 (length s)) nothing
+    cond (ltb maxCabinets (length s)) nothing
     (cond (eqb (presentCount s) 0) nothing
     (record {
       count = presentCount s;
-      estimate = up 2147483648 (estimateOfHeld kind s);
-      value = up 2147483648 (meanIn s (estimateOfHeld kind s));
+      estimate = up twoTo31 (estimateOfHeld kind s);
+      value = up twoTo31 (meanIn s (estimateOfHeld kind s));
     }))
 
 -- ---- the functions below it
 
 abbrev pub usedAt : List ℕ → ℕ → ℕ → ℕ
-usedAt s e t = cond (ltb (getD s t 0) 4294967296) (getD s t 0) e
+usedAt s e t = cond (ltb (getD s t 0) twoTo32) (getD s t 0) e
 
 abbrev pub countBelow : List ℕ → ℕ → ℕ
 countBelow s v = count (λ t. ltb (getD s t 0) v) (length s)
@@ -70,14 +72,14 @@ countUpTo s v = count (λ t. leb (getD s t 0) v) (length s)
 
 -- the present reading numbered h from below, or the reading 0 where there is none
 abbrev pub numberedAt : List ℕ → ℕ → ℕ
-numberedAt s h = numbered-nat 2147483648 (presentIn s) (length s) (valueAt s) h
+numberedAt s h = numbered-nat twoTo31 (presentIn s) (length s) (valueAt s) h
 
 -- the count and the sum of the present readings; the lowest and the highest, where one is present
 pub record Summarizes (r : Summary) (s : List ℕ) : Type 0 where
   pub counted : r .count ≡ presentCount s
   pub added : r .sum ≡ total (usedAt s 0) (length s)
-  pub lowest : 0 < presentCount s → (r .low ≡ numberedAt s 1) × (r .low < 4294967296)
-  pub highest : 0 < presentCount s → (r .high ≡ numberedAt s (presentCount s)) × (r .high < 4294967296)
+  pub lowest : 0 < presentCount s → (r .low ≡ numberedAt s 1) × (r .low < twoTo32)
+  pub highest : 0 < presentCount s → (r .high ≡ numberedAt s (presentCount s)) × (r .high < twoTo32)
 
 unfoldable pub estimateAt : ℕ → List ℕ → ℕ
-estimateAt kind s = estimate-nat 2147483648 kind (presentIn s) (length s) (valueAt s)
+estimateAt kind s = estimate-nat twoTo31 kind (presentIn s) (length s) (valueAt s)

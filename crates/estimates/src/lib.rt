@@ -4,6 +4,8 @@ ghost use mathlib.Core.Bool.{_&&_};
 ghost use Prim.Native.Nat.{_*_, _/_, min, max, _≤_, _<_};
 ghost use lib.Dec.{leb, ltb};
 ghost use lib.ListN.{length};
+ghost use Rattle.arithmetic.specs.Words.{twoTo32};
+ghost use Rattle.model.specs.Ensemble.{maxCabinets};
 ghost use Rattle.round_laws.specs.Naturals.{mean-nat};
 ghost use Rattle.estimates.specs.Values.{countBelow, countUpTo, numberedAt, Summarizes, estimateAt, evaluatedOf};
 
@@ -54,7 +56,7 @@ fn higher(a: u64, b: u64) -> u64
 
 // The lowest is LIMIT and the highest 0 where no reading is present.
 fn summarize(values: &[u64]) -> Summary
-    requires { ⌜ length (now values) ≤ 64 ⌝ }
+    requires { ⌜ length (now values) ≤ maxCabinets ⌝ }
     ensures { λ r. ⌜ Summarizes r (now (values .entry)) ⌝ }
 {
     let mut count: u32 = 0;
@@ -81,7 +83,7 @@ fn summarize(values: &[u64]) -> Summary
 }
 
 fn rank(values: &[u64], v: u64) -> Ranks
-    requires { ⌜ length (now values) ≤ 64 ⌝ }
+    requires { ⌜ length (now values) ≤ maxCabinets ⌝ }
     ensures { λ r. ⌜ (r .below ≡ countBelow (now (values .entry)) v) × (r .«up_to» ≡ countUpTo (now (values .entry)) v) ⌝ }
 {
     let mut below: u32 = 0;
@@ -105,9 +107,9 @@ fn between(low: u64, v: u64, high: u64) -> bool
 // The present reading numbered h from below, counting from 1, or the reading 0 where there is none. A number that is
 // too low or too high rules out all beyond it.
 fn numbered(values: &[u64], h: u32) -> u64
-    requires { ⌜ length (now values) ≤ 64 ⌝ }
+    requires { ⌜ length (now values) ≤ maxCabinets ⌝ }
     ensures { λ r. ⌜ r ≡ numberedAt (now (values .entry)) h ⌝ }
-    ensures { λ r. ⌜ r < 4294967296 ⌝ }
+    ensures { λ r. ⌜ r < twoTo32 ⌝ }
 {
     let mut low: u64 = 0;
     let mut high = LIMIT;
@@ -144,16 +146,16 @@ fn divide(sum: u64, by: u64) -> u64
 
 // The mean of n numbers with this sum, to the nearest, a half going up.
 fn mean(n: u64, sum: u64) -> u64
-    requires { ⌜ (0 < n) × (n ≤ 64) × (sum ≤ 4294967295 * n) ⌝ }
-    ensures { λ r. ⌜ (r ≡ mean-nat n sum) × (r < 4294967296) ⌝ }
+    requires { ⌜ (0 < n) × (n ≤ maxCabinets) × (sum ≤ 4294967295 * n) ⌝ }
+    ensures { λ r. ⌜ (r ≡ mean-nat n sum) × (r < twoTo32) ⌝ }
 {
     divide(sum + sum + n, 2 * n)
 }
 
 // Document 01's estimate of the present readings: average, median or midpoint.
 fn estimate(kind: u8, values: &[u64], summary: Summary) -> u64
-    requires { ⌜ (length (now values) ≤ 64) × (0 < summary .count) × Summarizes summary (now values) ⌝ }
-    ensures { λ r. ⌜ (r ≡ estimateAt kind (now (values .entry))) × (r < 4294967296) ⌝ }
+    requires { ⌜ (length (now values) ≤ maxCabinets) × (0 < summary .count) × Summarizes summary (now values) ⌝ }
+    ensures { λ r. ⌜ (r ≡ estimateAt kind (now (values .entry))) × (r < twoTo32) ⌝ }
 {
     if kind == AVERAGE {
         return divide(summary.sum, summary.count as u64);
@@ -167,7 +169,7 @@ fn estimate(kind: u8, values: &[u64], summary: Summary) -> u64
 // The estimate of the present readings, and the mean of all with the missing ones replaced by it.
 pub fn evaluate(kind: u8, values: &[u64]) -> Estimated
     ensures { λ r. ⌜ r ≡ evaluatedOf kind (now (values .entry)) ⌝ }
-    ensures { λ r. ⌜ (r .count ≤ 64) × (r .estimate < 4294967296) × (r .value < 4294967296) ⌝ }
+    ensures { λ r. ⌜ (r .count ≤ maxCabinets) × (r .estimate < twoTo32) × (r .value < twoTo32) ⌝ }
 {
     if 64 < values.len() {
         return Estimated {

@@ -12,9 +12,10 @@ use Rattle.arithmetic.proofs.Bools.{and-left, and-right}
 use Rattle.model.specs.declared.Settings.{Settings}
 use Rattle.model.specs.declared.Refusal.{Refusal}
 use Rattle.model.specs.RoundSheet.{fca, median}
-use Rattle.model.specs.Planner.{ceilDiv}
+use Rattle.model.specs.Planner.{ceilDiv, maxAccuracy}
 use Rattle.model.specs.Cases.{settings}
 use Rattle.model.specs.Refusals.{firstOf, settingsChecks, planChecks}
+use Rattle.model.specs.Ensemble.{maxWindow}
 use Rattle.planner_laws.proofs.Ceiling.{ceil-div-le}
 use Rattle.planner_laws.proofs.Checks.{none-may-start}
 use Rattle.refusal_laws.proofs.Limits.{Limits, limits, limits-pass}
@@ -28,7 +29,7 @@ use Rattle.limits.proofs.Quotients.{rise-is, fall-is}
 module _ (c : Settings) where
   module _ (e : firstOf (settingsChecks c) ≡ none) (parts : ℕ) (l : parts ≤ 256) where
     pub product-le : parts * c .window ≤ 256000000
-    product-le = mul-le-mul {n₂ = 256} {m₂ = 1000000} l (limits c e .window)
+    product-le = mul-le-mul {n₂ = 256} {m₂ = maxWindow} l (limits c e .window)
 
     pub share-le : ceilDiv (parts * c .window) (c .n) ≤ 256000063
     share-le = let a = ceil-div-le (c .n) (limits c e .someCabinet) (parts * c .window) in omega (arith, product-le)
@@ -40,7 +41,7 @@ module _ (c : Settings) where
     pub granted-passes : Limits c
     granted-passes = none-may-start c κ 0 e .passes
 
-    pub granted-accuracy : κ ≤ 1000000000
+    pub granted-accuracy : κ ≤ maxAccuracy
     granted-accuracy = none-may-start c κ 0 e .accurate
 
     -- the sizes of what is multiplied and added

@@ -5,9 +5,12 @@ ghost use mathlib.Core.Option.{none};
 ghost use mathlib.Core.Path.{_≡_};
 ghost use Prim.Native.Nat.{_+_, _*_, _-_, _/_, _≤_, _<_};
 ghost use lib.Dec.{eqb};
-ghost use Rattle.model.specs.Planner.{ceilDiv};
+ghost use Rattle.model.specs.Planner.{ceilDiv, maxAccuracy};
 ghost use Rattle.model.specs.Refusals.{firstOf, settingsChecks, planChecks};
+ghost use Rattle.model.specs.Ensemble.{maxCabinets};
 ghost use Rattle.limits.specs.Limits.{stated, bounds, statedOf, reachable, widerAt, widerOf};
+use model::FCA;
+use model::MEDIAN;
 use model::Refusal;
 use model::Settings;
 use planner::Planned;
@@ -45,7 +48,7 @@ fn share(settings: Settings, parts: u32) -> u32
 
 // (2 × excess + half) / 2N
 fn nearest(n: u32, excess: u32, half: u32) -> u32
-    requires { ⌜ (0 < n) × (n ≤ 64) × (half ≤ 64) × (excess ≤ 256000000) ⌝ }
+    requires { ⌜ (0 < n) × (n ≤ maxCabinets) × (half ≤ maxCabinets) × (excess ≤ 256000000) ⌝ }
     ensures { λ r. ⌜ (r ≡ (2 * excess + half) / (2 * n)) × (r ≤ 512000064) ⌝ }
 {
     (2 * excess + half) / (2 * n)
@@ -54,12 +57,12 @@ fn nearest(n: u32, excess: u32, half: u32) -> u32
 fn is_fast_median(rule: u8, estimator: u8) -> bool
     ensures { λ r. ⌜ r ≡ (eqb rule 0 && eqb estimator 1) ⌝ }
 {
-    (rule == 0) & (estimator == 1)
+    (rule == FCA) & (estimator == MEDIAN)
 }
 
 // Whether a round is known that reaches the exact limits.
 fn is_reached(settings: Settings, accuracy: u32, t: u32) -> bool
-    requires { ⌜ (accuracy ≤ 1000000000) × (t ≤ 64) ⌝ }
+    requires { ⌜ (accuracy ≤ maxAccuracy) × (t ≤ maxCabinets) ⌝ }
     ensures { λ r. ⌜ r ≡ reachable settings accuracy t ⌝ }
 {
     let n = settings.n as u32;

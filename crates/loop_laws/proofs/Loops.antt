@@ -16,6 +16,7 @@ use Rattle.arithmetic.specs.Writing.{table, overwrite}
 use Rattle.arithmetic.proofs.Writing.{length-table, overwrite-snoc}
 use Rattle.arithmetic.proofs.Counting.{count-le}
 use Rattle.arithmetic.specs.Naturals.{total}
+use Rattle.arithmetic.specs.Words.{twoTo32}
 
 -- a flag as a number
 pub flag : (b : Bool) → boolByte b ≡ bit b
@@ -68,7 +69,7 @@ module _ (f : ℕ → ℕ) (n : ℕ) where
   add-none = record { upTo = zero-le; exact = refl; small = zero-le }
 
   module _ {s t : ℕ} (so-far : Adds f n s t) where
-    pub add-on : t < n → (v : ℕ) → v ≡ f t → v < 4294967296 → Adds f n (s + v) (t + 1)
+    pub add-on : t < n → (v : ℕ) → v ≡ f t → v < twoTo32 → Adds f n (s + v) (t + 1)
     add-on h v e l =
         record {
           upTo = omega arith;

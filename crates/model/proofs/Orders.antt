@@ -14,6 +14,9 @@ use Rattle.model.specs.Planner.{ceilDiv, windowFactor, nextWindow, growt
 use Rattle.model.specs.Refusals.{Check, refusal, firstOf, tooShort, badCabinets, badFaults, badMethod, badWindow, badLength, noRoom, badMark}
 use Rattle.model.specs.Refusals.{badMissing, tooManyFaults, badPlan, targetMissed, settingsChecks, sheetChecks, entryChecks}
 use Rattle.model.specs.Refusals.{readChecks, writeChecks, rowChecks, settleChecks, planChecks, stepChecks, targetChecks}
+use Rattle.model.specs.Refusals.{badCabinetsNumber, badFaultsNumber, badLengthNumber, badMarkNumber}
+use Rattle.model.specs.Refusals.{badMethodNumber, badMissingNumber, badPlanNumber, badWindowNumber}
+use Rattle.model.specs.Refusals.{noRoomNumber, tooManyFaultsNumber, tooShortNumber}
 
 -- N and m with FCA and median, a rule and a window
 abbrev with : ℕ → ℕ → ℕ → ℕ → Settings
@@ -47,16 +50,16 @@ settleFirsts =
 
 unfoldable pub settleWanted : List Check
 settleWanted =
-    some (refusal 1 0)
-    ∷ some (refusal 2 0)
-    ∷ some (refusal 3 0)
-    ∷ some (refusal 4 0)
-    ∷ some (refusal 5 0)
-    ∷ some (refusal 6 0)
-    ∷ some (refusal 7 0)
-    ∷ some (refusal 8 1)
-    ∷ some (refusal 9 1)
-    ∷ some (refusal 10 0)
+    some (refusal tooShortNumber 0)
+    ∷ some (refusal badCabinetsNumber 0)
+    ∷ some (refusal badFaultsNumber 0)
+    ∷ some (refusal badMethodNumber 0)
+    ∷ some (refusal badWindowNumber 0)
+    ∷ some (refusal badLengthNumber 0)
+    ∷ some (refusal noRoomNumber 0)
+    ∷ some (refusal badMarkNumber 1)
+    ∷ some (refusal badMissingNumber 1)
+    ∷ some (refusal tooManyFaultsNumber 0)
     ∷ []
 
 pub settle-order : settleFirsts ≡ settleWanted
@@ -78,14 +81,14 @@ carryFirsts =
 
 unfoldable pub carryWanted : List Check
 carryWanted =
-    some (refusal 6 0)
-    ∷ some (refusal 7 0)
-    ∷ some (refusal 8 1)
-    ∷ some (refusal 8 1)
-    ∷ some (refusal 5 0)
-    ∷ some (refusal 6 0)
-    ∷ some (refusal 7 0)
-    ∷ some (refusal 8 1)
+    some (refusal badLengthNumber 0)
+    ∷ some (refusal noRoomNumber 0)
+    ∷ some (refusal badMarkNumber 1)
+    ∷ some (refusal badMarkNumber 1)
+    ∷ some (refusal badWindowNumber 0)
+    ∷ some (refusal badLengthNumber 0)
+    ∷ some (refusal noRoomNumber 0)
+    ∷ some (refusal badMarkNumber 1)
     ∷ []
 
 pub carry-order : carryFirsts ≡ carryWanted
@@ -101,7 +104,7 @@ planFirsts =
     ∷ []
 
 unfoldable pub planWanted : List Check
-planWanted = some (refusal 5 0) ∷ some (refusal 5 0) ∷ some (refusal 11 0) ∷ []
+planWanted = some (refusal badWindowNumber 0) ∷ some (refusal badWindowNumber 0) ∷ some (refusal badPlanNumber 0) ∷ []
 
 pub plan-order : planFirsts ≡ planWanted
 unfolding ceilDiv windowFactor nextWindow growth advance after firstOf badCabinets badFaults badMethod badWindow badPlan targetMissed settingsChecks planChecks stepChecks targetChecks planFirsts planWanted

@@ -1,5 +1,6 @@
 -- Document 01, "Numbers of refusal" (docs/FORMAT.md, 7): the table, a definition for each check in its order, and the
 -- checks that apply to each call. Of what a call is lent to fill they ask the length.
+--   tooShortNumber .. targetMissedNumber    the numbers, 1 to 12
 --   Check                       what a check gives: its refusal, or nothing
 --   refuseIf, atEntry           a check whose place is 0; a check whose place is the lowest entry at fault
 --   firstOf                     "Checks run in this order, those that apply to the call": the first that refuses
@@ -25,6 +26,43 @@ use Rattle.model.specs.RoundSheet.{markAt, bitsAt, bitsIn}
 use Rattle.model.specs.AnswerSheet.{answerLength}
 use Rattle.model.specs.Steps.{roundAt}
 use Rattle.model.specs.Planner.{Plan, maxAccuracy, maxRounds, maxStepAccuracy, windowAfter}
+
+-- the numbers of the table
+abbrev pub tooShortNumber : ℕ
+tooShortNumber = 1
+
+abbrev pub badCabinetsNumber : ℕ
+badCabinetsNumber = 2
+
+abbrev pub badFaultsNumber : ℕ
+badFaultsNumber = 3
+
+abbrev pub badMethodNumber : ℕ
+badMethodNumber = 4
+
+abbrev pub badWindowNumber : ℕ
+badWindowNumber = 5
+
+abbrev pub badLengthNumber : ℕ
+badLengthNumber = 6
+
+abbrev pub noRoomNumber : ℕ
+noRoomNumber = 7
+
+abbrev pub badMarkNumber : ℕ
+badMarkNumber = 8
+
+abbrev pub badMissingNumber : ℕ
+badMissingNumber = 9
+
+abbrev pub tooManyFaultsNumber : ℕ
+tooManyFaultsNumber = 10
+
+abbrev pub badPlanNumber : ℕ
+badPlanNumber = 11
+
+abbrev pub targetMissedNumber : ℕ
+targetMissedNumber = 12
 
 -- "A refusal gives its number and a place: for 8 and 9 the lowest entry at fault, else 0"
 abbrev pub refusal : ℕ → ℕ → Refusal
@@ -52,55 +90,55 @@ firstOf (r ∷ rs) = orNext r (firstOf rs)
 
 -- 1 (stub): "sheet under 8 bytes"
 unfoldable pub tooShort : List ℕ → Check
-tooShort s = refuseIf (ltb (length s) headerSize) 1
+tooShort s = refuseIf (ltb (length s) headerSize) tooShortNumber
 
 -- 2 (ensemble): "N is 0 or above 64"
 unfoldable pub badCabinets : Settings → Check
-badCabinets c = refuseIf (eqb (c .n) 0 || ltb maxCabinets (c .n)) 2
+badCabinets c = refuseIf (eqb (c .n) 0 || ltb maxCabinets (c .n)) badCabinetsNumber
 
 -- 3 (fault plan): "N below 3m+1"
 unfoldable pub badFaults : Settings → Check
-badFaults c = refuseIf (ltb (c .n) (3 * c .m + 1)) 3
+badFaults c = refuseIf (ltb (c .n) (3 * c .m + 1)) badFaultsNumber
 
 -- 4 (rule): "unknown rule or estimator"
 unfoldable pub badMethod : Settings → Check
-badMethod c = refuseIf (ltb cca (c .rule) || ltb midpoint (c .estimator)) 4
+badMethod c = refuseIf (ltb cca (c .rule) || ltb midpoint (c .estimator)) badMethodNumber
 
 -- 5 (window): "δ above 1,000,000"
 unfoldable pub badWindow : Settings → Check
-badWindow c = refuseIf (ltb maxWindow (c .window)) 5
+badWindow c = refuseIf (ltb maxWindow (c .window)) badWindowNumber
 
 -- 6 (length): "not 8 + 5E bytes"; for the writer "6 when an array is not E long"
 unfoldable pub badLength : ℕ → ℕ → Check
-badLength given wanted = refuseIf (not (eqb given wanted)) 6
+badLength given wanted = refuseIf (not (eqb given wanted)) badLengthNumber
 
 -- 7 (tray): "answer buffer too short"; for the reader "7 when either array is shorter than E", for the writer "7 when
 -- its buffer is short"
 unfoldable pub noRoom : ℕ → ℕ → Check
-noRoom given wanted = refuseIf (ltb given wanted) 7
+noRoom given wanted = refuseIf (ltb given wanted) noRoomNumber
 
 -- 8 (mark): "a mark not 0 or 1"
 unfoldable pub badMark : (ℕ → ℕ) → ℕ → Check
-badMark mark E = atEntry (lowest (λ e. ltb 1 (mark e)) E) 8
+badMark mark E = atEntry (lowest (λ e. ltb 1 (mark e)) E) badMarkNumber
 
 -- 9 (ghost): "missing, bytes not zero"
 abbrev pub notZero : ℕ → ℕ → Bool
 notZero mark bits = eqb mark 0 && not (eqb bits 0)
 
 unfoldable pub badMissing : (ℕ → ℕ) → (ℕ → ℕ) → ℕ → Check
-badMissing mark bits E = atEntry (lowest (λ e. notZero (mark e) (bits e)) E) 9
+badMissing mark bits E = atEntry (lowest (λ e. notZero (mark e) (bits e)) E) badMissingNumber
 
 -- 10 (too many faults): "no reading accepted"
 unfoldable pub tooManyFaults : ℕ → Check
-tooManyFaults accepted = refuseIf (eqb accepted 0) 10
+tooManyFaults accepted = refuseIf (eqb accepted 0) tooManyFaultsNumber
 
 -- 11 (plan): "starting κ above 1,000,000,000, or above 32 rounds; for a step as said above"
 unfoldable pub badPlan : Bool → Check
-badPlan fails = refuseIf fails 11
+badPlan fails = refuseIf fails badPlanNumber
 
 -- 12 (target): "window after 32 rounds above target"
 unfoldable pub targetMissed : ℕ → ℕ → Check
-targetMissed last target = refuseIf (ltb target last) 12
+targetMissed last target = refuseIf (ltb target last) targetMissedNumber
 
 -- checks 2 to 5, of any settings
 unfoldable pub settingsChecks : Settings → List Check

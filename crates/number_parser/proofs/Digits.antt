@@ -10,31 +10,32 @@ use borrow.Author.Tests.{leb-false, ltb-false, ne-eqb}
 use lib.Dec.{leb, ltb}
 use lib.ListN.{length, getD}
 use Rattle.arithmetic.proofs.Bools.{or-left, or-right}
+use Rattle.arithmetic.specs.Words.{twoTo32}
 use Rattle.number_parser.specs.Numerals.{grown, leading, numeral}
 
 abbrev pub stop : ℕ → ℕ → Bool
-stop value digit = leb 4294967296 value || (ltb digit 48 || ltb 57 digit)
+stop value digit = leb twoTo32 value || (ltb digit 48 || ltb 57 digit)
 
 pub record Digit (value digit : ℕ) : Type 0 where
-  pub small : value < 4294967296
+  pub small : value < twoTo32
   pub least : 48 ≤ digit
   pub most : digit ≤ 57
 
 module _ (value digit : ℕ) where
   pub goes-on : stop value digit ≡ false → Digit value digit
   goes-on e =
-      let d = or-right (leb 4294967296 value) (ltb digit 48 || ltb 57 digit) e in
+      let d = or-right (leb twoTo32 value) (ltb digit 48 || ltb 57 digit) e in
       record {
-        small = leb-false 4294967296 value (or-left (leb 4294967296 value) (ltb digit 48 || ltb 57 digit) e);
+        small = leb-false twoTo32 value (or-left (leb twoTo32 value) (ltb digit 48 || ltb 57 digit) e);
         least = ltb-false digit 48 (or-left (ltb digit 48) (ltb 57 digit) d);
         most = ltb-false 57 digit (or-right (ltb digit 48) (ltb 57 digit) d);
       }
 
-  pub grown-stops : stop value digit ≡ true → 4294967296 ≡ grown value digit
+  pub grown-stops : stop value digit ≡ true → twoTo32 ≡ grown value digit
   unfolding grown
   grown-stops e = rw e refl
 
-  pub grown-next : stop value digit ≡ false → cond (ltb (10 * value + (digit - 48)) 4294967296) (10 * value + (digit - 48)) 4294967296 ≡ grown value digit
+  pub grown-next : stop value digit ≡ false → cond (ltb (10 * value + (digit - 48)) twoTo32) (10 * value + (digit - 48)) twoTo32 ≡ grown value digit
   unfolding grown
   grown-next e = rw e refl
 
@@ -56,7 +57,7 @@ module _ (text : List ℕ) where
         exact = rw (add-one i) (e ∙ ap (λ (v : ℕ). grown v (getD text i 0)) (so-far .exact));
       }
 
-  pub numeral-none : length text ≡ 0 → 4294967296 ≡ numeral text
+  pub numeral-none : length text ≡ 0 → twoTo32 ≡ numeral text
   unfolding numeral
   numeral-none e = rw e refl
 

@@ -3,6 +3,7 @@ ghost use mathlib.Core.Bool.{cond, _||_};
 ghost use mathlib.Core.Path.{_≡_};
 ghost use Prim.Native.Nat.{_*_};
 ghost use lib.Dec.{leb, ltb};
+ghost use Rattle.arithmetic.specs.Words.{twoTo32};
 ghost use Rattle.model.specs.Ensemble.{ticksPerSecond};
 ghost use Rattle.model.specs.Planner.{ceilDiv};
 ghost use Rattle.number_parser.specs.Numerals.{grown, numeral};
@@ -11,13 +12,13 @@ ghost use Rattle.number_parser.specs.Numerals.{grown, numeral};
 pub const LIMIT: u64 = 4_294_967_296;
 
 fn stops(value: u64, digit: u8) -> bool
-    ensures { λ r. ⌜ r ≡ (leb 4294967296 value || (ltb digit 48 || ltb 57 digit)) ⌝ }
+    ensures { λ r. ⌜ r ≡ (leb twoTo32 value || (ltb digit 48 || ltb 57 digit)) ⌝ }
 {
     (4_294_967_296 <= value) | ((digit < 48) | (57 < digit))
 }
 
 fn capped(value: u64) -> u64
-    ensures { λ r. ⌜ r ≡ cond (ltb value 4294967296) value 4294967296 ⌝ }
+    ensures { λ r. ⌜ r ≡ cond (ltb value twoTo32) value twoTo32 ⌝ }
 {
     if value < LIMIT { value } else { LIMIT }
 }

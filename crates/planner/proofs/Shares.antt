@@ -11,6 +11,7 @@ use native.Mathlib.Omega.{arith}
 use Rattle.model.specs.declared.Settings.{Settings}
 use Rattle.model.specs.Planner.{Plan, ceilDiv, windowFactor, nextWindow, growth, withWindow, advance}
 use Rattle.model.specs.Refusals.{firstOf, settingsChecks}
+use Rattle.model.specs.Ensemble.{maxWindow}
 use Rattle.refusal_laws.proofs.Limits.{limits, limits-pass}
 use Rattle.planner_laws.proofs.Windows.{share-le, passes-window}
 
@@ -19,18 +20,18 @@ module _ (c : Settings) where
     pub faults-window-le : c .m * c .window ≤ 21000000
     faults-window-le =
         let s = limits c e in
-        mul-le-mul {n₂ = 21} {m₂ = 1000000} (omega arith) (s .window)
+        mul-le-mul {n₂ = 21} {m₂ = maxWindow} (omega arith) (s .window)
 
     pub dividend-le : (f : ℕ) → f ≤ 2 → f * (c .m * c .window) ≤ 42000000
     dividend-le f l = mul-le-mul {n₂ = 2} {m₂ = 21000000} l faults-window-le
 
-    pub quotient-le : (f : ℕ) → f ≤ 2 → ceilDiv (f * (c .m * c .window)) (c .n) ≤ 1000000
+    pub quotient-le : (f : ℕ) → f ≤ 2 → ceilDiv (f * (c .m * c .window)) (c .n) ≤ maxWindow
     quotient-le f l =
         let s = limits c e in
         let b = mul-le-mul-right (c .m) l in
         le-trans (share-le f c (s .someCabinet) (omega arith)) (s .window)
 
-    pub narrowed-passes : (w : ℕ) → w ≤ 1000000 → firstOf (settingsChecks (withWindow c w)) ≡ none
+    pub narrowed-passes : (w : ℕ) → w ≤ maxWindow → firstOf (settingsChecks (withWindow c w)) ≡ none
     narrowed-passes w l = limits-pass (withWindow c w) (passes-window c w (limits c e) l)
 
   pub share-window : {f w : ℕ} → f ≡ cond (eqb (c .rule) 1 && eqb (c .estimator) 1) 1 2

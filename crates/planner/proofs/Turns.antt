@@ -6,8 +6,8 @@ use mathlib.Core.Path.{_≡_, sym, ap, subst, _∙_}
 use Prim.Native.Nat.{ℕ, suc, _≤_, _<_}
 use native.Mathlib.Omega.{arith}
 use Rattle.model.specs.declared.Settings.{Settings}
-use Rattle.model.specs.Planner.{Plan, planFrom, advance, after, windowAfter}
-use Rattle.model.specs.Refusals.{refusal, firstOf, settingsChecks, planChecks}
+use Rattle.model.specs.Planner.{Plan, planFrom, advance, after, windowAfter, maxStepAccuracy}
+use Rattle.model.specs.Refusals.{refusal, firstOf, settingsChecks, planChecks, targetMissedNumber}
 use Rattle.model.specs.Calls.{granted, refused, Target}
 use Rattle.refusal_laws.proofs.Limits.{limits-pass}
 use Rattle.planner_laws.proofs.Checks.{MayStart, MayStep}
@@ -29,7 +29,7 @@ module _ (c : Settings) (κ k : ℕ) {q : Plan} (e : q ≡ after k (planFrom c �
 
   -- the next turn's step is granted
   pub turn-allowed : (j : ℕ) → MayStart c κ j → k < 32
-      → (firstOf (settingsChecks (q .settings)) ≡ none) × ((q .rounds < 32) × (q .accuracy ≤ 1100000000))
+      → (firstOf (settingsChecks (q .settings)) ≡ none) × ((q .rounds < 32) × (q .accuracy ≤ maxStepAccuracy))
   turn-allowed j s l =
       let step = subst MayStep (sym e) (may-step-after (planFrom c κ) k (s .passes) (s .accurate) (omega arith)) in
       (limits-pass (q .settings) (step .passes), (step .early, step .accurate))
@@ -38,7 +38,7 @@ module _ (c : Settings) (κ k : ℕ) {q : Plan} (e : q ≡ after k (planFrom c �
     window-is : q .settings .window ≡ windowAfter k c κ
     window-is = ap (λ (p : Plan). p .settings .window) e
 
-    pub turn-missed : 32 ≤ k → target < q .settings .window → Target c κ target (refused (refusal 12 0))
+    pub turn-missed : 32 ≤ k → target < q .settings .window → Target c κ target (refused (refusal targetMissedNumber 0))
     turn-missed h m =
         let last : k ≡ 32 = omega arith in
         let window = window-is ∙ ap (λ (j : ℕ). windowAfter j c κ) last in

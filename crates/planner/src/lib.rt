@@ -4,14 +4,23 @@ ghost use mathlib.Core.Bool.{cond, _&&_, _||_};
 ghost use mathlib.Core.Option.{none};
 ghost use Prim.Native.Nat.{_*_, _≤_, _<_};
 ghost use lib.Dec.{eqb, leb, ltb};
-ghost use Rattle.model.specs.Planner.{ceilDiv, nextWindow, withWindow, planFrom, advance, after};
+ghost use Rattle.model.specs.Planner.{ceilDiv, nextWindow, withWindow, planFrom, advance, after, maxAccuracy};
 ghost use Rattle.model.specs.Refusals.{orNext, badPlan, firstOf, settingsChecks, planningChecks, planChecks};
 ghost use Rattle.model.specs.Calls.{plan, step, Target};
+ghost use Rattle.model.specs.Ensemble.{maxWindow};
+ghost use Rattle.model.specs.Planner.{maxStepAccuracy};
 ghost use Rattle.settings_checks.specs.Answers.{checkOf};
 ghost use Rattle.planner.specs.Answers.{planOf, plannedOf, countedOf};
-use settings_checks::Screened;
+use model::BAD_PLAN;
+use model::CCA;
+use model::MAX_ACCURACY;
+use model::MAX_ROUNDS;
+use model::MAX_STEP_ACCURACY;
+use model::MEDIAN;
 use model::Refusal;
 use model::Settings;
+use model::TARGET_MISSED;
+use settings_checks::Screened;
 
 // The settings with the next round's window, the accuracy planned by then, the rounds done. Any contents may stand
 // here.
@@ -34,15 +43,15 @@ pub enum Counted {
 }
 
 fn bad_start(accuracy: u32, rounds: u32) -> bool
-    ensures { λ r. ⌜ r ≡ (ltb 1000000000 accuracy || ltb 32 rounds) ⌝ }
+    ensures { λ r. ⌜ r ≡ (ltb maxAccuracy accuracy || ltb 32 rounds) ⌝ }
 {
-    (1_000_000_000 < accuracy) | (32 < rounds)
+    (MAX_ACCURACY < accuracy) | (MAX_ROUNDS < rounds)
 }
 
 fn bad_step(rounds: u32, accuracy: u32) -> bool
-    ensures { λ r. ⌜ r ≡ (leb 32 rounds || ltb 1100000000 accuracy) ⌝ }
+    ensures { λ r. ⌜ r ≡ (leb 32 rounds || ltb maxStepAccuracy accuracy) ⌝ }
 {
-    (32 <= rounds) | (1_100_000_000 < accuracy)
+    (MAX_ROUNDS <= rounds) | (MAX_STEP_ACCURACY < accuracy)
 }
 
 // Check 11.
@@ -51,7 +60,7 @@ fn check_plan(fails: bool) -> Screened
 {
     if fails {
         Screened::Refused(Refusal {
-            number: 11,
+            number: BAD_PLAN,
             place: 0,
         })
     } else {
@@ -81,13 +90,17 @@ fn check_all(settings: Settings, fails: bool) -> Screened
 fn window_factor(rule: u8, estimator: u8) -> u32
     ensures { λ r. ⌜ (r ≡ cond (eqb rule 1 && eqb estimator 1) 1 2) × (r ≤ 2) ⌝ }
 {
-    if (rule == 1) & (estimator == 1) { 1 } else { 2 }
+    if (rule == CCA) & (estimator == MEDIAN) {
+        1
+    } else {
+        2
+    }
 }
 
 // ⌈factor × m × window / N⌉
 fn share(settings: Settings, factor: u32) -> u32
     requires { ⌜ (firstOf (settingsChecks settings) ≡ none) × (factor ≤ 2) ⌝ }
-    ensures { λ r. ⌜ (r ≡ ceilDiv (factor * (settings .m * settings .window)) (settings .n)) × (r ≤ 1000000) ⌝ }
+    ensures { λ r. ⌜ (r ≡ ceilDiv (factor * (settings .m * settings .window)) (settings .n)) × (r ≤ maxWindow) ⌝ }
 {
     let n = settings.n as u32;
     let product = factor * ((settings.m as u32) * settings.window);
@@ -108,7 +121,7 @@ fn narrowed(settings: Settings) -> Settings
 // The plan one round on.
 fn advance(current: Plan) -> Plan
     requires { ⌜ firstOf (settingsChecks (current .settings)) ≡ none ⌝ }
-    requires { ⌜ (current .rounds < 32) × (current .accuracy ≤ 1100000000) ⌝ }
+    requires { ⌜ (current .rounds < 32) × (current .accuracy ≤ maxStepAccuracy) ⌝ }
     ensures { λ r. ⌜ planOf r ≡ advance (planOf current) ⌝ }
 {
     let settings = current.settings;
@@ -175,9 +188,9 @@ fn reach(start: Plan, target: u32) -> Counted
     let mut reached = start;
     let mut k: u32 = 0;
     'rounds: while target < reached.settings.window {
-        if 32 <= k {
+        if MAX_ROUNDS <= k {
             return Counted::Refused(Refusal {
-                number: 12,
+                number: TARGET_MISSED,
                 place: 0,
             });
         }

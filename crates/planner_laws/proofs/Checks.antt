@@ -9,7 +9,7 @@ use lib.Dec.{ltb, leb}
 use borrow.Author.Tests.{ltb-false, leb-false, le-ltb, lt-leb}
 use Rattle.arithmetic.proofs.Bools.{or-false, or-left, or-right}
 use Rattle.model.specs.declared.Settings.{Settings}
-use Rattle.model.specs.Planner.{Plan}
+use Rattle.model.specs.Planner.{Plan, maxAccuracy, maxStepAccuracy}
 use Rattle.model.specs.Refusals.{firstOf, settingsChecks, planChecks, stepChecks, badPlan}
 use Rattle.refusal_laws.proofs.Checks.{first-snoc, none-at, none-left, none-right, when-none}
 use Rattle.refusal_laws.proofs.Limits.{Limits, limits, limits-pass}
@@ -28,42 +28,42 @@ module _ (c : Settings) (fails : Bool) where
 -- a start that the planner grants for k rounds
 pub record MayStart (c : Settings) (κ k : ℕ) : Type 0 where
   pub passes : Limits c
-  pub accurate : κ ≤ 1000000000
+  pub accurate : κ ≤ maxAccuracy
   pub few : k ≤ 32
 
 module _ (c : Settings) (κ k : ℕ) where
   pub none-may-start : firstOf (planChecks c κ k) ≡ none → MayStart c κ k
   unfolding planChecks
   none-may-start e =
-      let parts = none-eleven c (ltb 1000000000 κ || ltb 32 k) e in
+      let parts = none-eleven c (ltb maxAccuracy κ || ltb 32 k) e in
       record {
         passes = parts .0;
-        accurate = ltb-false 1000000000 κ (or-left (ltb 1000000000 κ) (ltb 32 k) (parts .1));
-        few = ltb-false 32 k (or-right (ltb 1000000000 κ) (ltb 32 k) (parts .1));
+        accurate = ltb-false maxAccuracy κ (or-left (ltb maxAccuracy κ) (ltb 32 k) (parts .1));
+        few = ltb-false 32 k (or-right (ltb maxAccuracy κ) (ltb 32 k) (parts .1));
       }
 
   pub may-start-none : MayStart c κ k → firstOf (planChecks c κ k) ≡ none
   unfolding planChecks
-  may-start-none s = eleven-none c _ (s .passes) (or-false (le-ltb 1000000000 κ (s .accurate)) (le-ltb 32 k (s .few)))
+  may-start-none s = eleven-none c _ (s .passes) (or-false (le-ltb maxAccuracy κ (s .accurate)) (le-ltb 32 k (s .few)))
 
 -- a plan whose step is granted
 pub record MayStep (p : Plan) : Type 0 where
   pub passes : Limits (p .settings)
   pub early : p .rounds < 32
-  pub accurate : p .accuracy ≤ 1100000000
+  pub accurate : p .accuracy ≤ maxStepAccuracy
 
 module _ (p : Plan) where
   pub none-may-step : firstOf (stepChecks p) ≡ none → MayStep p
   unfolding stepChecks
   none-may-step e =
-      let parts = none-eleven (p .settings) (leb 32 (p .rounds) || ltb 1100000000 (p .accuracy)) e in
+      let parts = none-eleven (p .settings) (leb 32 (p .rounds) || ltb maxStepAccuracy (p .accuracy)) e in
       record {
         passes = parts .0;
-        early = leb-false 32 (p .rounds) (or-left (leb 32 (p .rounds)) (ltb 1100000000 (p .accuracy)) (parts .1));
-        accurate = ltb-false 1100000000 (p .accuracy) (or-right (leb 32 (p .rounds)) (ltb 1100000000 (p .accuracy)) (parts .1));
+        early = leb-false 32 (p .rounds) (or-left (leb 32 (p .rounds)) (ltb maxStepAccuracy (p .accuracy)) (parts .1));
+        accurate = ltb-false maxStepAccuracy (p .accuracy) (or-right (leb 32 (p .rounds)) (ltb maxStepAccuracy (p .accuracy)) (parts .1));
       }
 
   pub may-step-none : MayStep p → firstOf (stepChecks p) ≡ none
   unfolding stepChecks
   may-step-none s =
-      eleven-none (p .settings) _ (s .passes) (or-false (lt-leb 32 (p .rounds) (s .early)) (le-ltb 1100000000 (p .accuracy) (s .accurate)))
+      eleven-none (p .settings) _ (s .passes) (or-false (lt-leb 32 (p .rounds) (s .early)) (le-ltb maxStepAccuracy (p .accuracy) (s .accurate)))

@@ -7,7 +7,7 @@ use borrow.Author.Tests.{le-ltb}
 use native.Mathlib.Omega.{arith}
 use Rattle.model.specs.declared.Settings.{Settings}
 use Rattle.model.specs.declared.Refusal.{Refusal}
-use Rattle.model.specs.Planner.{Plan, planFrom, advance, after}
+use Rattle.model.specs.Planner.{Plan, planFrom, advance, after, maxAccuracy}
 use Rattle.model.specs.Refusals.{Check, firstOf, planChecks, stepChecks}
 use Rattle.model.specs.Calls.{granted, refused, verdict, plan, step}
 use Rattle.planner_laws.specs.Stepping.{thenStep, steps}
@@ -23,7 +23,7 @@ unfolding planChecks
 plan-checks-rounds c κ k l = rw (le-ltb 32 k l)
 
 -- an accuracy that may start allows every step within 32 rounds
-pub may-step-after : (p : Plan) (k : ℕ) → Limits (p .settings) → p .accuracy ≤ 1000000000 → p .rounds + k < 32
+pub may-step-after : (p : Plan) (k : ℕ) → Limits (p .settings) → p .accuracy ≤ maxAccuracy → p .rounds + k < 32
     → MayStep (after k p)
 may-step-after p k s h l =
     let r = rounds-after k p in

@@ -11,9 +11,10 @@ use borrow.Author.Tests.{lt-ltb, le-ltb}
 use native.Mathlib.Nat.{le-trans}
 use Rattle.model.specs.declared.Settings.{Settings}
 use Rattle.model.specs.declared.Refusal.{Refusal}
-use Rattle.model.specs.Planner.{planFrom, windowAfter}
+use Rattle.model.specs.Planner.{planFrom, windowAfter, maxAccuracy}
 use Rattle.model.specs.Refusals.{Check, orNext, refusal, firstOf, settingsChecks, planChecks, targetChecks, targetMissed}
 use Rattle.model.specs.Calls.{granted, refused, Target}
+use Rattle.model.specs.Refusals.{targetMissedNumber}
 use Rattle.refusal_laws.proofs.Checks.{first-snoc}
 use Rattle.planner_laws.proofs.Checks.{none-may-start}
 use Rattle.planner_laws.proofs.Windows.{window-after-mono}
@@ -26,7 +27,7 @@ module _ (c : Settings) (κ target : ℕ) where
   -- the checks of a start for 0 rounds, and then check 12
   pub target-checks : planChecks c κ 0 ++ (targetMissed (windowAfter 32 c κ) target ∷ []) ≡ targetChecks c κ target
   unfolding planChecks targetChecks
-  target-checks = append-assoc (settingsChecks c) _ _ ∙ (rw (or-none (ltb 1000000000 κ)))
+  target-checks = append-assoc (settingsChecks c) _ _ ∙ (rw (or-none (ltb maxAccuracy κ)))
 
   by-check : {check : Check} → firstOf (planChecks c κ 0) ≡ check
       → firstOf (targetChecks c κ target) ≡ orNext check (targetMissed (windowAfter 32 c κ) target)
@@ -39,7 +40,7 @@ module _ (c : Settings) (κ target : ℕ) where
   start-refuses-target e = by-check e
 
   module _ (e : firstOf (planChecks c κ 0) ≡ none) where
-    pub target-missed : target < windowAfter 32 c κ → Target c κ target (refused (refusal 12 0))
+    pub target-missed : target < windowAfter 32 c κ → Target c κ target (refused (refusal targetMissedNumber 0))
     unfolding targetMissed
     target-missed l = by-check e ∙ (rw (lt-ltb target (windowAfter 32 c κ) l))
 

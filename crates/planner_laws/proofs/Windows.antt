@@ -8,6 +8,7 @@ use native.Mathlib.Omega.{arith}
 use lib.Dec.{eqb}
 use Rattle.model.specs.declared.Settings.{Settings}
 use Rattle.model.specs.Planner.{Plan, ceilDiv, windowFactor, nextWindow, growth, withWindow, advance, after}
+use Rattle.model.specs.Ensemble.{maxWindow}
 use Rattle.planner_laws.proofs.Ceiling.{ceil-div-least}
 use Rattle.refusal_laws.proofs.Limits.{Limits}
 use Rattle.planner_laws.proofs.Rounds.{after-add}
@@ -43,7 +44,7 @@ growth-le c s =
     omega arith
 
 -- settings pass with any window that does
-pub passes-window : (c : Settings) (w : ℕ) → Limits c → w ≤ 1000000 → Limits (withWindow c w)
+pub passes-window : (c : Settings) (w : ℕ) → Limits c → w ≤ maxWindow → Limits (withWindow c w)
 passes-window c w s l =
     record {
       someCabinet = s .someCabinet;
@@ -84,13 +85,13 @@ window-after-mono j k p s l =
 
 -- ---- the accuracy grows each round by at most the widest window
 
-accuracy-advance-le : (p : Plan) → Limits (p .settings) → advance p .accuracy ≤ p .accuracy + 1000000
+accuracy-advance-le : (p : Plan) → Limits (p .settings) → advance p .accuracy ≤ p .accuracy + maxWindow
 unfolding advance
 accuracy-advance-le p s =
     let g = growth-le (p .settings) s in
     omega arith
 
-pub accuracy-after-le : (k : ℕ) (p : Plan) → Limits (p .settings) → after k p .accuracy ≤ p .accuracy + k * 1000000
+pub accuracy-after-le : (k : ℕ) (p : Plan) → Limits (p .settings) → after k p .accuracy ≤ p .accuracy + k * maxWindow
 unfolding after
 accuracy-after-le zero p s = omega arith
 accuracy-after-le (suc k) p s =

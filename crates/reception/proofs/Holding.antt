@@ -9,6 +9,7 @@ use lib.Dec.{eqb}
 use lib.IntN.{ℤ}
 use mir.Syntax.{w32}
 use mir.Val.{toZ}
+use Rattle.arithmetic.specs.Words.{twoTo31, twoTo32}
 use Rattle.model.specs.declared.Settings.{Settings}
 use Rattle.model.specs.Ensemble.{Reading, missing, present, quorum}
 use Rattle.model.specs.RoundSheet.{cca, byte, markAt, bitsAt, entryCount, entryAt, headerSize}
@@ -23,8 +24,8 @@ use Rattle.agreement.proofs.Biasing.{wrapped-up}
 abbrev pub Kept : Reading → Type 0
 Kept z = readingOf (heldOf z) ≡ z
 
-bits-kept : (x : ℕ) → x < 4294967296 → Kept (present (toZ w32 x))
-bits-kept x h = subst (λ z. Kept (present z)) (sym (wrapped-up x h)) (reading-held ((x + 2147483648) % 4294967296) (omega arith))
+bits-kept : (x : ℕ) → x < twoTo32 → Kept (present (toZ w32 x))
+bits-kept x h = subst (λ z. Kept (present z)) (sym (wrapped-up x h)) (reading-held ((x + twoTo31) % twoTo32) (omega arith))
 
 -- a reading is kept where it is kept if it is present
 reading-kept : (z : Reading) → ((a : ℤ) → z ≡ present a → Kept (present a)) → Kept z

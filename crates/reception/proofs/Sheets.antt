@@ -18,8 +18,8 @@ use Rattle.arithmetic.proofs.Writing.{length-table, overwrite-whole, table-ext}
 use Rattle.decision_laws.proofs.Decision.{decide-ext}
 use Rattle.decision_laws.proofs.Rows.{read-direct, read-decided}
 use Rattle.model.specs.declared.Settings.{Settings}
-use Rattle.model.specs.Ensemble.{missing, present}
-use Rattle.model.specs.RoundSheet.{cca, byte, word, entryCount, entryAt, rowEntries, rowPart}
+use Rattle.model.specs.Ensemble.{missing, present, maxCabinets}
+use Rattle.model.specs.RoundSheet.{cca, byte, word, entryCount, entryAt, rowEntries, rowPart, headerSize}
 use Rattle.model.specs.Steps.{decidedReading, decideRow, readingsOf}
 use Rattle.sheet_laws.proofs.Words.{word-ext}
 use Rattle.round_laws.specs.Held.{heldOf}
@@ -48,15 +48,15 @@ length-part s j k h = length-take-le k (drop j s) (rw (length-drop j s) (omega a
 cut : (a k : ℕ) → a + k - a ≡ k
 cut a k = omega arith
 
-pub marks-long : (s : List ℕ) (n : ℕ) → 8 + n ≤ length s → length (take (8 + n - 8) (drop 8 s)) ≡ n
+pub marks-long : (s : List ℕ) (n : ℕ) → headerSize + n ≤ length s → length (take (headerSize + n - 8) (drop 8 s)) ≡ n
 marks-long s n h = rw (cut 8 n) (length-part s 8 n h)
 
 -- four bytes for each mark
-pub row-long : (s : List ℕ) (n : ℕ) → 8 + n + 4 * n ≤ length s → length (take (8 + n + 4 * n - (8 + n)) (drop (8 + n) s)) ≡ 4 * length (take (8 + n - 8) (drop 8 s))
-row-long s n h = rw (cut (8 + n) (4 * n), marks-long s n (omega arith)) (length-part s (8 + n) (4 * n) h)
+pub row-long : (s : List ℕ) (n : ℕ) → headerSize + n + 4 * n ≤ length s → length (take (headerSize + n + 4 * n - (headerSize + n)) (drop (headerSize + n) s)) ≡ 4 * length (take (headerSize + n - 8) (drop 8 s))
+row-long s n h = rw (cut (headerSize + n) (4 * n), marks-long s n (omega arith)) (length-part s (headerSize + n) (4 * n) h)
 
 -- entry e of a sheet, from a part of the marks and a part of the readings
-entry-part : (s : List ℕ) (E j k i l e t : ℕ) → t < k → 4 * t + 4 ≤ l → 8 + e ≡ j + t → 8 + E + 4 * e ≡ i + 4 * t → entryAt s E e ≡ copyAt (take k (drop j s)) (take l (drop i s)) t
+entry-part : (s : List ℕ) (E j k i l e t : ℕ) → t < k → 4 * t + 4 ≤ l → headerSize + e ≡ j + t → headerSize + E + 4 * e ≡ i + 4 * t → entryAt s E e ≡ copyAt (take k (drop j s)) (take l (drop i s)) t
 unfolding entryAt
 entry-part s E j k i l e t ht hl a b =
     ap₂ (λ (mark bits : ℕ). cond (eqb mark 1) (present (toZ w32 bits)) missing)
@@ -64,10 +64,10 @@ entry-part s E j k i l e t ht hl a b =
     (ap (word s) b ∙ sym (word-part s i l (4 * t) hl))
 
 -- a row that fits is decided
-row-fit : (need n : ℕ) (marks row : List ℕ) → length marks ≡ n → length row ≡ 4 * n → n ≤ 64 → n / 2 < need → rowDecision need marks row ≡ decideRow need n (copyAt marks row)
+row-fit : (need n : ℕ) (marks row : List ℕ) → length marks ≡ n → length row ≡ 4 * n → n ≤ maxCabinets → n / 2 < need → rowDecision need marks row ≡ decideRow need n (copyAt marks row)
 unfolding rowDecision
 row-fit need n marks row a b h most =
-    rw (a, b, le-ltb 64 n h, eq-eqb (4 * n) (4 * n) refl, lt-leb need (n / 2) most)
+    rw (a, b, le-ltb maxCabinets n h, eq-eqb (4 * n) (4 * n) refl, lt-leb need (n / 2) most)
 
 -- a list as long as the table that is stored in it
 stored-whole : (f g : ℕ → ℕ) (n : ℕ) (old : List ℕ) → length old ≡ n → ((r : ℕ) → r < n → f r ≡ g r) → overwrite (table f n) old ≡ table g n
@@ -75,30 +75,30 @@ stored-whole f g n old long e = overwrite-whole (table f n) old (le-of-eq (long 
 
 module _ (s : List ℕ) (c : Settings) (values old : List ℕ) (room : length old ≡ c .n) where
   -- FCA: the marks and the readings as they stand
-  direct-received : eqb (c .rule) cca ≡ false → values ≡ overwrite (table (λ t. heldOf (copyAt (take (c .n) (drop 8 s)) (take (4 * c .n) (drop (8 + c .n) s)) t)) (c .n)) old → values ≡ table (heldAt s c) (c .n)
+  direct-received : eqb (c .rule) cca ≡ false → values ≡ overwrite (table (λ t. heldOf (copyAt (take (c .n) (drop 8 s)) (take (4 * c .n) (drop (headerSize + c .n) s)) t)) (c .n)) old → values ≡ table (heldAt s c) (c .n)
   unfolding entryCount
   direct-received b st =
       st
-      ∙ stored-whole (λ t. heldOf (copyAt (take (c .n) (drop 8 s)) (take (4 * c .n) (drop (8 + c .n) s)) t)) (heldAt s c) (c .n) old room
+      ∙ stored-whole (λ t. heldOf (copyAt (take (c .n) (drop 8 s)) (take (4 * c .n) (drop (headerSize + c .n) s)) t)) (heldAt s c) (c .n) old room
       (λ r l. ap heldOf (sym (copied r l)))
     where
-      copied : (r : ℕ) → r < c .n → readingsOf c (entryAt s (entryCount c)) r ≡ copyAt (take (c .n) (drop 8 s)) (take (4 * c .n) (drop (8 + c .n) s)) r
+      copied : (r : ℕ) → r < c .n → readingsOf c (entryAt s (entryCount c)) r ≡ copyAt (take (c .n) (drop 8 s)) (take (4 * c .n) (drop (headerSize + c .n) s)) r
       copied r l =
           read-direct c (entryAt s (entryCount c)) r b
-          ∙ rw b (entry-part s (c .n) 8 (c .n) (8 + c .n) (4 * c .n) r r l (omega arith) refl refl)
+          ∙ rw b (entry-part s (c .n) 8 (c .n) (headerSize + c .n) (4 * c .n) r r l (omega arith) refl refl)
 
   -- the same, of the parts as the code cuts them
-  pub direct-cut : eqb (c .rule) cca ≡ false → 8 + c .n ≤ length s → values ≡ overwrite (table (λ t. heldOf (copyAt (take (8 + c .n - 8) (drop 8 s)) (take (8 + c .n + 4 * c .n - (8 + c .n)) (drop (8 + c .n) s)) t)) (length (take (8 + c .n - 8) (drop 8 s)))) old → values ≡ table (heldAt s c) (c .n)
+  pub direct-cut : eqb (c .rule) cca ≡ false → headerSize + c .n ≤ length s → values ≡ overwrite (table (λ t. heldOf (copyAt (take (headerSize + c .n - 8) (drop 8 s)) (take (headerSize + c .n + 4 * c .n - (headerSize + c .n)) (drop (headerSize + c .n) s)) t)) (length (take (headerSize + c .n - 8) (drop 8 s)))) old → values ≡ table (heldAt s c) (c .n)
   direct-cut b h st =
-      direct-received b (rw (cut 8 (c .n), cut (8 + c .n) (4 * c .n), length-part s 8 (c .n) h) at st)
+      direct-received b (rw (cut 8 (c .n), cut (headerSize + c .n) (4 * c .n), length-part s 8 (c .n) h) at st)
 
   -- CCA: the row of each cabinet
-  module _ (b : eqb (c .rule) cca ≡ true) (few : 2 * c .m < c .n) (small : c .n ≤ 64) (long : length s ≡ 8 + 5 * (c .n * c .n)) where
-    row-of : (r : ℕ) → r < c .n → partAt s c r ≡ take (4 * c .n) (drop (8 + c .n * c .n + 4 * (r * c .n)) s)
+  module _ (b : eqb (c .rule) cca ≡ true) (few : 2 * c .m < c .n) (small : c .n ≤ maxCabinets) (long : length s ≡ headerSize + 5 * (c .n * c .n)) where
+    row-of : (r : ℕ) → r < c .n → partAt s c r ≡ take (4 * c .n) (drop (headerSize + c .n * c .n + 4 * (r * c .n)) s)
     unfolding partAt rowPart rowEntries entryCount
     row-of r l =
         let room = row-room r (c .n) l in
-        rw (lt-ltb r (c .n) l, b, le-leb (8 + c .n * c .n + 4 * (r * c .n) + 4 * c .n) (length s) (omega arith))
+        rw (lt-ltb r (c .n) l, b, le-leb (headerSize + c .n * c .n + 4 * (r * c .n) + 4 * c .n) (length s) (omega arith))
 
     row-decided : (r : ℕ) → r < c .n → readingsOf c (entryAt s (entryCount c)) r ≡ rowReading s c (c .n - c .m) r
     unfolding entryCount
@@ -108,30 +108,30 @@ module _ (s : List ℕ) (c : Settings) (values old : List ℕ) (room : length ol
         ∙ ap decidedReading
         (ap (λ (E : ℕ). decideRow (c .n - c .m) (c .n) (λ t. entryAt s E (r * c .n + t))) square
         ∙ decide-ext (c .n - c .m) (c .n) (λ t. entryAt s (c .n * c .n) (r * c .n + t)) (copyAt (marks r) (readings r)) (λ t h. copy r t l h)
-        ∙ sym (row-fit (c .n - c .m) (c .n) (marks r) (readings r) (length-part s (8 + r * c .n) (c .n) (omega arith)) (length-part s (8 + c .n * c .n + 4 * (r * c .n)) (4 * c .n) (omega arith)) small (half (c .n) (c .m) few))
+        ∙ sym (row-fit (c .n - c .m) (c .n) (marks r) (readings r) (length-part s (headerSize + r * c .n) (c .n) (omega arith)) (length-part s (headerSize + c .n * c .n + 4 * (r * c .n)) (4 * c .n) (omega arith)) small (half (c .n) (c .m) few))
         ∙ ap (rowDecision (c .n - c .m) (marks r)) (sym (row-of r l)))
       where
         square : entryCount c ≡ c .n * c .n
         square = rw b
 
         marks : ℕ → List ℕ
-        marks r = take (c .n) (drop (8 + r * c .n) s)
+        marks r = take (c .n) (drop (headerSize + r * c .n) s)
 
         readings : ℕ → List ℕ
-        readings r = take (4 * c .n) (drop (8 + c .n * c .n + 4 * (r * c .n)) s)
+        readings r = take (4 * c .n) (drop (headerSize + c .n * c .n + 4 * (r * c .n)) s)
 
         half : (n m : ℕ) → 2 * m < n → n / 2 < n - m
         half n m h = omega arith
 
-        there : (a b t : ℕ) → 8 + (a + t) ≡ 8 + a + t
+        there : (a b t : ℕ) → headerSize + (a + t) ≡ headerSize + a + t
         there a b t = omega arith
 
-        behind : (a b t : ℕ) → 8 + b + 4 * (a + t) ≡ 8 + b + 4 * a + 4 * t
+        behind : (a b t : ℕ) → headerSize + b + 4 * (a + t) ≡ headerSize + b + 4 * a + 4 * t
         behind a b t = omega arith
 
         copy : (r t : ℕ) → r < c .n → t < c .n → entryAt s (c .n * c .n) (r * c .n + t) ≡ copyAt (marks r) (readings r) t
         copy r t l h =
-            entry-part s (c .n * c .n) (8 + r * c .n) (c .n) (8 + c .n * c .n + 4 * (r * c .n)) (4 * c .n) (r * c .n + t) t h (omega arith)
+            entry-part s (c .n * c .n) (headerSize + r * c .n) (c .n) (headerSize + c .n * c .n + 4 * (r * c .n)) (4 * c .n) (r * c .n + t) t h (omega arith)
             (there (r * c .n) (c .n * c .n) t)
             (behind (r * c .n) (c .n * c .n) t)
 
@@ -143,21 +143,21 @@ module _ (s : List ℕ) (c : Settings) (values old : List ℕ) (room : length ol
 -- ---- sizes that fit
 
 pub record Fit (c : Settings) (sheet values : ℕ) : Type 0 where
-  pub small : c .n ≤ 64
+  pub small : c .n ≤ maxCabinets
   pub few : 2 * c .m < c .n
-  pub long : sheet ≡ 8 + 5 * entryCount c
+  pub long : sheet ≡ headerSize + 5 * entryCount c
   pub room : values ≡ c .n
 
 pub fit : (c : Settings) (sheet values : ℕ) → fitting c sheet values ≡ true → Fit c sheet values
 unfolding fitting
 fit c sheet values e =
     let a = and-left (leb (c .n) 64 && ltb (2 * c .m) (c .n)) _ e in
-    let b = and-right (leb (c .n) 64 && ltb (2 * c .m) (c .n)) (eqb sheet (8 + 5 * entryCount c) && eqb values (c .n)) e in
+    let b = and-right (leb (c .n) 64 && ltb (2 * c .m) (c .n)) (eqb sheet (headerSize + 5 * entryCount c) && eqb values (c .n)) e in
     record {
       small = leb-true (c .n) 64 (and-left (leb (c .n) 64) _ a);
       few = ltb-true (2 * c .m) (c .n) (and-right (leb (c .n) 64) (ltb (2 * c .m) (c .n)) a);
-      long = eqb-true sheet (8 + 5 * entryCount c) (and-left (eqb sheet (8 + 5 * entryCount c)) _ b);
-      room = eqb-true values (c .n) (and-right (eqb sheet (8 + 5 * entryCount c)) (eqb values (c .n)) b);
+      long = eqb-true sheet (headerSize + 5 * entryCount c) (and-left (eqb sheet (headerSize + 5 * entryCount c)) _ b);
+      room = eqb-true values (c .n) (and-right (eqb sheet (headerSize + 5 * entryCount c)) (eqb values (c .n)) b);
     }
 
 -- what is left in the list, by what the sizes are

@@ -3,6 +3,7 @@
 use Prim.Native.Nat.{ℕ, suc, _+_, _*_, _≤_, _<_}
 use native.Mathlib.Nat.{mul-le-mul, mul-le-mul-right, suc-mul}
 use native.Mathlib.Omega.{arith}
+use Rattle.model.specs.Ensemble.{maxCabinets}
 
 -- row r of n lies in the square
 pub row-room : (r n : ℕ) → r < n → r * n + n ≤ n * n
@@ -11,5 +12,5 @@ row-room r n h =
     let e = suc-mul r n in
     omega arith
 
-pub square-most : (n : ℕ) → n ≤ 64 → n * n ≤ 4096
+pub square-most : (n : ℕ) → n ≤ maxCabinets → n * n ≤ 4096
 square-most n h = mul-le-mul h h

@@ -12,7 +12,7 @@ use lib.ListN.{length, take, drop}
 use Rattle.arithmetic.specs.Writing.{table}
 use Rattle.model.specs.declared.Settings.{Settings}
 use Rattle.model.specs.Ensemble.{Reading}
-use Rattle.model.specs.RoundSheet.{entryCount, entryAt, sheetLength}
+use Rattle.model.specs.RoundSheet.{entryCount, entryAt, sheetLength, headerSize}
 use Rattle.model.specs.Steps.{decidedReading, readingsOf}
 use Rattle.round_laws.specs.Held.{heldOf}
 use Rattle.decisions.specs.Rows.{rowDecision}
@@ -31,4 +31,4 @@ unfoldable pub receivedOf : List ℕ → Settings → List ℕ → List ℕ
 receivedOf s c old = cond (fitting c (length s) (length old)) (table (heldAt s c) (c .n)) old
 
 abbrev pub rowReading : List ℕ → Settings → ℕ → ℕ → Reading
-rowReading s c need r = decidedReading (rowDecision need (take (c .n) (drop (8 + r * c .n) s)) (partAt s c r))
+rowReading s c need r = decidedReading (rowDecision need (take (c .n) (drop (headerSize + r * c .n) s)) (partAt s c r))

@@ -4,15 +4,19 @@ ghost use Prim.Native.Nat.{_+_, _*_, _≤_, _<_};
 ghost use lib.ListN.{length};
 ghost use Rattle.arithmetic.specs.Writing.{table, overwrite};
 ghost use Rattle.model.specs.Steps.{decidedReading};
+ghost use Rattle.model.specs.Ensemble.{maxCabinets};
+ghost use Rattle.model.specs.RoundSheet.{headerSize};
 ghost use Rattle.round_laws.specs.Held.{heldOf};
 ghost use Rattle.decisions.specs.Rows.{copyAt, rowDecision};
 ghost use Rattle.reception.specs.Receiving.{rowReading, fitting, receivedOf};
 use decisions::Decided;
+use model::CCA;
+use model::HEADER_SIZE;
 use model::Settings;
 
 // The readings as sent: their marks, and four bytes each.
 fn receive_direct(marks: &[u8], row: &[u8], values: &mut [u64])
-    requires { ⌜ (length (now marks) ≤ length (now values)) × (length (now marks) ≤ 64) × (length (now row) ≡ 4 * length (now marks)) ⌝ }
+    requires { ⌜ (length (now marks) ≤ length (now values)) × (length (now marks) ≤ maxCabinets) × (length (now row) ≡ 4 * length (now marks)) ⌝ }
     ensures { λ _. ⌜ now (values .exit) ≡ overwrite (table (λ t. heldOf (copyAt (now (marks .entry)) (now (row .entry)) t)) (length (now (marks .entry)))) (now (values .entry)) ⌝ }
 {
     let mut t: usize = 0;
@@ -36,13 +40,13 @@ fn receive_row(marks: &[u8], row: &[u8], need: u32) -> u64
 
 // The readings as decided, a row for each cabinet.
 fn receive_relayed(sheet: &[u8], settings: Settings, need: u32, values: &mut [u64])
-    requires { ⌜ (settings .n ≤ 64) × (8 + settings .n * settings .n ≤ length (now sheet)) × (settings .n ≤ length (now values)) ⌝ }
+    requires { ⌜ (settings .n ≤ maxCabinets) × (headerSize + settings .n * settings .n ≤ length (now sheet)) × (settings .n ≤ length (now values)) ⌝ }
     ensures { λ _. ⌜ now (values .exit) ≡ overwrite (table (λ r. heldOf (rowReading (now (sheet .entry)) settings need r)) (settings .n)) (now (values .entry)) ⌝ }
 {
     let n = settings.n as usize;
     let mut r: usize = 0;
     'rows: while r < n {
-        let start = 8 + r * n;
+        let start = HEADER_SIZE + r * n;
         values[r] = receive_row(
             &sheet[start..start + n],
             rows::row_part(sheet, settings, r),
@@ -59,7 +63,7 @@ fn fits(settings: Settings, sheet: usize, values: usize) -> bool
     let n = settings.n as usize;
     let m = settings.m as usize;
     ((n <= 64) & (2 * m < n))
-        & ((sheet == 8 + 5 * sheet_checks::entry_count(settings)) & (values == n))
+        & ((sheet == HEADER_SIZE + 5 * sheet_checks::entry_count(settings)) & (values == n))
 }
 
 // Fills the list with the sheet's readings. Where the sizes do not fit it changes nothing, and answers false.
@@ -71,12 +75,12 @@ pub fn receive(sheet: &[u8], settings: Settings, values: &mut [u64]) -> bool
     if !fits(settings, sheet.len(), values.len()) {
         return false;
     }
-    if settings.rule == 1 {
+    if settings.rule == CCA {
         let need = settings.n - settings.m;
         receive_relayed(sheet, settings, need as u32, values);
     } else {
-        let end = 8 + n;
-        receive_direct(&sheet[8..end], &sheet[end..end + 4 * n], values);
+        let end = HEADER_SIZE + n;
+        receive_direct(&sheet[HEADER_SIZE..end], &sheet[end..end + 4 * n], values);
     }
     true
 }

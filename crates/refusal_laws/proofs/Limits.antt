@@ -12,48 +12,49 @@ use Rattle.arithmetic.proofs.Bools.{or-left, or-right}
 use Rattle.model.specs.declared.Settings.{Settings}
 use Rattle.model.specs.RoundSheet.{entryCount}
 use Rattle.model.specs.Refusals.{firstOf, settingsChecks, badCabinets, badFaults, badMethod, badWindow}
+use Rattle.model.specs.Ensemble.{maxCabinets, maxWindow}
 use Rattle.refusal_laws.proofs.Checks.{none-at, when-none}
 
 -- settings within document 01's limits
 pub record Limits (c : Settings) : Type 0 where
   pub someCabinet : 1 ≤ c .n
-  pub cabinets : c .n ≤ 64
+  pub cabinets : c .n ≤ maxCabinets
   pub faults : 3 * c .m + 1 ≤ c .n
   pub rule : c .rule ≤ 1
   pub estimator : c .estimator ≤ 2
-  pub window : c .window ≤ 1_000_000
+  pub window : c .window ≤ maxWindow
 
 module _ (c : Settings) where
   pub limits : firstOf (settingsChecks c) ≡ none → Limits c
   unfolding settingsChecks badCabinets badFaults badMethod badWindow
   limits h =
-      let cabinets = when-none (eqb (c .n) 0 || ltb 64 (c .n)) 2 (none-at (settingsChecks c) h 0) in
+      let cabinets = when-none (eqb (c .n) 0 || ltb maxCabinets (c .n)) 2 (none-at (settingsChecks c) h 0) in
       let faults = when-none (ltb (c .n) (3 * c .m + 1)) 3 (none-at (settingsChecks c) h 1) in
       let method = when-none (ltb 1 (c .rule) || ltb 2 (c .estimator)) 4 (none-at (settingsChecks c) h 2) in
-      let window = when-none (ltb 1_000_000 (c .window)) 5 (none-at (settingsChecks c) h 3) in
+      let window = when-none (ltb maxWindow (c .window)) 5 (none-at (settingsChecks c) h 3) in
       let three : 3 * c .m + 1 ≤ c .n = ltb-false (c .n) (3 * c .m + 1) faults in
       record {
         someCabinet = omega arith;
-        cabinets = ltb-false 64 (c .n) (or-right (eqb (c .n) 0) (ltb 64 (c .n)) cabinets);
+        cabinets = ltb-false 64 (c .n) (or-right (eqb (c .n) 0) (ltb maxCabinets (c .n)) cabinets);
         faults = three;
         rule = ltb-false 1 (c .rule) (or-left (ltb 1 (c .rule)) (ltb 2 (c .estimator)) method);
         estimator = ltb-false 2 (c .estimator) (or-right (ltb 1 (c .rule)) (ltb 2 (c .estimator)) method);
-        window = ltb-false 1_000_000 (c .window) window;
+        window = ltb-false maxWindow (c .window) window;
       }
 
   pub limits-pass : Limits c → firstOf (settingsChecks c) ≡ none
   unfolding firstOf settingsChecks badCabinets badFaults badMethod badWindow
   limits-pass l =
       let some-cabinet : eqb (c .n) 0 ≡ false = ne-eqb (c .n) 0 (λ e. let s = l .someCabinet in omega arith) in
-      let cabinets : ltb 64 (c .n) ≡ false = le-ltb 64 (c .n) (l .cabinets) in
+      let cabinets : ltb maxCabinets (c .n) ≡ false = le-ltb maxCabinets (c .n) (l .cabinets) in
       let faults : ltb (c .n) (3 * c .m + 1) ≡ false = le-ltb (c .n) (3 * c .m + 1) (l .faults) in
       let rule : ltb 1 (c .rule) ≡ false = le-ltb 1 (c .rule) (l .rule) in
       let estimator : ltb 2 (c .estimator) ≡ false = le-ltb 2 (c .estimator) (l .estimator) in
-      let window : ltb 1_000_000 (c .window) ≡ false = le-ltb 1_000_000 (c .window) (l .window) in
+      let window : ltb maxWindow (c .window) ≡ false = le-ltb maxWindow (c .window) (l .window) in
       rw (some-cabinet, cabinets, faults, rule, estimator, window)
 
   -- at most 64 × 64 entries
-  pub entries-most : c .n ≤ 64 → entryCount c ≤ 4096
+  pub entries-most : c .n ≤ maxCabinets → entryCount c ≤ 4096
   unfolding entryCount
   entries-most h = go (eqb (c .rule) 1)
     where

@@ -2,4 +2,3 @@ pub mod Shifted
 pub mod Local
 pub mod Represent
 pub mod Natural
-pub mod Held

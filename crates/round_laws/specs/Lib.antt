@@ -1,2 +1,1 @@
 pub mod Naturals
-pub mod Held

@@ -2,13 +2,15 @@
 ghost use mathlib.Core.Path.{_≡_};
 ghost use Rattle.model.specs.RoundSheet.{rowEntries};
 ghost use Rattle.rows.specs.Parts.{partAt};
+use model::CCA;
+use model::HEADER_SIZE;
 use model::Settings;
 
 // The readings in a row: one for FCA, N for CCA.
 pub fn row_entries(settings: Settings) -> usize
     ensures { λ r. ⌜ r ≡ rowEntries settings ⌝ }
 {
-    if settings.rule == 1 {
+    if settings.rule == CCA {
         settings.n as usize
     } else {
         1
@@ -24,7 +26,7 @@ pub fn row_part(sheet: &[u8], settings: Settings, r: usize) -> &[u8]
         return &sheet[..0];
     }
     let width = row_entries(settings);
-    let start = 8 + sheet_checks::entry_count(settings) + 4 * (r * width);
+    let start = HEADER_SIZE + sheet_checks::entry_count(settings) + 4 * (r * width);
     let end = start + 4 * width;
     if sheet.len() < end {
         return &sheet[..0];

@@ -4,7 +4,16 @@ ghost use mathlib.Core.Bool.{true, _||_};
 ghost use Prim.Native.Nat.{_+_, _*_};
 ghost use lib.Dec.{eqb, ltb};
 ghost use Rattle.model.specs.Refusals.{refuseIf, firstOf, settingsChecks};
+ghost use Rattle.model.specs.Ensemble.{maxCabinets, maxWindow};
 ghost use Rattle.settings_checks.specs.Answers.{checkOf};
+use model::BAD_CABINETS;
+use model::BAD_FAULTS;
+use model::BAD_METHOD;
+use model::BAD_WINDOW;
+use model::CCA;
+use model::MAX_CABINETS;
+use model::MAX_WINDOW;
+use model::MIDPOINT;
 use model::Refusal;
 use model::Settings;
 
@@ -15,9 +24,9 @@ pub enum Screened {
 }
 
 fn bad_cabinets(n: u8) -> bool
-    ensures { λ r. ⌜ r ≡ (eqb n 0 || ltb 64 n) ⌝ }
+    ensures { λ r. ⌜ r ≡ (eqb n 0 || ltb maxCabinets n) ⌝ }
 {
-    (n == 0) | (64 < n)
+    (n == 0) | (MAX_CABINETS < n)
 }
 
 fn bad_faults(n: u8, m: u8) -> bool
@@ -29,13 +38,13 @@ fn bad_faults(n: u8, m: u8) -> bool
 fn bad_method(rule: u8, estimator: u8) -> bool
     ensures { λ r. ⌜ r ≡ (ltb 1 rule || ltb 2 estimator) ⌝ }
 {
-    (1 < rule) | (2 < estimator)
+    (CCA < rule) | (MIDPOINT < estimator)
 }
 
 fn bad_window(window: u32) -> bool
-    ensures { λ r. ⌜ r ≡ ltb 1000000 window ⌝ }
+    ensures { λ r. ⌜ r ≡ ltb maxWindow window ⌝ }
 {
-    1_000_000 < window
+    MAX_WINDOW < window
 }
 
 fn refused(number: u8) -> Screened
@@ -49,16 +58,16 @@ pub fn screen(settings: Settings) -> Screened
     ensures { λ r. ⌜ checkOf r ≡ firstOf (settingsChecks settings) ⌝ }
 {
     if bad_cabinets(settings.n) {
-        return refused(2);
+        return refused(BAD_CABINETS);
     }
     if bad_faults(settings.n, settings.m) {
-        return refused(3);
+        return refused(BAD_FAULTS);
     }
     if bad_method(settings.rule, settings.estimator) {
-        return refused(4);
+        return refused(BAD_METHOD);
     }
     if bad_window(settings.window) {
-        return refused(5);
+        return refused(BAD_WINDOW);
     }
     Screened::Passed
 }

@@ -1,6 +1,7 @@
 // Prints what settling answers to the vectors of the file stdin (see the crate vectors): the length of the
 // answer sheet, N, the accepted count, the estimate and the new value, the marks, the used values, and what
 // stands behind the answer in the buffer, which holds 165 everywhere before the call.
+use model::ANSWER_HEADER_SIZE;
 use settling::Settled;
 
 fn show_answer(buffer: &[u8], size: usize) {
@@ -9,8 +10,13 @@ fn show_answer(buffer: &[u8], size: usize) {
     vectors::number(size as u64);
     vectors::bytes(b"; round", buffer, 0, 2);
     vectors::ticks(b"", buffer, 2, 2);
-    vectors::bytes(b"; marks", buffer, 10, 10 + cabinets);
-    vectors::ticks(b"; used", buffer, 10 + cabinets, cabinets);
+    vectors::bytes(
+        b"; marks",
+        buffer,
+        ANSWER_HEADER_SIZE,
+        ANSWER_HEADER_SIZE + cabinets,
+    );
+    vectors::ticks(b"; used", buffer, ANSWER_HEADER_SIZE + cabinets, cabinets);
     vectors::bytes(b"; behind", buffer, size, buffer.len());
     vectors::end();
 }

@@ -9,10 +9,11 @@ use lib.ListN.{length}
 use Rattle.model.specs.declared.Settings.{Settings}
 use Rattle.model.specs.declared.Refusal.{Refusal}
 use Rattle.model.specs.RoundSheet.{settingsAt, entryCount, sheetLength, markAt, bitsAt}
-use Rattle.model.specs.AnswerSheet.{answerLength}
+use Rattle.model.specs.AnswerSheet.{answerLength, answerHeaderSize}
 use Rattle.model.specs.Refusals.{Check, refusal, orNext, firstOf, sheetChecks, entryChecks, rowChecks, settleChecks, noRoom, badLength, arrayChecks, tooManyFaults}
 use Rattle.model.specs.Calls.{granted, refused, verdict, settleAfter, settle}
 use Rattle.model.specs.Steps.{roundAt}
+use Rattle.model.specs.Refusals.{noRoomNumber}
 use Rattle.refusal_laws.proofs.Checks.{next-none-left, next-none-right}
 use Rattle.sheet_laws.proofs.Checks.{room-pass}
 use Rattle.sheet_laws.proofs.Outcomes.{refused-some, granted-none, granted-same}
@@ -24,7 +25,7 @@ use Rattle.sheet_checks.proofs.Body.{body-entries}
 pub sheet-passed : (s : List ℕ) → firstOf (rowChecks s) ≡ none → firstOf (sheetChecks s) ≡ none
 sheet-passed s pass = next-none-left (firstOf (sheetChecks s)) (firstOf (entryChecks s)) (sym (row-checks s) ∙ pass)
 
-pub passes-settle : (s answer : List ℕ) → firstOf (rowChecks s) ≡ none → 10 + 5 * settingsAt s .n ≤ length answer → settleAfter (tooManyFaults (roundAt s .count)) s answer ≡ settle s answer
+pub passes-settle : (s answer : List ℕ) → firstOf (rowChecks s) ≡ none → answerHeaderSize + 5 * settingsAt s .n ≤ length answer → settleAfter (tooManyFaults (roundAt s .count)) s answer ≡ settle s answer
 unfolding settle
 passes-settle s answer pass room = ap (λ (r : Check). settleAfter r s answer) (sym left)
   where
@@ -59,13 +60,13 @@ module _ (s answer : List ℕ) where
         ∙ ap (λ (check : Check). orNext check (orNext (noRoom (length answer) (answerLength (settingsAt s .n))) (orNext (firstOf (entryChecks s)) (tooManyFaults (roundAt s .count))))) opened-passes
 
     -- check 7
-    pub room-refuses : length answer < 10 + 5 * c .n → record { verdict = refused (refusal 7 0); buffer = answer } ≡ settle s answer
+    pub room-refuses : length answer < answerHeaderSize + 5 * c .n → record { verdict = refused (refusal noRoomNumber 0); buffer = answer } ≡ settle s answer
     unfolding noRoom
     room-refuses h =
-        by-checks (some (refusal 7 0))
-        (rest ∙ rw (lt-ltb (length answer) (10 + 5 * settingsAt s .n) (rw opened-settings at h)))
+        by-checks (some (refusal noRoomNumber 0))
+        (rest ∙ rw (lt-ltb (length answer) (answerHeaderSize + 5 * settingsAt s .n) (rw opened-settings at h)))
 
-    module _ (room : 10 + 5 * c .n ≤ length answer) where
+    module _ (room : answerHeaderSize + 5 * c .n ≤ length answer) where
       last : firstOf (settleChecks s (length answer)) ≡ orNext (firstOf (entryChecks s)) (tooManyFaults (roundAt s .count))
       last =
           rest

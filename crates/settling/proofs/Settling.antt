@@ -16,12 +16,13 @@ use Rattle.arithmetic.specs.Naturals.{down, up}
 use Rattle.arithmetic.specs.Writing.{table, overwrite}
 use Rattle.arithmetic.proofs.Bools.{and-intro}
 use Rattle.arithmetic.proofs.Writing.{length-table, getD-table}
+use Rattle.arithmetic.specs.Words.{twoTo31, twoTo32}
 use Rattle.model.specs.declared.Settings.{Settings}
-use Rattle.model.specs.Ensemble.{Readings, ticks, quorum}
-use Rattle.model.specs.RoundSheet.{byte, settingsAt, entryCount, entryAt}
-use Rattle.model.specs.AnswerSheet.{answerBytes}
+use Rattle.model.specs.Ensemble.{Readings, ticks, quorum, maxCabinets}
+use Rattle.model.specs.RoundSheet.{byte, settingsAt, entryCount, entryAt, headerSize}
+use Rattle.model.specs.AnswerSheet.{answerBytes, answerHeaderSize}
 use Rattle.model.specs.Steps.{readingsOf, accepted, acceptedAt, estimate, markOf, Round, roundWith, roundOf, roundAt}
-use Rattle.model.specs.Refusals.{refusal, firstOf, rowChecks, tooManyFaults}
+use Rattle.model.specs.Refusals.{refusal, firstOf, rowChecks, tooManyFaults, tooManyFaultsNumber}
 use Rattle.model.specs.Calls.{granted, refused, settleAfter, settle}
 use Rattle.refusal_laws.proofs.Limits.{Limits, limits}
 use Rattle.sheet_laws.proofs.Checks.{settings-passed, sheet-length-passed}
@@ -41,20 +42,20 @@ use Rattle.settling.specs.Rounds.{markOfKept, usedOfKept, roundOfKept}
 use Rattle.settling.proofs.Checking.{passes-settle, sheet-passed}
 
 -- the mark by what is kept of a reading
-mark-kept : (b : Bool) (v : ℕ) → (b ≡ true → ltb v 4294967296 ≡ true) → _≡_ {A = ℕ} (cond (ltb (keptValue b v) 4294967296) 1 (cond (ltb 4294967296 (keptValue b v)) 2 0)) (markOf b (readingOf v))
+mark-kept : (b : Bool) (v : ℕ) → (b ≡ true → ltb v twoTo32 ≡ true) → _≡_ {A = ℕ} (cond (ltb (keptValue b v) twoTo32) 1 (cond (ltb twoTo32 (keptValue b v)) 2 0)) (markOf b (readingOf v))
 mark-kept true v f = rw (f refl)
-mark-kept false v f = go (ltb v 4294967296)
+mark-kept false v f = go (ltb v twoTo32)
   where
-    go : (p : Bool) → _≡_ {A = ℕ} (cond (ltb (cond p 4294967297 4294967296) 4294967296) 1 (cond (ltb 4294967296 (cond p 4294967297 4294967296)) 2 0)) (markOf false (shift 2147483648 p v))
+    go : (p : Bool) → _≡_ {A = ℕ} (cond (ltb (cond p 4294967297 twoTo32) twoTo32) 1 (cond (ltb twoTo32 (cond p 4294967297 twoTo32)) 2 0)) (markOf false (shift twoTo31 p v))
     go true = refl
     go false = refl
 
 -- the used value by what is kept of a reading
-used-kept : (b : Bool) (v e : ℕ) (z : ℤ) → down 2147483648 e ≡ z → (b ≡ true → ltb v 4294967296 ≡ true) → down 2147483648 (cond (ltb (keptValue b v) 4294967296) (keptValue b v) e) ≡ cond b (ticks (readingOf v)) z
+used-kept : (b : Bool) (v e : ℕ) (z : ℤ) → down twoTo31 e ≡ z → (b ≡ true → ltb v twoTo32 ≡ true) → down twoTo31 (cond (ltb (keptValue b v) twoTo32) (keptValue b v) e) ≡ cond b (ticks (readingOf v)) z
 used-kept true v e z p f = rw (f refl)
-used-kept false v e z p f = go (ltb v 4294967296)
+used-kept false v e z p f = go (ltb v twoTo32)
   where
-    go : (q : Bool) → down 2147483648 (cond (ltb (cond q 4294967297 4294967296) 4294967296) (cond q 4294967297 4294967296) e) ≡ z
+    go : (q : Bool) → down twoTo31 (cond (ltb (cond q 4294967297 twoTo32) twoTo32) (cond q 4294967297 twoTo32) e) ≡ z
     go true = p
     go false = p
 
@@ -84,16 +85,16 @@ module _ (c : Settings) (v : Readings) (values : List ℕ) (long : length values
 
     settled-mark : (r : ℕ) → r < c .n → markOfKept kept r ≡ agreed .mark r
     settled-mark r l =
-        ap (λ (k : ℕ). cond (ltb k 4294967296) 1 (cond (ltb 4294967296 k) 2 0)) (kept-here-at r l)
+        ap (λ (k : ℕ). cond (ltb k twoTo32) 1 (cond (ltb twoTo32 k) 2 0)) (kept-here-at r l)
         ∙ mark-kept (acc r) (valueAt values r) (held-present (c .window) (quorum c) values r)
 
-    settled-used : (e : ℕ) → down 2147483648 e ≡ agreed .estimate → (r : ℕ) → r < c .n → usedOfKept kept e r ≡ agreed .used r
+    settled-used : (e : ℕ) → down twoTo31 e ≡ agreed .estimate → (r : ℕ) → r < c .n → usedOfKept kept e r ≡ agreed .used r
     settled-used e p r l =
-        ap (λ (k : ℕ). down 2147483648 (cond (ltb k 4294967296) k e)) (kept-here-at r l)
+        ap (λ (k : ℕ). down twoTo31 (cond (ltb k twoTo32) k e)) (kept-here-at r l)
         ∙ used-kept (acc r) (valueAt values r) e (agreed .estimate) p (held-present (c .window) (quorum c) values r)
 
     -- the round that is written is the round of the readings
-    pub settled-alike : EqualRounds (c .n) (roundOfKept (agreed .count) (up 2147483648 (agreed .estimate)) (up 2147483648 (agreed .value)) kept) (roundOf c v)
+    pub settled-alike : EqualRounds (c .n) (roundOfKept (agreed .count) (up twoTo31 (agreed .estimate)) (up twoTo31 (agreed .value)) kept) (roundOf c v)
     settled-alike =
         let e = estimate-back (c .window) (quorum c) (c .estimator) values some-acc in
         rounds-trans
@@ -102,7 +103,7 @@ module _ (c : Settings) (v : Readings) (values : List ℕ) (long : length values
           estimate = e;
           value = value-back (c .window) (quorum c) (c .estimator) values some-acc;
           mark = settled-mark;
-          used = settled-used (up 2147483648 (agreed .estimate)) e;
+          used = settled-used (up twoTo31 (agreed .estimate)) e;
         })
         agreed-is
 
@@ -126,7 +127,7 @@ module _ (s : List ℕ) (pass : firstOf (rowChecks s) ≡ none) where
         let few : 2 * settingsAt s .m < settingsAt s .n = let f = within .faults in omega arith in
         and-intro
         (and-intro (le-leb (settingsAt s .n) 64 (within .cabinets)) (lt-ltb (2 * settingsAt s .m) (settingsAt s .n) few))
-        (and-intro (eq-eqb (length s) (8 + 5 * entryCount (settingsAt s)) (sheet-length-passed s (sheet-passed s pass))) (eq-eqb (length values₀) (settingsAt s .n) (h .room)))
+        (and-intro (eq-eqb (length s) (headerSize + 5 * entryCount (settingsAt s)) (sheet-length-passed s (sheet-passed s pass))) (eq-eqb (length values₀) (settingsAt s .n) (h .room)))
 
     filled-here : values ≡ table (heldAt s (settingsAt s)) (settingsAt s .n)
     unfolding receivedOf
@@ -135,8 +136,8 @@ module _ (s : List ℕ) (pass : firstOf (rowChecks s) ≡ none) where
     long-here : length values ≡ settingsAt s .n
     long-here = ap length filled-here ∙ length-table (heldAt s (settingsAt s)) (settingsAt s .n)
 
-    fit-here : ltb 64 (length values) ≡ false
-    fit-here = le-ltb 64 (length values) (rw long-here (within .cabinets))
+    fit-here : ltb maxCabinets (length values) ≡ false
+    fit-here = le-ltb maxCabinets (length values) (rw long-here (within .cabinets))
 
     -- what is held of each reading is the reading
     same-here : EqualBelow (settingsAt s .n) (readingsOf (settingsAt s) (entryAt s (entryCount (settingsAt s)))) (readingsIn values)
@@ -159,12 +160,12 @@ module _ (s : List ℕ) (pass : firstOf (rowChecks s) ≡ none) where
     unfolding roundAt acceptedCount
     counted-here = agreed-is (settingsAt s) (readingsOf (settingsAt s) (entryAt s (entryCount (settingsAt s)))) values long-here same-here .count
 
-    agreed-here : a ≡ cond (eqb counted 0) nothing (record { count = counted; estimate = up 2147483648 (here .estimate); value = up 2147483648 (here .value) })
+    agreed-here : a ≡ cond (eqb counted 0) nothing (record { count = counted; estimate = up twoTo31 (here .estimate); value = up twoTo31 (here .value) })
     unfolding agreedOf
     agreed-here = h .agrees ∙ rw fit-here
 
     -- where something is counted, the three numbers are those of the round
-    agreed-some : (counted ≡ 0 → ⊥) → a ≡ record { count = counted; estimate = up 2147483648 (here .estimate); value = up 2147483648 (here .value) }
+    agreed-some : (counted ≡ 0 → ⊥) → a ≡ record { count = counted; estimate = up twoTo31 (here .estimate); value = up twoTo31 (here .value) }
     agreed-some d = agreed-here ∙ rw (ne-eqb counted 0 d)
 
     nothing-agreed : counted ≡ 0 → a ≡ nothing
@@ -201,32 +202,32 @@ module _ (s : List ℕ) (pass : firstOf (rowChecks s) ≡ none) where
         rw (agreed-some (count-some d))
         (settled-alike (settingsAt s) (readingsOf (settingsAt s) (entryAt s (entryCount (settingsAt s)))) values long-here same-here (pos-of-ne-zero (count-some d)) kept (kept-here d))
 
-    module _ (old : List ℕ) (large : 10 + 5 * settingsAt s .n ≤ length old) where
-      pub none-settled : a .count ≡ 0 → record { verdict = refused (refusal 10 0); buffer = old } ≡ settle s old
+    module _ (old : List ℕ) (large : answerHeaderSize + 5 * settingsAt s .n ≤ length old) where
+      pub none-settled : a .count ≡ 0 → record { verdict = refused (refusal tooManyFaultsNumber 0); buffer = old } ≡ settle s old
       unfolding tooManyFaults
       none-settled z = after ∙ passes-settle s old pass large
         where
-          after : record { verdict = refused (refusal 10 0); buffer = old } ≡ settleAfter (tooManyFaults (roundAt s .count)) s old
+          after : record { verdict = refused (refusal tooManyFaultsNumber 0); buffer = old } ≡ settleAfter (tooManyFaults (roundAt s .count)) s old
           after = rw (eq-eqb (roundAt s .count) 0 (count-none z))
 
-      pub some-settled : (a .count ≡ 0 → ⊥) → record { verdict = granted (10 + 5 * settingsAt s .n); buffer = overwrite (answerBytes (length kept) (roundOfKept (a .count) (a .estimate) (a .value) kept)) old } ≡ settle s old
+      pub some-settled : (a .count ≡ 0 → ⊥) → record { verdict = granted (answerHeaderSize + 5 * settingsAt s .n); buffer = overwrite (answerBytes (length kept) (roundOfKept (a .count) (a .estimate) (a .value) kept)) old } ≡ settle s old
       unfolding tooManyFaults
       some-settled d = after ∙ passes-settle s old pass large
         where
-          after : record { verdict = granted (10 + 5 * settingsAt s .n); buffer = overwrite (answerBytes (length kept) (roundOfKept (a .count) (a .estimate) (a .value) kept)) old } ≡ settleAfter (tooManyFaults (roundAt s .count)) s old
+          after : record { verdict = granted (answerHeaderSize + 5 * settingsAt s .n); buffer = overwrite (answerBytes (length kept) (roundOfKept (a .count) (a .estimate) (a .value) kept)) old } ≡ settleAfter (tooManyFaults (roundAt s .count)) s old
           after =
               rw (ne-eqb (roundAt s .count) 0 (λ z. d (ap (λ (x : Estimated). x .count) (agreed-some (count-some d)) ∙ counted-here ∙ z)), kept-long-here d)
-              (λ i. record { verdict = granted (10 + 5 * settingsAt s .n); buffer = overwrite (answer-local (settingsAt s .n) (roundOfKept (a .count) (a .estimate) (a .value) kept) (roundAt s) (alike-here d) i) old })
+              (λ i. record { verdict = granted (answerHeaderSize + 5 * settingsAt s .n); buffer = overwrite (answer-local (settingsAt s .n) (roundOfKept (a .count) (a .estimate) (a .value) kept) (roundAt s) (alike-here d) i) old })
 
 -- the same for settings that are known to be the sheet's
 module _ (s : List ℕ) (c : Settings) (e : c ≡ settingsAt s) (pass : firstOf (rowChecks s) ≡ none) (values₀ values kept : List ℕ) (a : Estimated) (h : CallsLeave s c values₀ values kept a) where
   moved : CallsLeave s (settingsAt s) values₀ values kept a
   moved = subst (λ (d : Settings). CallsLeave s d values₀ values kept a) e h
 
-  pub refuses : (old : List ℕ) → 10 + 5 * c .n ≤ length old → a .count ≡ 0 → record { verdict = refused (refusal 10 0); buffer = old } ≡ settle s old
+  pub refuses : (old : List ℕ) → answerHeaderSize + 5 * c .n ≤ length old → a .count ≡ 0 → record { verdict = refused (refusal tooManyFaultsNumber 0); buffer = old } ≡ settle s old
   refuses old large = none-settled s pass values₀ values kept a moved old (rw e at large)
 
-  pub settles : (old : List ℕ) → 10 + 5 * c .n ≤ length old → (a .count ≡ 0 → ⊥) → record { verdict = granted (10 + 5 * c .n); buffer = overwrite (answerBytes (length kept) (roundOfKept (a .count) (a .estimate) (a .value) kept)) old } ≡ settle s old
+  pub settles : (old : List ℕ) → answerHeaderSize + 5 * c .n ≤ length old → (a .count ≡ 0 → ⊥) → record { verdict = granted (answerHeaderSize + 5 * c .n); buffer = overwrite (answerBytes (length kept) (roundOfKept (a .count) (a .estimate) (a .value) kept)) old } ≡ settle s old
   settles old large d = rw e (some-settled s pass values₀ values kept a moved old (rw e at large) d)
 
   -- the size that writing the answer asks for
@@ -234,13 +235,13 @@ module _ (s : List ℕ) (c : Settings) (e : c ≡ settingsAt s) (pass : firstOf 
   kept-long d = rw e (kept-long-here s pass values₀ values kept a moved d)
 
 -- settings that pass checks 2 to 5
-pub few-faults : (s : List ℕ) (c : Settings) → c ≡ settingsAt s → firstOf (rowChecks s) ≡ none → (c .m ≤ c .n) × (c .n ≤ 64)
+pub few-faults : (s : List ℕ) (c : Settings) → c ≡ settingsAt s → firstOf (rowChecks s) ≡ none → (c .m ≤ c .n) × (c .n ≤ maxCabinets)
 few-faults s c e pass = rw e (let f = within s pass .faults in (omega arith, within s pass .cabinets))
 
 -- the first n places of 64
 places : List ℕ
-places = replicate 64 4294967296
+places = replicate 64 twoTo32
 
-pub first-places : (n : ℕ) → n ≤ 64 → length {A = ℕ} (take n (replicate 64 4294967296)) ≡ n
+pub first-places : (n : ℕ) → n ≤ maxCabinets → length {A = ℕ} (take n (replicate 64 twoTo32)) ≡ n
 unfolding places
 first-places n h = length-take-le n places h

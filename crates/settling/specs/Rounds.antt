@@ -10,22 +10,23 @@ use Prim.Native.Nat.{ℕ}
 use lib.Dec.{ltb}
 use lib.IntN.{ℤ}
 use Rattle.arithmetic.specs.Naturals.{down}
+use Rattle.arithmetic.specs.Words.{twoTo31, twoTo32}
 use Rattle.model.specs.Steps.{Round}
 use Rattle.estimates.specs.Values.{valueAt, presentIn}
 
 -- "0 missing or known faulty, 1 accepted, 2 present and not accepted"
 abbrev pub markOfKept : List ℕ → ℕ → ℕ
-markOfKept kept r = cond (presentIn kept r) 1 (cond (ltb 4294967296 (valueAt kept r)) 2 0)
+markOfKept kept r = cond (presentIn kept r) 1 (cond (ltb twoTo32 (valueAt kept r)) 2 0)
 
 abbrev pub usedOfKept : List ℕ → ℕ → ℕ → ℤ
-usedOfKept kept e r = down 2147483648 (cond (presentIn kept r) (valueAt kept r) e)
+usedOfKept kept e r = down twoTo31 (cond (presentIn kept r) (valueAt kept r) e)
 
 abbrev pub roundOfKept : ℕ → ℕ → ℕ → List ℕ → Round
 roundOfKept count e v kept =
     record {
       count = count;
-      estimate = down 2147483648 e;
-      value = down 2147483648 v;
+      estimate = down twoTo31 e;
+      value = down twoTo31 v;
       mark = markOfKept kept;
       used = usedOfKept kept e;
     }

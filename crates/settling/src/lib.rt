@@ -9,18 +9,23 @@ ghost use mir.Syntax.{w32};
 ghost use mir.Val.{ofZ};
 ghost use Rattle.arithmetic.specs.Writing.{table, overwrite};
 ghost use Rattle.arithmetic.specs.Naturals.{down};
+ghost use Rattle.arithmetic.specs.Words.{twoTo31, twoTo32};
 ghost use Rattle.model.specs.RoundSheet.{readingBytes, settingsAt};
-ghost use Rattle.model.specs.AnswerSheet.{headerBytes, answerBytes};
+ghost use Rattle.model.specs.AnswerSheet.{headerBytes, answerBytes, answerHeaderSize};
 ghost use Rattle.model.specs.Refusals.{firstOf, rowChecks};
 ghost use Rattle.model.specs.Calls.{settle};
+ghost use Rattle.model.specs.Ensemble.{maxCabinets};
 ghost use Rattle.settling.specs.Answers.{settlingOf};
 ghost use Rattle.settling.specs.Rounds.{markOfKept, usedOfKept, roundOfKept};
-use settings_checks::Screened;
 use estimates::Estimated;
 use estimates::LIMIT;
-use sheet_checks::Opened;
+use model::ANSWER_HEADER_SIZE;
+use model::NO_ROOM;
 use model::Refusal;
 use model::Settings;
+use model::TOO_MANY_FAULTS;
+use settings_checks::Screened;
+use sheet_checks::Opened;
 
 // The answer sheet's length, or the first refusal.
 pub enum Settled {
@@ -30,7 +35,7 @@ pub enum Settled {
 
 // The mark of a cabinet by what is kept of its reading: 0 missing, 1 accepted, 2 present and not accepted.
 fn mark(kept: u64) -> u8
-    ensures { λ r. ⌜ r ≡ cond (ltb kept 4294967296) 1 (cond (ltb 4294967296 kept) 2 0) ⌝ }
+    ensures { λ r. ⌜ r ≡ cond (ltb kept twoTo32) 1 (cond (ltb twoTo32 kept) 2 0) ⌝ }
 {
     if kept < LIMIT {
         1
@@ -43,8 +48,8 @@ fn mark(kept: u64) -> u8
 
 // The bits of the value used for a cabinet: its own reading where that is accepted, else the estimate.
 fn used(kept: u64, estimate: u64) -> u32
-    requires { ⌜ estimate < 4294967296 ⌝ }
-    ensures { λ r. ⌜ r ≡ ofZ w32 (down 2147483648 (cond (ltb kept 4294967296) kept estimate)) ⌝ }
+    requires { ⌜ estimate < twoTo32 ⌝ }
+    ensures { λ r. ⌜ r ≡ ofZ w32 (down twoTo31 (cond (ltb kept twoTo32) kept estimate)) ⌝ }
 {
     if kept < LIMIT {
         agreement::unbias(kept)
@@ -55,7 +60,7 @@ fn used(kept: u64, estimate: u64) -> u32
 
 // Fills the tail of the answer sheet with the used values.
 fn put_used(kept: &[u64], estimate: u64, tail: &mut [u8])
-    requires { ⌜ (length (now kept) ≤ 64) × (4 * length (now kept) ≤ length (now tail)) × (estimate < 4294967296) ⌝ }
+    requires { ⌜ (length (now kept) ≤ maxCabinets) × (4 * length (now kept) ≤ length (now tail)) × (estimate < twoTo32) ⌝ }
     ensures { λ _. ⌜ now (tail .exit) ≡ overwrite (readingBytes (table (usedOfKept (now (kept .entry)) estimate) (length (now (kept .entry))))) (now (tail .entry)) ⌝ }
 {
     let mut r: usize = 0;
@@ -79,7 +84,7 @@ fn put_marks(kept: &[u64], marks: &mut [u8])
 
 // Bytes 0 to 9.
 fn put_header(n: u8, count: u8, estimate: u32, value: u32, answer: &mut [u8])
-    requires { ⌜ 10 ≤ length (now answer) ⌝ }
+    requires { ⌜ answerHeaderSize ≤ length (now answer) ⌝ }
     ensures { λ _. ⌜ now (answer .exit) ≡ overwrite (headerBytes n count estimate value) (now (answer .entry)) ⌝ }
 {
     answer[0] = n;
@@ -90,8 +95,8 @@ fn put_header(n: u8, count: u8, estimate: u32, value: u32, answer: &mut [u8])
 
 // The answer sheet of a settled round: the header, the marks, and the used values in the tail from byte 10 + N on.
 fn put_answer(settled: Estimated, kept: &[u64], answer: &mut [u8])
-    requires { ⌜ (length (now kept) ≤ 64) × (10 + 5 * length (now kept) ≤ length (now answer)) ⌝ }
-    requires { ⌜ (settled .count ≤ 64) × (settled .estimate < 4294967296) × (settled .value < 4294967296) ⌝ }
+    requires { ⌜ (length (now kept) ≤ maxCabinets) × (answerHeaderSize + 5 * length (now kept) ≤ length (now answer)) ⌝ }
+    requires { ⌜ (settled .count ≤ maxCabinets) × (settled .estimate < twoTo32) × (settled .value < twoTo32) ⌝ }
     ensures { λ _. ⌜ now (answer .exit) ≡ overwrite (answerBytes (length (now (kept .entry))) (roundOfKept (settled .count) (settled .estimate) (settled .value) (now (kept .entry)))) (now (answer .entry)) ⌝ }
 {
     let n = kept.len();
@@ -103,14 +108,14 @@ fn put_answer(settled: Estimated, kept: &[u64], answer: &mut [u8])
         agreement::unbias(settled.value),
         answer,
     );
-    put_marks(kept, &mut answer[10..]);
-    let tail = 10 + n;
+    put_marks(kept, &mut answer[ANSWER_HEADER_SIZE..]);
+    let tail = ANSWER_HEADER_SIZE + n;
     put_used(kept, estimate, &mut answer[tail..]);
 }
 
 // Settles a sheet that passes checks 1 to 9, with a lent place for each cabinet's reading.
 fn settle_in(sheet: &[u8], settings: Settings, values: &mut [u64], answer: &mut [u8]) -> Settled
-    requires { ⌜ (firstOf (rowChecks (now sheet)) ≡ none) × (settings ≡ settingsAt (now sheet)) × (10 + 5 * settings .n ≤ length (now answer)) ⌝ }
+    requires { ⌜ (firstOf (rowChecks (now sheet)) ≡ none) × (settings ≡ settingsAt (now sheet)) × (answerHeaderSize + 5 * settings .n ≤ length (now answer)) ⌝ }
     requires { ⌜ length (now values) ≡ settings .n ⌝ }
     ensures { λ r. ⌜ settlingOf r (now (answer .exit)) ≡ settle (now (sheet .entry)) (now (answer .entry)) ⌝ }
 {
@@ -122,9 +127,9 @@ fn settle_in(sheet: &[u8], settings: Settings, values: &mut [u64], answer: &mut 
         need as u32,
         settings.estimator,
     );
-    let size = 10 + 5 * (settings.n as usize);
+    let size = ANSWER_HEADER_SIZE + 5 * (settings.n as usize);
     let none = Settled::Refused(Refusal {
-        number: 10,
+        number: TOO_MANY_FAULTS,
         place: 0,
     });
     if settled.count == 0 {
@@ -136,7 +141,7 @@ fn settle_in(sheet: &[u8], settings: Settings, values: &mut [u64], answer: &mut 
 
 // Settles a sheet that passes checks 1 to 9.
 fn settle_valid(sheet: &[u8], settings: Settings, answer: &mut [u8]) -> Settled
-    requires { ⌜ (firstOf (rowChecks (now sheet)) ≡ none) × (settings ≡ settingsAt (now sheet)) × (10 + 5 * settings .n ≤ length (now answer)) ⌝ }
+    requires { ⌜ (firstOf (rowChecks (now sheet)) ≡ none) × (settings ≡ settingsAt (now sheet)) × (answerHeaderSize + 5 * settings .n ≤ length (now answer)) ⌝ }
     ensures { λ r. ⌜ settlingOf r (now (answer .exit)) ≡ settle (now (sheet .entry)) (now (answer .entry)) ⌝ }
 {
     let n = settings.n as usize;
@@ -152,10 +157,10 @@ pub fn settle(sheet: &[u8], answer: &mut [u8]) -> Settled
     match sheet_checks::inspect(sheet) {
         Opened::Refused(r) => Settled::Refused(r),
         Opened::Granted(settings) => {
-            let size = 10 + 5 * (settings.n as usize);
+            let size = ANSWER_HEADER_SIZE + 5 * (settings.n as usize);
             if answer.len() < size {
                 return Settled::Refused(Refusal {
-                    number: 7,
+                    number: NO_ROOM,
                     place: 0,
                 });
             }

@@ -11,6 +11,8 @@ use Rattle.arithmetic.proofs.Shift.{down-cong, pos-down, dist-down}
 use Rattle.model.specs.RoundSheet.{fca, median}
 use Rattle.model.specs.Steps.{mean}
 use Rattle.model.specs.Cases.{settings}
+use Rattle.model.specs.Ensemble.{maxWindow}
+use Rattle.model.specs.Planner.{maxAccuracy}
 use Rattle.round_laws.specs.Naturals.{mean-nat}
 use Rattle.planner_laws.proofs.Checks.{may-start-none}
 use Rattle.demand_3.specs.Guarantee.{Station, apart}
@@ -21,7 +23,7 @@ use Rattle.demand_3.proofs.Distances.{mean-below-zero, mean-above-zero}
 use Rattle.sharpness.proofs.Sharpness.{always-reached}
 
 seven-covered :
-    (t δ κ : ℕ) → 2 < t → t < 5 → δ ≤ 1_000_000 → 0 < κ → κ ≤ 1_000_000_000 → Covered 7 2 t δ κ
+    (t δ κ : ℕ) → 2 < t → t < 5 → δ ≤ maxWindow → 0 < κ → κ ≤ maxAccuracy → Covered 7 2 t δ κ
 seven-covered t δ κ more fewer window inexact accuracy =
     record {
       grants =
@@ -77,7 +79,7 @@ module _ (t δ κ : ℕ) (l : (2 + t) * δ ≤ 7 * δ) (st : Station) (chosen : 
   seven-error accuracy = rw (chosen, accuracy) (ap (λ (y : ℕ). κ + y) (one-nearest δ ((2 + t) * δ) l))
 
 seven-at :
-    (t δ κ : ℕ) → 2 < t → t < 5 → (2 + t) * δ ≤ 7 * δ → δ ≤ 1_000_000 → 0 < κ → κ ≤ 1_000_000_000 → SevenAt t δ κ
+    (t δ κ : ℕ) → 2 < t → t < 5 → (2 + t) * δ ≤ 7 * δ → δ ≤ maxWindow → 0 < κ → κ ≤ maxAccuracy → SevenAt t δ κ
 seven-at t δ κ more fewer l window inexact accuracy =
     let r : Reached 7 2 t δ κ = always-reached 7 2 t δ κ (seven-covered t δ κ more fewer window inexact accuracy) in
     record {

@@ -20,6 +20,8 @@ use lib.IntN.{ℤ}
 use Rattle.model.specs.RoundSheet.{fca, median}
 use Rattle.model.specs.Refusals.{firstOf, planChecks}
 use Rattle.model.specs.Cases.{settings}
+use Rattle.model.specs.Ensemble.{maxWindow}
+use Rattle.model.specs.Planner.{maxAccuracy}
 use Rattle.demand_3.specs.Guarantee.{Station, Sends, start, Unrefused, Sound, bad}
 use Rattle.demand_3.specs.Exact.{exactGap, exactError}
 use Rattle.demand_3.specs.Regulator.{nearestSeventh}
@@ -65,4 +67,4 @@ pub record SevenAt (t δ κ : ℕ) : Type 0 where
 
 -- three or four bad, at every window and every accuracy that the planner grants but 0
 abbrev pub SevenReached : Type 0
-SevenReached = (δ κ : ℕ) → δ ≤ 1_000_000 → 0 < κ → κ ≤ 1_000_000_000 → SevenAt 3 δ κ × SevenAt 4 δ κ
+SevenReached = (δ κ : ℕ) → δ ≤ maxWindow → 0 < κ → κ ≤ maxAccuracy → SevenAt 3 δ κ × SevenAt 4 δ κ

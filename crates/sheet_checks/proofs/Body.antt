@@ -14,8 +14,9 @@ use lib.Seq.{length-take-le}
 use Rattle.model.specs.declared.Settings.{Settings}
 use Rattle.model.specs.declared.Refusal.{Refusal}
 use Rattle.arithmetic.specs.Counting.{lowest}
-use Rattle.model.specs.RoundSheet.{byte, word, cca, entryCount, sheetLength, markAt, bitsAt}
+use Rattle.model.specs.RoundSheet.{byte, word, cca, entryCount, sheetLength, markAt, bitsAt, headerSize}
 use Rattle.model.specs.Refusals.{refusal, firstOf, arrayChecks, entryChecks, badLength, badMark, badMissing, notZero}
+use Rattle.model.specs.Refusals.{badLengthNumber}
 use Rattle.refusal_laws.proofs.Checks.{next-none}
 use Rattle.sheet_laws.proofs.Checks.{length-pass}
 use Rattle.sheet_laws.proofs.Inspection.{Inspected, entry-checks}
@@ -32,19 +33,19 @@ byte-entries-most c small = go (eqb (c .rule) cca)
     go false = omega arith
 
 module _ (s : List ℕ) (c : Settings) (E : ℕ) (same : E ≡ entryCount c) where
-  pub body-length-refused : (length s ≡ 8 + 5 * E → ⊥) → some (refusal 6 0) ≡ firstOf (badLength (length s) (sheetLength c) ∷ arrayChecks (markAt s) (bitsAt s (entryCount c)) (entryCount c))
+  pub body-length-refused : (length s ≡ headerSize + 5 * E → ⊥) → some (refusal badLengthNumber 0) ≡ firstOf (badLength (length s) (sheetLength c) ∷ arrayChecks (markAt s) (bitsAt s (entryCount c)) (entryCount c))
   unfolding firstOf badLength
-  body-length-refused h = rw (sym same, ne-eqb (length s) (8 + 5 * E) h)
+  body-length-refused h = rw (sym same, ne-eqb (length s) (headerSize + 5 * E) h)
 
   -- of a sheet of its length checks 8 and 9 are left
   pub body-checks :
-      length s ≡ 8 + 5 * E
+      length s ≡ headerSize + 5 * E
       → firstOf (badLength (length s) (sheetLength c) ∷ arrayChecks (markAt s) (bitsAt s (entryCount c)) (entryCount c))
       ≡ firstOf (arrayChecks (markAt s) (bitsAt s E) E)
   unfolding firstOf
-  body-checks h = rw (sym same, length-pass (length s) (8 + 5 * E) h)
+  body-checks h = rw (sym same, length-pass (length s) (headerSize + 5 * E) h)
 
-module _ (s : List ℕ) (c : Settings) (E : ℕ) (same : E ≡ entryCount c) (long : length s ≡ 8 + 5 * E) where
+module _ (s : List ℕ) (c : Settings) (E : ℕ) (same : E ≡ entryCount c) (long : length s ≡ headerSize + 5 * E) where
   -- check 8 refuses
   pub body-mark-refused :
       (r : Refusal) → badMark (markAt s) E ≡ some r
@@ -71,7 +72,7 @@ body-entries s c i =
 
 -- the parts of a sheet have four bytes for each mark
 pub parts-missing :
-    (s : List ℕ) (E : ℕ) → length s ≡ 8 + 5 * E
+    (s : List ℕ) (E : ℕ) → length s ≡ headerSize + 5 * E
     → missingIn (marksPart s E) (readingsPart s E)
     ≡ lowest (λ e. notZero (byte (marksPart s E) e) (word (readingsPart s E) (4 * e))) (length (marksPart s E))
 unfolding missingIn
@@ -80,6 +81,6 @@ parts-missing s E long = rw (eq-eqb (length (readingsPart s E)) (4 * length (mar
     four : length (readingsPart s E) ≡ 4 * length (marksPart s E)
     four =
         let marks = length-marksPart s E long in
-        let d = length-drop (8 + E) s in
-        let readings = length-take-le (length s - (8 + E)) (drop (8 + E) s) (omega arith) in
+        let d = length-drop (headerSize + E) s in
+        let readings = length-take-le (length s - (headerSize + E)) (drop (headerSize + E) s) (omega arith) in
         omega arith

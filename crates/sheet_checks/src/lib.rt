@@ -7,9 +7,13 @@ ghost use Rattle.model.specs.RoundSheet.{settingsAt, entryCount, sheetLength, m
 ghost use Rattle.model.specs.Refusals.{firstOf, badLength, arrayChecks, sheetChecks, rowChecks};
 ghost use Rattle.model.specs.Calls.{verdict};
 ghost use Rattle.sheet_checks.specs.Answers.{openedOf};
-use settings_checks::Screened;
+use model::BAD_LENGTH;
+use model::CCA;
+use model::HEADER_SIZE;
 use model::Refusal;
 use model::Settings;
+use model::TOO_SHORT;
+use settings_checks::Screened;
 
 mod marks;
 mod missing;
@@ -38,7 +42,7 @@ pub fn entry_count(settings: Settings) -> usize
     ensures { λ r. ⌜ r ≡ entryCount settings ⌝ }
 {
     let n = settings.n as usize;
-    if settings.rule == 1 { n * n } else { n }
+    if settings.rule == CCA { n * n } else { n }
 }
 
 // Checks 1 to 6.
@@ -47,9 +51,9 @@ pub fn inspect(sheet: &[u8]) -> Opened
         ⌜ openedOf r
         ≡ verdict (firstOf (sheetChecks (now (sheet .entry)))) (settingsAt (now (sheet .entry))) ⌝ }
 {
-    if sheet.len() < 8 {
+    if sheet.len() < HEADER_SIZE {
         return Opened::Refused(Refusal {
-            number: 1,
+            number: TOO_SHORT,
             place: 0,
         });
     }
@@ -57,11 +61,11 @@ pub fn inspect(sheet: &[u8]) -> Opened
     match settings_checks::screen(settings) {
         Screened::Refused(first) => Opened::Refused(first),
         Screened::Passed => {
-            if sheet.len() == 8 + 5 * entry_count(settings) {
+            if sheet.len() == HEADER_SIZE + 5 * entry_count(settings) {
                 Opened::Granted(settings)
             } else {
                 Opened::Refused(Refusal {
-                    number: 6,
+                    number: BAD_LENGTH,
                     place: 0,
                 })
             }
@@ -78,9 +82,9 @@ pub fn check_entries(sheet: &[u8], settings: Settings) -> Screened
         (bitsAt (now (sheet .entry)) (entryCount settings)) (entryCount settings)) ⌝ }
 {
     let entries = entry_count(settings);
-    if sheet.len() != 8 + 5 * entries {
+    if sheet.len() != HEADER_SIZE + 5 * entries {
         return Screened::Refused(Refusal {
-            number: 6,
+            number: BAD_LENGTH,
             place: 0,
         });
     }

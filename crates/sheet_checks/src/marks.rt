@@ -3,22 +3,27 @@ ghost use mathlib.Core.Path.{_≡_};
 ghost use Prim.Native.Nat.{_+_, _*_, _≤_};
 ghost use lib.ListN.{length};
 ghost use Rattle.settings_checks.specs.Answers.{checkOf};
-ghost use Rattle.model.specs.RoundSheet.{markAt};
+ghost use Rattle.model.specs.RoundSheet.{markAt, headerSize};
 ghost use Rattle.model.specs.Refusals.{badMark};
-use settings_checks::Screened;
 use entry_checks::Found;
+use model::BAD_MARK;
+use model::HEADER_SIZE;
 use model::Refusal;
+use settings_checks::Screened;
 
 // Check 8 of a sheet of its length, with this number of entries.
 pub(crate) fn check(sheet: &[u8], entries: usize) -> Screened
-    requires { ⌜ (length (now sheet) ≡ 8 + 5 * entries) × (entries ≤ 65025) ⌝ }
+    requires { ⌜ (length (now sheet) ≡ headerSize + 5 * entries) × (entries ≤ 65025) ⌝ }
     ensures { λ r. ⌜ checkOf r ≡ badMark (markAt (now (sheet .entry))) entries ⌝ }
 {
-    let body = 8 + entries;
-    match entry_checks::bad_mark(&sheet[8..body]) {
+    let body = HEADER_SIZE + entries;
+    match entry_checks::bad_mark(&sheet[HEADER_SIZE..body]) {
         Found::At(e) => {
             let place = e as u32;
-            Screened::Refused(Refusal { number: 8, place })
+            Screened::Refused(Refusal {
+                number: BAD_MARK,
+                place,
+            })
         }
         Found::Nothing => Screened::Passed,
     }

@@ -14,7 +14,7 @@ use mir.Facts.{toZ-ofZ}
 use Rattle.arithmetic.specs.Writing.{table, overwrite}
 use Rattle.arithmetic.proofs.Writing.{length-table, getD-table}
 use Rattle.model.specs.RoundSheet.{byte, word, bytes4, readingBytes}
-use Rattle.model.specs.AnswerSheet.{answerLength, answerHeader, answerBytes}
+use Rattle.model.specs.AnswerSheet.{answerLength, answerHeader, answerBytes, answerHeaderSize}
 use Rattle.model.specs.Steps.{Round}
 use Rattle.sheet_laws.proofs.Words.{digits4, byte-append-left, byte-append-right, word-append-right}
 use Rattle.sheet_laws.proofs.Readings.{length-readingBytes, word-readings, bits-fit}
@@ -60,14 +60,14 @@ module _ (n : ℕ) (r : Round) (old : List ℕ) where
   answer-value h = ap (toZ w32) (answer-value-bits h) ∙ toZ-ofZ h
 
   -- the marks, the used values
-  pub answer-mark : (i : ℕ) → i < n → byte (overwrite (answerBytes n r) old) (10 + i) ≡ r .mark i
+  pub answer-mark : (i : ℕ) → i < n → byte (overwrite (answerBytes n r) old) (answerHeaderSize + i) ≡ r .mark i
   unfolding overwrite answerBytes
   answer-mark i h =
       let head = answerHeader n r in
       let marks = table (r .mark) n in
       let used = readingBytes (table (r .used) n) in
       let rest = drop (length (answerBytes n r)) old in
-      ap (λ (l : List ℕ). byte l (10 + i)) (append-assoc head (marks ++ used) rest)
+      ap (λ (l : List ℕ). byte l (answerHeaderSize + i)) (append-assoc head (marks ++ used) rest)
       ∙ byte-append-right head ((marks ++ used) ++ rest) 10 i (length-answerHeader n r)
       ∙ ap (λ (l : List ℕ). byte l i) (append-assoc marks used rest)
       ∙ byte-append-left marks (used ++ rest) i (rw (length-table (r .mark) n) h)
@@ -75,14 +75,14 @@ module _ (n : ℕ) (r : Round) (old : List ℕ) where
 
   pub answer-used-bits :
       (i : ℕ) → i < n → SFits w32 (r .used i)
-      → word (overwrite (answerBytes n r) old) (10 + n + 4 * i) ≡ ofZ w32 (r .used i)
+      → word (overwrite (answerBytes n r) old) (answerHeaderSize + n + 4 * i) ≡ ofZ w32 (r .used i)
   unfolding overwrite answerBytes
   answer-used-bits i h fits =
       let head = answerHeader n r in
       let marks = table (r .mark) n in
       let used = readingBytes (table (r .used) n) in
       let rest = drop (length (answerBytes n r)) old in
-      ap (λ (l : List ℕ). word l (10 + n + 4 * i))
+      ap (λ (l : List ℕ). word l (answerHeaderSize + n + 4 * i))
       (append-assoc head (marks ++ used) rest ∙ ap (λ (l : List ℕ). head ++ l) (append-assoc marks used rest))
       ∙ ap (word (head ++ (marks ++ (used ++ rest)))) (add-assoc 10 n (4 * i))
       ∙ word-append-right head (marks ++ (used ++ rest)) 10 (n + 4 * i) (length-answerHeader n r)
@@ -93,5 +93,5 @@ module _ (n : ℕ) (r : Round) (old : List ℕ) where
 
   pub answer-used :
       (i : ℕ) → i < n → SFits w32 (r .used i)
-      → toZ w32 (word (overwrite (answerBytes n r) old) (10 + n + 4 * i)) ≡ r .used i
+      → toZ w32 (word (overwrite (answerBytes n r) old) (answerHeaderSize + n + 4 * i)) ≡ r .used i
   answer-used i h fits = ap (toZ w32) (answer-used-bits i h fits) ∙ toZ-ofZ fits

@@ -17,7 +17,8 @@ use Rattle.model.specs.declared.Refusal.{Refusal}
 use Rattle.model.specs.RoundSheet.{byte, bitsIn, entryCount, sheetLength, readingBytes, sizeBytes, sheetBytes}
 use Rattle.model.specs.Refusals.{refusal, orNext, firstOf, settingsChecks, arrayChecks, writeChecks, badLength, noRoom, badMark, badMissing}
 use Rattle.model.specs.Calls.{granted, write, Outcome}
-use Rattle.model.specs.Refusals.{notZero}
+use Rattle.model.specs.Refusals.{notZero, badLengthNumber, badMarkNumber, badMissingNumber, noRoomNumber}
+use Rattle.model.specs.RoundSheet.{headerSize}
 use Rattle.refusal_laws.proofs.Checks.{next-none-left, next-none-right}
 use Rattle.refusal_laws.proofs.Limits.{limits, entries-most}
 use Rattle.sheet_laws.proofs.Checks.{length-pass, length-passed, room-pass, room-passed}
@@ -28,14 +29,14 @@ use Rattle.sheet_laws.proofs.Orders.{write-checks}
 
 module _ (marks : List ℕ) (readings : List ℤ) (E : ℕ) where
   pub array-mark-refused :
-      (e : ℕ) → lowest (λ i. ltb 1 (byte marks i)) E ≡ some e → some (refusal 8 e) ≡ firstOf (arrayChecks (byte marks) (bitsIn readings) E)
+      (e : ℕ) → lowest (λ i. ltb 1 (byte marks i)) E ≡ some e → some (refusal badMarkNumber e) ≡ firstOf (arrayChecks (byte marks) (bitsIn readings) E)
   unfolding firstOf badMark
   array-mark-refused e h = rw h
 
   module _ (none-bad : lowest (λ i. ltb 1 (byte marks i)) E ≡ none) where
     pub array-missing-refused :
         (e : ℕ) → lowest (λ i. notZero (byte marks i) (bitsIn readings i)) E ≡ some e
-        → some (refusal 9 e) ≡ firstOf (arrayChecks (byte marks) (bitsIn readings) E)
+        → some (refusal badMissingNumber e) ≡ firstOf (arrayChecks (byte marks) (bitsIn readings) E)
     unfolding firstOf badMark badMissing
     array-missing-refused e h = rw (none-bad, h)
 
@@ -54,27 +55,27 @@ module _ (c : Settings) (marks : List ℕ) (readings : List ℤ) (room : ℕ) wh
   module _ (pass : firstOf (settingsChecks c) ≡ none) (E : ℕ) (same : E ≡ entryCount c) where
     checks-after-settings :
         firstOf (writeChecks c marks readings room) ≡ orNext (badLength (length marks) E)
-        (orNext (badLength (length readings) E) (orNext (noRoom room (8 + 5 * E)) (firstOf (arrayChecks (byte marks) (bitsIn readings) E))))
+        (orNext (badLength (length readings) E) (orNext (noRoom room (headerSize + 5 * E)) (firstOf (arrayChecks (byte marks) (bitsIn readings) E))))
     checks-after-settings = rw (write-checks c marks readings room, pass, same)
 
-    pub marks-length-refused : (length marks ≡ E → ⊥) → some (refusal 6 0) ≡ firstOf (writeChecks c marks readings room)
+    pub marks-length-refused : (length marks ≡ E → ⊥) → some (refusal badLengthNumber 0) ≡ firstOf (writeChecks c marks readings room)
     unfolding badLength
     marks-length-refused h = rw (checks-after-settings, ne-eqb (length marks) E h)
 
     module _ (long : length marks ≡ E) where
-      pub readings-length-refused : (length readings ≡ E → ⊥) → some (refusal 6 0) ≡ firstOf (writeChecks c marks readings room)
+      pub readings-length-refused : (length readings ≡ E → ⊥) → some (refusal badLengthNumber 0) ≡ firstOf (writeChecks c marks readings room)
       unfolding badLength
       readings-length-refused h = rw (checks-after-settings, eq-eqb (length marks) E long, ne-eqb (length readings) E h)
 
       module _ (also : length readings ≡ E) where
-        pub room-refused : room < 8 + 5 * E → some (refusal 7 0) ≡ firstOf (writeChecks c marks readings room)
+        pub room-refused : room < headerSize + 5 * E → some (refusal noRoomNumber 0) ≡ firstOf (writeChecks c marks readings room)
         unfolding noRoom
         room-refused h =
-            rw (checks-after-settings, length-pass (length marks) E long, length-pass (length readings) E also, lt-ltb room (8 + 5 * E) h)
+            rw (checks-after-settings, length-pass (length marks) E long, length-pass (length readings) E also, lt-ltb room (headerSize + 5 * E) h)
 
-        pub arrays-decide : 8 + 5 * E ≤ room → firstOf (arrayChecks (byte marks) (bitsIn readings) (length marks)) ≡ firstOf (writeChecks c marks readings room)
+        pub arrays-decide : headerSize + 5 * E ≤ room → firstOf (arrayChecks (byte marks) (bitsIn readings) (length marks)) ≡ firstOf (writeChecks c marks readings room)
         arrays-decide h =
-            rw (checks-after-settings, length-pass (length marks) E long, length-pass (length readings) E also, room-pass room (8 + 5 * E) h, long)
+            rw (checks-after-settings, length-pass (length marks) E long, length-pass (length readings) E also, room-pass room (headerSize + 5 * E) h, long)
 
   -- what it means that no check refuses
   pub record Writable : Type 0 where
@@ -115,10 +116,10 @@ pub writer-fills :
     (c : Settings) (marks : List ℕ) (readings : List ℤ) (buffer filled : List ℕ)
     → firstOf (writeChecks c marks readings (length buffer)) ≡ none → length marks ≡ entryCount c
     → filled ≡ overwrite (sizeBytes c ++ (marks ++ readingBytes readings)) buffer
-    → _≡_ {A = Outcome} (record { verdict = granted (8 + 5 * length marks); buffer = filled })
+    → _≡_ {A = Outcome} (record { verdict = granted (headerSize + 5 * length marks); buffer = filled })
     (write c marks readings buffer)
 unfolding sheetBytes
 writer-fills c marks readings buffer filled checks long f =
     sym
     (write-grants c marks readings buffer checks
-    ∙ (λ j. record { verdict = granted (8 + 5 * sym long j); buffer = sym f j }))
+    ∙ (λ j. record { verdict = granted (headerSize + 5 * sym long j); buffer = sym f j }))

@@ -8,9 +8,10 @@ use borrow.Author.Tests.{lt-ltb, le-ltb, eq-eqb, ne-eqb}
 use lib.ListN.{length}
 use Rattle.model.specs.declared.Settings.{Settings}
 use Rattle.model.specs.declared.Refusal.{Refusal}
-use Rattle.model.specs.RoundSheet.{settingsAt, entryCount, sheetLength, markAt, bitsAt}
+use Rattle.model.specs.RoundSheet.{settingsAt, entryCount, sheetLength, markAt, bitsAt, headerSize}
 use Rattle.model.specs.Refusals.{refusal, orNext, firstOf, settingsChecks, sheetChecks, tooShort, badLength, arrayChecks, rowChecks, entryChecks}
 use Rattle.model.specs.Calls.{granted, refused, verdict}
+use Rattle.model.specs.Refusals.{badLengthNumber, tooShortNumber}
 use Rattle.refusal_laws.proofs.Checks.{first-append, none-left, none-right}
 use Rattle.refusal_laws.proofs.Limits.{Limits, limits, entries-most}
 use Rattle.sheet_laws.proofs.Checks.{settings-passed, sheet-length-passed}
@@ -19,7 +20,7 @@ use Rattle.sheet_laws.proofs.Outcomes.{granted-none, granted-same}
 -- ---- checks 1 to 6
 
 module _ (s : List ℕ) where
-  pub short-refused : length s < 8 → refused (refusal 1 0) ≡ verdict (firstOf (sheetChecks s)) (settingsAt s)
+  pub short-refused : length s < headerSize → refused (refusal tooShortNumber 0) ≡ verdict (firstOf (sheetChecks s)) (settingsAt s)
   unfolding sheetChecks tooShort firstOf
   short-refused h = rw (lt-ltb (length s) 8 h)
 
@@ -38,7 +39,7 @@ module _ (s : List ℕ) where
 
     module _ (pass : firstOf (settingsChecks c) ≡ none) where
       pub length-refused :
-          (length s ≡ sheetLength c → ⊥) → refused (refusal 6 0) ≡ verdict (firstOf (sheetChecks s)) (settingsAt s)
+          (length s ≡ sheetLength c → ⊥) → refused (refusal badLengthNumber 0) ≡ verdict (firstOf (sheetChecks s)) (settingsAt s)
       unfolding badLength firstOf
       length-refused h = rw (checks-after-header, pass, ne-eqb (length s) (sheetLength c) h)
 

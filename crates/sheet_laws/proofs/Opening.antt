@@ -13,7 +13,7 @@ use Rattle.arithmetic.specs.Writing.{table, overwrite}
 use Rattle.model.specs.declared.Settings.{Settings}
 use Rattle.model.specs.declared.Refusal.{Refusal}
 use Rattle.model.specs.RoundSheet.{settingsAt, entryCount, markAt, bitsAt}
-use Rattle.model.specs.Refusals.{refusal, orNext, firstOf, sheetChecks, entryChecks, readChecks, noRoom}
+use Rattle.model.specs.Refusals.{refusal, orNext, firstOf, sheetChecks, entryChecks, readChecks, noRoom, noRoomNumber}
 use Rattle.model.specs.Calls.{granted, refused, verdict, read, Read}
 use Rattle.refusal_laws.proofs.Checks.{next-none-left, next-none-right}
 use Rattle.sheet_laws.proofs.Checks.{room-pass, room-passed}
@@ -32,11 +32,11 @@ module _ (s : List ℕ) (m r : ℕ) where
     checks-after-sizes : firstOf (readChecks s m r) ≡ orNext (noRoom m E) (orNext (noRoom r E) (firstOf (entryChecks s)))
     checks-after-sizes = rw (read-checks s m r, i .passes, entries)
 
-    pub short-marks : m < E → refused (refusal 7 0) ≡ verdict (firstOf (readChecks s m r)) (settingsAt s)
+    pub short-marks : m < E → refused (refusal noRoomNumber 0) ≡ verdict (firstOf (readChecks s m r)) (settingsAt s)
     unfolding noRoom
     short-marks h = rw (checks-after-sizes, lt-ltb m E h)
 
-    pub short-readings : E ≤ m → r < E → refused (refusal 7 0) ≡ verdict (firstOf (readChecks s m r)) (settingsAt s)
+    pub short-readings : E ≤ m → r < E → refused (refusal noRoomNumber 0) ≡ verdict (firstOf (readChecks s m r)) (settingsAt s)
     unfolding noRoom
     short-readings a h = rw (checks-after-sizes, le-ltb m E a, lt-ltb r E h)
 

@@ -13,7 +13,7 @@ use Rattle.arithmetic.specs.Counting.{lowest}
 use Rattle.arithmetic.specs.Writing.{table}
 use Rattle.arithmetic.proofs.Writing.{length-table, getD-table}
 use Rattle.arithmetic.proofs.Counting.{lowest-ext, lowest-found}
-use Rattle.model.specs.RoundSheet.{byte, word, markAt, bitsAt}
+use Rattle.model.specs.RoundSheet.{byte, word, markAt, bitsAt, headerSize}
 use Rattle.model.specs.Refusals.{atEntry, badMark, badMissing}
 use Rattle.model.specs.Refusals.{notZero}
 use Rattle.sheet_laws.proofs.Words.{word-ext}
@@ -36,36 +36,36 @@ table-part s k n h =
 
 -- bytes 8 to 8 + E, and the rest
 abbrev pub marksPart : List ℕ → ℕ → List ℕ
-marksPart s E = take (8 + E - 8) (drop 8 s)
+marksPart s E = take (headerSize + E - 8) (drop 8 s)
 
 abbrev pub readingsPart : List ℕ → ℕ → List ℕ
-readingsPart s E = take (length s - (8 + E)) (drop (8 + E) s)
+readingsPart s E = take (length s - (headerSize + E)) (drop (headerSize + E) s)
 
-module _ (s : List ℕ) (E : ℕ) (long : length s ≡ 8 + 5 * E) where
+module _ (s : List ℕ) (E : ℕ) (long : length s ≡ headerSize + 5 * E) where
   pub length-marksPart : length (marksPart s E) ≡ E
-  length-marksPart = length-take-le (8 + E - 8) (drop 8 s) fits ∙ same
+  length-marksPart = length-take-le (headerSize + E - 8) (drop 8 s) fits ∙ same
     where
-      fits : 8 + E - 8 ≤ length (drop 8 s)
+      fits : headerSize + E - 8 ≤ length (drop 8 s)
       fits = let d = length-drop 8 s in omega arith
 
-      same : 8 + E - 8 ≡ E
+      same : headerSize + E - 8 ≡ E
       same = omega arith
 
   pub marksPart-at : (e : ℕ) → e < E → byte (marksPart s E) e ≡ markAt s e
-  marksPart-at e h = getD-take (8 + E - 8) (drop 8 s) e 0 (omega arith) ∙ getD-drop 8 s e 0
+  marksPart-at e h = getD-take (headerSize + E - 8) (drop 8 s) e 0 (omega arith) ∙ getD-drop 8 s e 0
 
   pub marksPart-table : marksPart s E ≡ table (markAt s) E
   marksPart-table =
       ap (λ (k : ℕ). take k (drop 8 s)) same ∙ sym (table-part s 8 E (omega arith))
     where
-      same : 8 + E - 8 ≡ E
+      same : headerSize + E - 8 ≡ E
       same = omega arith
 
-  readingsPart-rest : readingsPart s E ≡ drop (8 + E) s
-  readingsPart-rest = take-all (length s - (8 + E)) (drop (8 + E) s) (let d = length-drop (8 + E) s in omega arith)
+  readingsPart-rest : readingsPart s E ≡ drop (headerSize + E) s
+  readingsPart-rest = take-all (length s - (headerSize + E)) (drop (headerSize + E) s) (let d = length-drop (headerSize + E) s in omega arith)
 
   pub readingsPart-at : (e : ℕ) → word (readingsPart s E) (4 * e) ≡ bitsAt s E e
-  readingsPart-at e = ap (λ (l : List ℕ). word l (4 * e)) readingsPart-rest ∙ word-drop s (8 + E) (4 * e)
+  readingsPart-at e = ap (λ (l : List ℕ). word l (4 * e)) readingsPart-rest ∙ word-drop s (headerSize + E) (4 * e)
 
   -- ---- searches
 

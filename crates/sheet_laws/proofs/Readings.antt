@@ -11,6 +11,7 @@ use lib.ListN.{length, getD}
 use mir.Syntax.{w32}
 use mir.Val.{SFits, toZ, ofZ}
 use mir.Facts.{fits-ofZ, fits-lt-pow, toZ-ofZ}
+use Rattle.arithmetic.specs.Words.{twoTo31, twoTo32}
 use Rattle.model.specs.RoundSheet.{word, bytes4, readingBytes}
 use Rattle.sheet_laws.proofs.Words.{word-bytes4, word-append-right}
 
@@ -29,11 +30,11 @@ readingBytes-append (z ∷ zs) ys =
     ∙ sym (append-assoc (bytes4 (ofZ w32 z)) (readingBytes zs) (readingBytes ys))
 
 -- the bits of a number that 32 signed bits hold are below 2^32
-pub bits-fit : (z : ℤ) → SFits w32 z → ofZ w32 z < 4_294_967_296
+pub bits-fit : (z : ℤ) → SFits w32 z → ofZ w32 z < twoTo32
 bits-fit z h = fits-lt-pow (fits-ofZ h)
 
 -- such a number is that of its bits
-pub bits-again : (z : ℤ) → mag z < 2_147_483_648 → toZ w32 (ofZ w32 z) ≡ z
+pub bits-again : (z : ℤ) → mag z < twoTo31 → toZ w32 (ofZ w32 z) ≡ z
 bits-again z h = toZ-ofZ (record { sfits = h })
 
 pub length-bytes4 : (x : ℕ) → length (bytes4 x) ≡ 4

@@ -16,6 +16,7 @@ use Rattle.arithmetic.proofs.Writing.{length-table, getD-table}
 use Rattle.model.specs.RoundSheet.{byte, word, settingsAt, entryCount, markAt, bitsAt, bytes4, readingBytes, sizeBytes, sheetBytes}
 use Rattle.model.specs.Refusals.{firstOf, sheetChecks, entryChecks}
 use Rattle.model.specs.Calls.{marksOf, ticksOf}
+use Rattle.model.specs.RoundSheet.{headerSize}
 use Rattle.sheet_laws.proofs.Checks.{settings-passed, sheet-length-passed, sheet-marks-passed, sheet-missing-passed}
 use Rattle.sheet_laws.proofs.Parts.{table-part}
 use Rattle.sheet_laws.proofs.Words.{word-fits, bytes4-word, take4}
@@ -58,14 +59,14 @@ module _ (s : List ℕ) (small : (i : ℕ) → byte s i < 256) where
   sheet-again h = joined (entryCount (settingsAt s)) (sheet-length-passed s h)
     where
       joined :
-          (E : ℕ) → length s ≡ 8 + 5 * E
+          (E : ℕ) → length s ≡ headerSize + 5 * E
           → sizeBytes (settingsAt s) ++ (table (markAt s) E ++ readingBytes (table (λ e. toZ w32 (bitsAt s E e)) E))
           ≡ s
       joined E long =
           let sizes : sizeBytes (settingsAt s) ≡ take 8 s = sizes-part (omega arith) in
           let marks : table (markAt s) E ≡ take E (drop 8 s) = table-part s 8 E (omega arith) in
-          let readings : readingBytes (table (λ e. toZ w32 (bitsAt s E e)) E) ≡ take (4 * E) (drop (8 + E) s) = readings-part (8 + E) E (omega arith) in
-          let rest : take (4 * E) (drop (8 + E) s) ≡ drop (8 + E) s = take-all (4 * E) (drop (8 + E) s) (let d = length-drop (8 + E) s in omega arith) in
+          let readings : readingBytes (table (λ e. toZ w32 (bitsAt s E e)) E) ≡ take (4 * E) (drop (headerSize + E) s) = readings-part (headerSize + E) E (omega arith) in
+          let rest : take (4 * E) (drop (headerSize + E) s) ≡ drop (headerSize + E) s = take-all (4 * E) (drop (headerSize + E) s) (let d = length-drop (headerSize + E) s in omega arith) in
           ap₂ (λ (l r : List ℕ). l ++ r) sizes
           (ap₂ (λ (l r : List ℕ). l ++ r) marks (readings ∙ rest ∙ sym (drop-drop E 8 s)) ∙ take-append-drop E (drop 8 s))
           ∙ take-append-drop 8 s
@@ -87,7 +88,7 @@ module _ (s : List ℕ) (small : (i : ℕ) → byte s i < 256) where
             marksPass = λ e h. rw (getD-table (markAt s) E e 0 (rw same at h)) (sheet-marks-passed s b e h);
             readingsFit = λ e h.
                 rw (getD-table (λ i. toZ w32 (bitsAt s E i)) E e (pos 0) (rw same at h))
-                (sfits-toZ {w = w32} (fits-of-lt (word-fits s (8 + E + 4 * e) small)));
+                (sfits-toZ {w = w32} (fits-of-lt (word-fits s (headerSize + E + 4 * e) small)));
             missingZero = λ e h m.
                 getD-table (λ i. toZ w32 (bitsAt s E i)) E e (pos 0) (rw same at h)
                 ∙ ap (toZ w32)

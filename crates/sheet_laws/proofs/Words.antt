@@ -10,16 +10,17 @@ use lib.Arith.{mod-mul}
 use lib.Dec.{lit<}
 use lib.ListN.{length, take, drop, List·getD-append, List·getD-eq-default}
 use lib.Seq.{getD-append-add, drop-cons}
+use Rattle.arithmetic.specs.Words.{twoTo32}
 use Rattle.model.specs.RoundSheet.{byte, word, bytes4}
 
 -- ---- a number's own bytes
 
 -- the four digits of a number below 2^32, to the base 256, make the number
 pub digits4 :
-    (x : ℕ) → x < 4_294_967_296
+    (x : ℕ) → x < twoTo32
     → x % 256 + 256 * (x / 256 % 256) + 65536 * (x / 65536 % 256) + 16777216 * (x / 16777216 % 256) ≡ x
 digits4 x h =
-    sums (x % 256) (x / 256 % 256) (x / 65536 % 256) (x / 16777216 % 256) (x % 65536) (x % 16777216) (x % 4_294_967_296) x
+    sums (x % 256) (x / 256 % 256) (x / 65536 % 256) (x / 16777216 % 256) (x % 65536) (x % 16777216) (x % twoTo32) x
     (mod-mul x {m = 256} {c = 256} (lit< tt) (lit< tt))
     (mod-mul x {m = 256} {c = 65536} (lit< tt) (lit< tt))
     (mod-mul x {m = 256} {c = 16777216} (lit< tt) (lit< tt))
@@ -30,7 +31,7 @@ digits4 x h =
         → a + 256 * b + 65536 * c + 16777216 * d ≡ x
     sums a b c d p q r x e f g h = omega arith
 
-pub word-bytes4 : (x : ℕ) (rest : List ℕ) → x < 4_294_967_296 → word (bytes4 x ++ rest) 0 ≡ x
+pub word-bytes4 : (x : ℕ) (rest : List ℕ) → x < twoTo32 → word (bytes4 x ++ rest) 0 ≡ x
 unfolding word bytes4
 word-bytes4 x rest h = digits4 x h
 
@@ -71,7 +72,7 @@ word-past s i h =
     over k = omega arith
 
 -- a number of four bytes is below 2^32
-pub word-fits : (s : List ℕ) (i : ℕ) → ((j : ℕ) → byte s j < 256) → word s i < 4_294_967_296
+pub word-fits : (s : List ℕ) (i : ℕ) → ((j : ℕ) → byte s j < 256) → word s i < twoTo32
 unfolding word
 word-fits s i small =
     let first = small i in

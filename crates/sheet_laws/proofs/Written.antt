@@ -16,6 +16,7 @@ use mir.Val.{SFits, toZ, ofZ}
 use mir.Facts.{toZ-ofZ}
 use Rattle.arithmetic.specs.Writing.{table}
 use Rattle.arithmetic.proofs.Writing.{table-ext, table-getD}
+use Rattle.arithmetic.specs.Words.{twoTo32}
 use Rattle.model.specs.declared.Settings.{Settings}
 use Rattle.model.specs.Ensemble.{Reading, missing, present}
 use Rattle.model.specs.RoundSheet.{word, settingsAt, entryCount, sheetLength, markAt, bitsAt, entryAt, bytes4, readingBytes, sizeBytes, sheetBytes}
@@ -41,7 +42,7 @@ unfolding sizeBytes bytes4
 length-sizeBytes c = refl
 
 module _ (c : Settings) (marks : List ℕ) (readings : List ℤ) where
-  pub written-settings : c .window < 4_294_967_296 → settingsAt (sheetBytes c marks readings) ≡ c
+  pub written-settings : c .window < twoTo32 → settingsAt (sheetBytes c marks readings) ≡ c
   unfolding sheetBytes sizeBytes bytes4 word
   written-settings h =
       ap (λ (w : ℕ). record { n = c .n; m = c .m; rule = c .rule; estimator = c .estimator; window = w }) (digits4 (c .window) h)
@@ -86,7 +87,7 @@ pub entry-present : (mark : ℕ) (z : ℤ) → mark ≡ 1 → entryWith mark z �
 entry-present mark z h = rw h
 
 module _ (c : Settings) (marks : List ℕ) (readings : List ℤ) (w : WellFormed c marks readings) where
-  window-fits : c .window < 4_294_967_296
+  window-fits : c .window < twoTo32
   window-fits = let l = limits c (w .settingsPass) in omega arith
 
   -- the sheet's settings

@@ -5,15 +5,17 @@ ghost use lib.ListN.{length};
 ghost use mir.Syntax.{w32};
 ghost use mir.Val.{toZ};
 ghost use Rattle.arithmetic.specs.Writing.{table, overwrite};
-ghost use Rattle.model.specs.RoundSheet.{settingsAt, bitsAt};
+ghost use Rattle.model.specs.RoundSheet.{settingsAt, bitsAt, headerSize};
 ghost use Rattle.model.specs.Refusals.{firstOf, readChecks};
 ghost use Rattle.model.specs.Calls.{verdict, row, read};
 ghost use Rattle.sheet_checks.specs.Answers.{openedOf};
 ghost use Rattle.sheet_reader.specs.Answers.{readOf};
-use settings_checks::Screened;
-use tick::Tick;
-use sheet_checks::Opened;
+use model::HEADER_SIZE;
+use model::NO_ROOM;
 use model::Refusal;
+use settings_checks::Screened;
+use sheet_checks::Opened;
+use tick::Tick;
 
 // The part of the sheet that holds cabinet r's readings. It is empty for a sheet that checks 1 to 6, 8 or 9 refuse,
 // and from cabinet N on.
@@ -28,7 +30,7 @@ pub fn row(sheet: &[u8], r: usize) -> &[u8]
 
 // Fills the first entries of readings with the sheet's.
 fn decode(sheet: &[u8], entries: usize, readings: &mut [i32])
-    requires { ⌜ (8 + entries + 4 * entries ≤ length (now sheet)) × (entries ≤ length (now readings)) ⌝ }
+    requires { ⌜ (headerSize + entries + 4 * entries ≤ length (now sheet)) × (entries ≤ length (now readings)) ⌝ }
     ensures { λ _.
         ⌜ now (readings .exit)
         ≡ overwrite (table (λ e. toZ w32 (bitsAt (now (sheet .entry)) entries e)) entries)
@@ -36,7 +38,7 @@ fn decode(sheet: &[u8], entries: usize, readings: &mut [i32])
 {
     let mut e: usize = 0;
     'entries: while e < entries {
-        let i = 8 + entries + 4 * e;
+        let i = HEADER_SIZE + entries + 4 * e;
         let tick = Tick::from_bits(words::join(sheet[i], sheet[i + 1], sheet[i + 2], sheet[i + 3]));
         let ticks = tick.0;
         readings[e] = ticks;
@@ -56,13 +58,13 @@ fn open(sheet: &[u8], marks: usize, readings: usize) -> Opened
             let entries = sheet_checks::entry_count(settings);
             if marks < entries {
                 return Opened::Refused(Refusal {
-                    number: 7,
+                    number: NO_ROOM,
                     place: 0,
                 });
             }
             if readings < entries {
                 return Opened::Refused(Refusal {
-                    number: 7,
+                    number: NO_ROOM,
                     place: 0,
                 });
             }
@@ -85,8 +87,8 @@ pub fn read(sheet: &[u8], marks: &mut [u8], readings: &mut [i32]) -> Opened
         Opened::Refused(r) => Opened::Refused(r),
         Opened::Granted(settings) => {
             let entries = sheet_checks::entry_count(settings);
-            let body = 8 + entries;
-            bytes::copy(&sheet[8..body], marks);
+            let body = HEADER_SIZE + entries;
+            bytes::copy(&sheet[HEADER_SIZE..body], marks);
             decode(sheet, entries, readings);
             Opened::Granted(settings)
         }

@@ -13,11 +13,16 @@ ghost use Rattle.model.specs.Refusals.{firstOf, notZero, arrayChecks, writeChec
 ghost use Rattle.model.specs.Calls.{write};
 ghost use Rattle.entry_checks.specs.Answers.{foundOf};
 ghost use Rattle.sheet_writer.specs.Answers.{writtenOf};
-use settings_checks::Screened;
-use tick::Tick;
 use entry_checks::Found;
+use model::BAD_LENGTH;
+use model::BAD_MARK;
+use model::BAD_MISSING;
+use model::HEADER_SIZE;
+use model::NO_ROOM;
 use model::Refusal;
 use model::Settings;
+use settings_checks::Screened;
+use tick::Tick;
 
 // The length of the sheet written, or the first refusal.
 pub enum Filled {
@@ -60,13 +65,13 @@ fn check_arrays(marks: &[u8], readings: &[i32]) -> Screened
 {
     match entry_checks::bad_mark(marks) {
         Found::At(e) => Screened::Refused(Refusal {
-            number: 8,
+            number: BAD_MARK,
             place: e as u32,
         }),
         Found::Nothing => {
             match bad_missing(marks, readings) {
                 Found::At(e) => Screened::Refused(Refusal {
-                    number: 9,
+                    number: BAD_MISSING,
                     place: e as u32,
                 }),
                 Found::Nothing => Screened::Passed,
@@ -85,19 +90,19 @@ fn check(settings: Settings, marks: &[u8], readings: &[i32], room: usize) -> Scr
             let entries = sheet_checks::entry_count(settings);
             if marks.len() != entries {
                 return Screened::Refused(Refusal {
-                    number: 6,
+                    number: BAD_LENGTH,
                     place: 0,
                 });
             }
             if readings.len() != entries {
                 return Screened::Refused(Refusal {
-                    number: 6,
+                    number: BAD_LENGTH,
                     place: 0,
                 });
             }
-            if room < 8 + 5 * entries {
+            if room < HEADER_SIZE + 5 * entries {
                 return Screened::Refused(Refusal {
-                    number: 7,
+                    number: NO_ROOM,
                     place: 0,
                 });
             }
@@ -153,8 +158,8 @@ pub fn write(settings: Settings, marks: &[u8], readings: &[i32], buffer: &mut [u
         Screened::Refused(r) => Filled::Refused(r),
         Screened::Passed => {
             put_sizes(settings, buffer);
-            put_entries(marks, readings, &mut buffer[8..]);
-            Filled::Granted(8 + 5 * marks.len())
+            put_entries(marks, readings, &mut buffer[HEADER_SIZE..]);
+            Filled::Granted(HEADER_SIZE + 5 * marks.len())
         }
     }
 }

@@ -11,7 +11,7 @@ use mir.Val.{SFits}
 use Rattle.arithmetic.specs.Writing.{overwrite}
 use Rattle.arithmetic.proofs.Counting.{initial, last}
 use Rattle.model.specs.RoundSheet.{byte, word}
-use Rattle.model.specs.AnswerSheet.{answerBytes}
+use Rattle.model.specs.AnswerSheet.{answerBytes, answerHeaderSize}
 use Rattle.model.specs.Steps.{Round}
 use Rattle.model.specs.Listing.{cabinetLines, roundText}
 use Rattle.sheet_laws.proofs.Answer.{answer-cabinets, answer-count, answer-estimate, answer-value, answer-mark, answer-used}
@@ -23,7 +23,7 @@ use Rattle.text.proofs.Lines.{length-round-line, cabinets-more, cabinet
 -- ---- the lines of an answer sheet's bytes
 
 module _ (s : List ℕ) where
-  module _ (n r mark used : ℕ) (cabinets : n ≡ byte s 0) (m : mark ≡ byte s (10 + r)) (u : used ≡ word s (10 + n + 4 * r)) where
+  module _ (n r mark used : ℕ) (cabinets : n ≡ byte s 0) (m : mark ≡ byte s (answerHeaderSize + r)) (u : used ≡ word s (answerHeaderSize + n + 4 * r)) where
     pub cabinet-next : cabinetLines (answerRound s) (r + 1) ≡ cabinetLines (answerRound s) r ++ cabinetLine r mark used
     unfolding answerRound
     cabinet-next = rw (m, u, cabinets) (cabinets-more (answerRound s) r)
@@ -52,7 +52,7 @@ module _ (s : List ℕ) where
   length-round small =
       let few = small 0 in
       let first = length-round-line (byte s 0) (byte s 1) (word s 2) (word s 6) few (small 1) in
-      let rest = length-cabinets (answerRound s) (byte s 0) (omega arith) (λ r l. small (10 + r)) in
+      let rest = length-cabinets (answerRound s) (byte s 0) (omega arith) (λ r l. small (answerHeaderSize + r)) in
       let whole = length-append (roundLine (byte s 0) (byte s 1) (word s 2) (word s 6)) (cabinetLines (answerRound s) (byte s 0)) in
       omega arith
 

@@ -13,6 +13,7 @@ use lib.ListN.{length, getD, length-append, List·getD-append}
 use lib.Seq.{getD-at}
 use Rattle.arithmetic.proofs.Bools.{both-ways}
 use Rattle.arithmetic.proofs.Counting.{split-last}
+use Rattle.arithmetic.specs.Words.{twoTo32}
 use Rattle.model.specs.Listing.{digitsUpTo, decimal}
 
 -- ---- one digit, or one digit more than the tenth part has
@@ -140,14 +141,14 @@ pub decimal-small : (x : ℕ) → x < 10 → decimal x ≡ (48 + x) ∷ []
 decimal-small x h = digits-small 9 x h
 
 -- the tenth part in decimal, then the last digit
-pub decimal-large : (x : ℕ) → x < 4_294_967_296 → 10 ≤ x → decimal x ≡ decimal (x / 10) ++ ((48 + x % 10) ∷ [])
+pub decimal-large : (x : ℕ) → x < twoTo32 → 10 ≤ x → decimal x ≡ decimal (x / 10) ++ ((48 + x % 10) ∷ [])
 decimal-large x fits h =
     digits-large 9 x h ∙ ap (λ (l : List ℕ). l ++ ((48 + x % 10) ∷ [])) (sym (digits-enough 8 (x / 10) tenth))
   where
     tenth : x / 10 < 1_000_000_000
     tenth = omega arith
 
-pub length-decimal-large : (x : ℕ) → x < 4_294_967_296 → 10 ≤ x → length (decimal x) ≡ length (decimal (x / 10)) + 1
+pub length-decimal-large : (x : ℕ) → x < twoTo32 → 10 ≤ x → length (decimal x) ≡ length (decimal (x / 10)) + 1
 length-decimal-large x fits h = ap length (decimal-large x fits h) ∙ length-append (decimal (x / 10)) ((48 + x % 10) ∷ [])
 
 pub length-decimal : (x : ℕ) → length (decimal x) ≤ 10
@@ -162,7 +163,7 @@ length-decimal-byte x h = length-digits-below 10 2 x below
 pub decimal-some : (x : ℕ) → 0 < length (decimal x)
 decimal-some x = digits-some 9 x
 
-module _ (x : ℕ) (fits : x < 4_294_967_296) where
+module _ (x : ℕ) (fits : x < twoTo32) where
   below-ten-digits : x < 10_000_000_000
   below-ten-digits = omega arith
 

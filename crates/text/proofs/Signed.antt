@@ -11,19 +11,20 @@ use lib.IntN.{ℤ, pos, negsuc}
 use lib.ListN.{length, getD}
 use mir.Syntax.{w32}
 use mir.Val.{SFits, toZ}
+use Rattle.arithmetic.specs.Words.{twoTo31, twoTo32}
 use Rattle.model.specs.Listing.{decimal, signedDecimal}
 use Rattle.text.proofs.Digits.{length-decimal, readFrom, read-decimal, decimal-some, all-digits}
 
 -- ---- by the bits
 
-pub signed-low : (bits : ℕ) → bits < 2_147_483_648 → signedDecimal (toZ w32 bits) ≡ decimal bits
-signed-low bits h = rw (lt-ltb bits 2_147_483_648 h)
+pub signed-low : (bits : ℕ) → bits < twoTo31 → signedDecimal (toZ w32 bits) ≡ decimal bits
+signed-low bits h = rw (lt-ltb bits twoTo31 h)
 
-pub signed-high : (bits : ℕ) → bits < 4_294_967_296 → 2_147_483_648 ≤ bits
+pub signed-high : (bits : ℕ) → bits < twoTo32 → twoTo31 ≤ bits
     → signedDecimal (toZ w32 bits) ≡ 45 ∷ decimal (4_294_967_295 - bits + 1)
-signed-high bits fits h = rw (le-ltb bits 2_147_483_648 h) (ap (λ (x : ℕ). 45 ∷ decimal x) magnitude)
+signed-high bits fits h = rw (le-ltb bits twoTo31 h) (ap (λ (x : ℕ). 45 ∷ decimal x) magnitude)
   where
-    magnitude : suc (4_294_967_296 - suc bits) ≡ 4_294_967_295 - bits + 1
+    magnitude : suc (twoTo32 - suc bits) ≡ 4_294_967_295 - bits + 1
     magnitude = omega arith
 
 pub length-signed : (z : ℤ) → length (signedDecimal z) ≤ 11
@@ -49,8 +50,8 @@ read-unsigned (b ∷ bytes) h = rw (ne-eqb b 45 (λ e. omega arith), readSigned)
 pub read-signed : (z : ℤ) → SFits w32 z → readSigned (signedDecimal z) ≡ z
 unfolding readSigned
 read-signed (pos x) fits =
-    let h : x < 2_147_483_648 = fits .sfits in
+    let h : x < twoTo31 = fits .sfits in
     read-unsigned (decimal x) (all-digits 10 x 0 (decimal-some x) .0) ∙ ap pos (read-decimal x (omega arith))
 read-signed (negsuc x) fits =
-    let h : x < 2_147_483_648 = fits .sfits in
+    let h : x < twoTo31 = fits .sfits in
     ap below-zero (read-decimal (suc x) (omega arith))

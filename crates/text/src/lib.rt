@@ -9,6 +9,7 @@ ghost use Rattle.model.specs.RoundSheet.{byte};
 ghost use Rattle.model.specs.Listing.{decimal, signedDecimal, cabinetLines};
 ghost use Rattle.text.specs.Putting.{Puts};
 ghost use Rattle.text.specs.Text.{answerRound, roundLine, cabinetLine, roundWritten, refusalWritten};
+use model::ANSWER_HEADER_SIZE;
 
 // Bytes that hold the longest text of an answer sheet, and of a refusal.
 pub const ROUND_CAPACITY: usize = 5138;
@@ -130,8 +131,8 @@ fn put_cabinets(text: &mut [u8], at: usize, answer: &[u8], n: u32) -> usize
         let r = passed;
         passed += 1;
         let i = r as usize;
-        let mark = words::byte_at(answer, 10 + i) as u32;
-        let used = words::word_at(answer, 10 + (n as usize) + 4 * i);
+        let mark = words::byte_at(answer, ANSWER_HEADER_SIZE + i) as u32;
+        let used = words::word_at(answer, ANSWER_HEADER_SIZE + (n as usize) + 4 * i);
         next = put_cabinet(text, next, r, mark, used);
     }
     next

@@ -3,10 +3,11 @@
 use mathlib.Core.Path.{_≡_}
 use Prim.Native.Nat.{ℕ, _+_, _*_, _<_}
 use native.Mathlib.Omega.{arith}
+use Rattle.arithmetic.specs.Words.{twoTo32}
 use Rattle.tohiranga.specs.Answers.{upperHalf, lowerHalf}
 
-pub upper-back : (upper lower : ℕ) → lower < 4294967296 → upperHalf (upper * 4294967296 + lower) ≡ upper
+pub upper-back : (upper lower : ℕ) → lower < twoTo32 → upperHalf (upper * twoTo32 + lower) ≡ upper
 upper-back upper lower h = omega arith
 
-pub lower-back : (upper lower : ℕ) → lower < 4294967296 → lowerHalf (upper * 4294967296 + lower) ≡ lower
+pub lower-back : (upper lower : ℕ) → lower < twoTo32 → lowerHalf (upper * twoTo32 + lower) ≡ lower
 lower-back upper lower h = omega arith

@@ -10,8 +10,9 @@ use borrow.Author.Tests.{ltb-true, ltb-false, ne-eqb}
 use lib.Dec.{ltb, eqb}
 use lib.ListN.{length, take, drop, length-drop}
 use lib.Seq.{length-take-le}
+use Rattle.arithmetic.specs.Words.{twoTo32}
 use Rattle.model.specs.declared.Settings.{Settings}
-use Rattle.model.specs.RoundSheet.{cca, settingsAt, entryCount, rowEntries, rowStart, rowLength, rowPart}
+use Rattle.model.specs.RoundSheet.{cca, settingsAt, entryCount, rowEntries, rowStart, rowLength, rowPart, headerSize}
 use Rattle.model.specs.Refusals.{Check, firstOf, rowChecks}
 use Rattle.model.specs.Calls.{granted, verdict, row}
 use Rattle.sheet_laws.proofs.Inspection.{Validated, validated}
@@ -65,17 +66,17 @@ module _ (s : List ℕ) (c : Settings) (v : Validated s c) (r : ℕ) (h : r < c 
       ∙ length-take-le (rowLength c) (drop (rowStart c r) s)
       (let rest = length-drop (rowStart c r) s in let ends = row-ends in omega arith)
 
-  shown-packed : rowStart c r * 4294967296 + rowLength c ≡ packedRow s r
+  shown-packed : rowStart c r * twoTo32 + rowLength c ≡ packedRow s r
   unfolding packedRow
   shown-packed =
       rw (v .sizes .settings, row-long, ne-eqb (rowLength c) 0 (λ e. let some-one = some-entry in omega arith))
 
   -- as the call computes it
-  pub row-packed : (E w : ℕ) → E ≡ entryCount c → w ≡ rowEntries c → (8 + E + 4 * (r * w)) * 4294967296 + 4 * w ≡ packedRow s r
+  pub row-packed : (E w : ℕ) → E ≡ entryCount c → w ≡ rowEntries c → (headerSize + E + 4 * (r * w)) * twoTo32 + 4 * w ≡ packedRow s r
   row-packed E w entries width =
-      ap₂ (λ (a b : ℕ). (8 + a + 4 * (r * b)) * 4294967296 + 4 * b) entries width ∙ shown-packed
+      ap₂ (λ (a b : ℕ). (headerSize + a + 4 * (r * b)) * twoTo32 + 4 * b) entries width ∙ shown-packed
 
-  small : rowLength c < 4294967296
+  small : rowLength c < twoTo32
   small = let few = row-few (rowEntries c) refl in omega arith
 
   shown-named : partIn s (packedRow s r) ≡ row s r

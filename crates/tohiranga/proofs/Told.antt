@@ -12,17 +12,19 @@ use lib.IntN.{ℤ}
 use lib.ListN.{length}
 use Rattle.arithmetic.specs.Counting.{lowest}
 use Rattle.arithmetic.proofs.Counting.{lowest-found}
+use Rattle.arithmetic.specs.Words.{twoTo32}
 use Rattle.model.specs.declared.Refusal.{Refusal}
 use Rattle.model.specs.declared.Settings.{Settings}
 use Rattle.model.specs.RoundSheet.{byte, word, settingsAt, entryCount, sheetLength, markAt, bitsAt, bitsIn}
-use Rattle.model.specs.AnswerSheet.{answerLength}
+use Rattle.model.specs.AnswerSheet.{answerLength, answerHeaderSize}
 use Rattle.model.specs.Steps.{roundAt}
-use Rattle.model.specs.Planner.{Plan, planFrom, advance, after, windowAfter}
+use Rattle.model.specs.Planner.{Plan, planFrom, advance, after, windowAfter, maxAccuracy}
 use Rattle.model.specs.Refusals.{Check, refusal, refuseIf, atEntry, orNext, firstOf, tooShort, badCabinets, badFaults, badMethod, badWindow}
 use Rattle.model.specs.Refusals.{badLength, noRoom, notZero, badMark, badMissing, tooManyFaults, badPlan, targetMissed}
 use Rattle.model.specs.Refusals.{settingsChecks, sheetChecks, arrayChecks, entryChecks, planningChecks}
 use Rattle.model.specs.Refusals.{readChecks, writeChecks, settleChecks, planChecks, stepChecks, targetChecks}
 use Rattle.model.specs.Calls.{Verdict, granted, refused, verdict, read, write, settle, plan, step, Target}
+use Rattle.model.specs.Ensemble.{maxCabinets, maxWindow}
 use Rattle.refusal_laws.proofs.Checks.{first-append, first-snoc, next-none-left}
 use Rattle.refusal_laws.proofs.Limits.{limits, entries-most}
 use Rattle.sheet_laws.proofs.Checks.{settings-passed}
@@ -40,7 +42,7 @@ use Rattle.tohiranga.proofs.Halves.{upper-back, lower-back}
 record InTable (r : Refusal) : Type 0 where
   first : 1 ≤ r .number
   last : r .number ≤ 12
-  small : r .place < 4294967296
+  small : r .place < twoTo32
 
 -- a check that refuses gives such a refusal
 record Sound (check : Check) : Type 0 where
@@ -49,7 +51,7 @@ record Sound (check : Check) : Type 0 where
 none-sound : Sound none
 none-sound = record { told = λ r e. let clash : _≡_ {A = ℕ} 0 1 = cc in absurd (omega arith) }
 
-some-sound : (number place : ℕ) → 1 ≤ number → number ≤ 12 → place < 4294967296 → Sound (some (refusal number place))
+some-sound : (number place : ℕ) → 1 ≤ number → number ≤ 12 → place < twoTo32 → Sound (some (refusal number place))
 some-sound number place a b d =
     record { told = λ r e. let same : refusal number place ≡ r = cc in subst InTable same (record { first = a; last = b; small = d }) }
 
@@ -77,10 +79,10 @@ module _ (c : Settings) where
   settings-sound : Sound (firstOf (settingsChecks c))
   unfolding firstOf settingsChecks badCabinets badFaults badMethod badWindow
   settings-sound =
-      next-sound (badCabinets c) _ (test-sound (eqb (c .n) 0 || ltb 64 (c .n)) 2 (omega arith) (omega arith)) λ _.
+      next-sound (badCabinets c) _ (test-sound (eqb (c .n) 0 || ltb maxCabinets (c .n)) 2 (omega arith) (omega arith)) λ _.
       next-sound (badFaults c) _ (test-sound (ltb (c .n) (3 * c .m + 1)) 3 (omega arith) (omega arith)) λ _.
       next-sound (badMethod c) _ (test-sound (ltb 1 (c .rule) || ltb 2 (c .estimator)) 4 (omega arith) (omega arith)) λ _.
-      next-sound (badWindow c) none (test-sound (ltb 1000000 (c .window)) 5 (omega arith) (omega arith)) λ _. none-sound
+      next-sound (badWindow c) none (test-sound (ltb maxWindow (c .window)) 5 (omega arith) (omega arith)) λ _. none-sound
 
   few-entries : firstOf (settingsChecks c) ≡ none → entryCount c ≤ 4096
   few-entries pass = entries-most c (limits c pass .cabinets)
@@ -154,9 +156,9 @@ write-sound c marks readings room =
 target-sound : (c : Settings) (κ target : ℕ) → Sound (firstOf (targetChecks c κ target))
 unfolding targetChecks firstOf badPlan targetMissed
 target-sound c κ target =
-    rw (first-append (settingsChecks c) (badPlan (ltb 1000000000 κ) ∷ targetMissed (windowAfter 32 c κ) target ∷ []))
+    rw (first-append (settingsChecks c) (badPlan (ltb maxAccuracy κ) ∷ targetMissed (windowAfter 32 c κ) target ∷ []))
     (next-sound (firstOf (settingsChecks c)) _ (settings-sound c) λ _.
-    next-sound (badPlan (ltb 1000000000 κ)) _ (test-sound (ltb 1000000000 κ) 11 (omega arith) (omega arith)) λ _.
+    next-sound (badPlan (ltb maxAccuracy κ)) _ (test-sound (ltb maxAccuracy κ) 11 (omega arith) (omega arith)) λ _.
     next-sound (targetMissed (windowAfter 32 c κ) target) none (test-sound (ltb target (windowAfter 32 c κ)) 12 (omega arith) (omega arith)) λ _.
     none-sound)
 
@@ -173,17 +175,17 @@ refusal-tells r t =
       last = t .last;
     }
 
-size-tells : (check : Check) (size : ℕ) → Sound check → (check ≡ none → size < 4294967296)
+size-tells : (check : Check) (size : ℕ) → Sound check → (check ≡ none → size < twoTo32)
     → AnswerTells (verdict check size) (packed (verdict check size))
 size-tells none size t small = small refl
 size-tells (some r) size t small = refusal-tells r (t .told r refl)
 
-opening-tells : (check : Check) (c : Settings) → Sound check → (check ≡ none → entryCount c < 4294967296)
+opening-tells : (check : Check) (c : Settings) → Sound check → (check ≡ none → entryCount c < twoTo32)
     → AnswerTells (verdict check c) (openingOf (verdict check c) .answer)
 opening-tells none c t small = small refl
 opening-tells (some r) c t small = refusal-tells r (t .told r refl)
 
-planning-tells : (check : Check) (p : Plan) → Sound check → (check ≡ none → p .rounds < 4294967296)
+planning-tells : (check : Check) (p : Plan) → Sound check → (check ≡ none → p .rounds < twoTo32)
     → AnswerTells (verdict check p) (planningOf (verdict check p) .answer)
 planning-tells none p t small = small refl
 planning-tells (some r) p t small = refusal-tells r (t .told r refl)
@@ -216,7 +218,7 @@ write-tells c marks readings buffer =
 plan-tells : (c : Settings) (κ k : ℕ) → AnswerTells (plan c κ k) (planningOf (plan c κ k) .answer)
 unfolding plan planChecks
 plan-tells c κ k =
-    planning-tells (firstOf (planChecks c κ k)) (after k (planFrom c κ)) (planning-sound c (ltb 1000000000 κ || ltb 32 k)) λ pass.
+    planning-tells (firstOf (planChecks c κ k)) (after k (planFrom c κ)) (planning-sound c (ltb maxAccuracy κ || ltb 32 k)) λ pass.
     let few = none-may-start c κ k pass .few in
     let done = rounds-after k (planFrom c κ) in
     omega arith
@@ -241,7 +243,7 @@ module _ (a : List ℕ) where
   answer-sound : Sound (firstOf (answerChecks a))
   unfolding answerChecks firstOf badCabinets
   answer-sound =
-      next-sound (badCabinets (settingsAt a)) _ (test-sound (eqb (byte a 0) 0 || ltb 64 (byte a 0)) 2 (omega arith) (omega arith)) λ _.
+      next-sound (badCabinets (settingsAt a)) _ (test-sound (eqb (byte a 0) 0 || ltb maxCabinets (byte a 0)) 2 (omega arith) (omega arith)) λ _.
       next-sound (badLength (length a) (answerLength (byte a 0))) none (length-sound (length a) (answerLength (byte a 0))) λ _. none-sound
 
   cabinet-sound : (r : ℕ) → Sound (firstOf (cabinetChecks a r))
@@ -251,7 +253,7 @@ module _ (a : List ℕ) where
       (next-sound (firstOf (answerChecks a)) _ answer-sound λ _. room-sound (byte a 0) (r + 1))
 
   module _ (small : (i : ℕ) → byte a i < 256) where
-    byte-below : (i : ℕ) → byte a i < 4294967296
+    byte-below : (i : ℕ) → byte a i < twoTo32
     byte-below i = let b = small i in omega arith
 
     fields-tell : (r : ℕ) → FieldsTell a r
@@ -262,9 +264,9 @@ module _ (a : List ℕ) where
           count = size-tells (firstOf (answerChecks a)) (byte a 1) answer-sound (λ _. byte-below 1);
           estimate = size-tells (firstOf (answerChecks a)) (word a 2) answer-sound (λ _. word-fits a 2 small);
           value = size-tells (firstOf (answerChecks a)) (word a 6) answer-sound (λ _. word-fits a 6 small);
-          mark = size-tells (firstOf (cabinetChecks a r)) (byte a (10 + r)) (cabinet-sound r) (λ _. byte-below (10 + r));
-          used = size-tells (firstOf (cabinetChecks a r)) (word a (10 + byte a 0 + 4 * r)) (cabinet-sound r)
-              (λ _. word-fits a (10 + byte a 0 + 4 * r) small);
+          mark = size-tells (firstOf (cabinetChecks a r)) (byte a (answerHeaderSize + r)) (cabinet-sound r) (λ _. byte-below (answerHeaderSize + r));
+          used = size-tells (firstOf (cabinetChecks a r)) (word a (answerHeaderSize + byte a 0 + 4 * r)) (cabinet-sound r)
+              (λ _. word-fits a (answerHeaderSize + byte a 0 + 4 * r) small);
         }
 
 pub grants-below : GrantsBelow

@@ -17,6 +17,7 @@ use mathlib.Core.Path.{_≡_}
 use Prim.Native.Nat.{ℕ, _+_, _*_, _/_, _%_}
 use lib.Dec.{eqb}
 use lib.ListN.{length, take, drop}
+use Rattle.arithmetic.specs.Words.{twoTo32}
 use Rattle.model.specs.declared.Refusal.{Refusal}
 use Rattle.model.specs.declared.Settings.{Settings}
 use Rattle.model.specs.RoundSheet.{settingsAt, entryCount, rowStart}
@@ -28,7 +29,7 @@ use Rattle.tohiranga.specs.declared.Opening.{Opening}
 use Rattle.tohiranga.specs.declared.Planning.{Planning}
 
 abbrev pub twoTo32 : ℕ
-twoTo32 = 4_294_967_296
+twoTo32 = twoTo32
 
 abbrev pub upperHalf : ℕ → ℕ
 upperHalf answer = answer / twoTo32

@@ -4,13 +4,14 @@ ghost use Rattle.model.specs.Calls.{settle, read, write, plan, step};
 ghost use Rattle.planner.specs.Answers.{plannedOf};
 ghost use Rattle.tohiranga.specs.Answers.{packedRefusal, packed, settingsOf, sizesOf, schedulePlanOf, noSizes};
 ghost use Rattle.tohiranga.specs.Answers.{openingOf, planningOf, packedRow, TargetPacked};
-use sheet_checks::Opened;
+use model::HEADER_SIZE;
 use model::Refusal;
 use model::Settings;
 use planner::Counted;
 use planner::Plan;
 use planner::Planned;
 use settling::Settled;
+use sheet_checks::Opened;
 use sheet_writer::Filled;
 
 mod answers;
@@ -229,6 +230,8 @@ pub extern "C" fn tohiranga_row(sheet: &[u8], cabinet: u32) -> u64
         return 0;
     }
     let width = rows::row_entries(settings);
-    let start = 8 + sheet_checks::entry_count(settings) + 4 * ((cabinet as usize) * width);
+    let start = HEADER_SIZE
+        + sheet_checks::entry_count(settings)
+        + 4 * ((cabinet as usize) * width);
     (start as u64) * 4_294_967_296 + 4 * (width as u64)
 }

@@ -4,6 +4,7 @@ use borrow.Author.Needs.{needs}
 use mathlib.Core.Bool.{Bool, not, _&&_}
 use mathlib.Core.Path.{ap, _∙_}
 use lib.Dec.{eqb, ltb}
+use Rattle.arithmetic.specs.Words.{twoTo32}
 use Rattle.acceptance.proofs.Spans.{wrapped-from, tries-within}
 use native.Mathlib.Omega.{arith}
 use Rattle.acceptance.proofs.tries.Statement.{statement}
@@ -16,7 +17,7 @@ returns : tie.Need-returns
 returns c =
     let a = c .before .args in
     ap (λ (t : Bool). not (eqb (a .mark) 1) && t)
-    (ap (λ (t : Bool). ltb (a .value) 4294967296 && t)
+    (ap (λ (t : Bool). ltb (a .value) twoTo32 && t)
     (wrapped-from (a .start) (a .value) (c .wrapping-sub-u64 .result) (a .window) (c .before .fits .value .fits) (omega arith) (c .wrapping-sub-u64 .ensures))
     ∙ tries-within (a .window) (a .start) (a .value))
 

@@ -5,6 +5,7 @@ use mathlib.Core.Path.{ap, ap₂, _∙_}
 use Prim.Native.Nat.{ℕ, _+_, _*_}
 use Rattle.model.specs.RoundSheet.{word}
 use Rattle.model.specs.Calls.{verdict}
+use Rattle.model.specs.AnswerSheet.{answerHeaderSize}
 use Rattle.answer_reader.specs.Fields.{usedIn}
 use Rattle.answer_reader.proofs.used.Statement.{statement}
 use Rattle.answer_reader.proofs.used.Tie as tie
@@ -42,7 +43,7 @@ returns c =
     let a = at-check .before .before .args in
     c .unless-refused .ensures
     ∙ ap₂ verdict (at-check .check-cabinet .ensures)
-    (at-number .word-at .ensures ∙ ap (λ (n : ℕ). word (a .answer .now) (10 + n + 4 * a .cabinet)) (at-n .byte-at .ensures))
+    (at-number .word-at .ensures ∙ ap (λ (n : ℕ). word (a .answer .now) (answerHeaderSize + n + 4 * a .cabinet)) (at-n .byte-at .ensures))
 
 pub used-spec : {M : Type 1} → statement M
 used-spec =

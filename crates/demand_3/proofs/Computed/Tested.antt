@@ -15,6 +15,7 @@ use mir.Facts.{sfits-lit}
 use Rattle.arithmetic.specs.Counting.{anyBelow}
 use Rattle.arithmetic.proofs.Bools.{clash, to-T, and-left, and-right, and-intro}
 use Rattle.arithmetic.proofs.Counting.{any-true}
+use Rattle.arithmetic.specs.Words.{twoTo31}
 use Rattle.model.specs.declared.Settings.{Settings}
 use Rattle.model.specs.Ensemble.{Reading, missing, present, isPresent, ticks}
 use Rattle.model.specs.AnswerSheet.{answerLength}
@@ -26,7 +27,7 @@ use Rattle.demand_3.specs.Witnesses.{listed, station, twoFaced, Meets}
 
 abbrev pub fits32 : Reading → Bool
 fits32 missing = true
-fits32 (present z) = ltb (mag z) 2_147_483_648
+fits32 (present z) = ltb (mag z) twoTo31
 
 abbrev pub all-fit : List Reading → Bool
 all-fit [] = true

@@ -4,6 +4,7 @@ use native.Mathlib.Nat.{div-le-self}
 use native.Mathlib.Omega.{arith}
 use borrow.Author.Needs.{needs}
 use Prim.Native.Nat.{_-_, _*_}
+use Rattle.arithmetic.specs.Words.{twoTo31}
 use Rattle.estimates.proofs.Dividing.{div-at-most, div-above, div-below}
 use Rattle.estimates.proofs.divide.Statement.{statement}
 use Rattle.estimates.proofs.divide.Tie as tie
@@ -17,7 +18,7 @@ div-result c = search needs
 add-result : tie.Need-add-result
 add-result c =
     let a = c .before .args in
-    omega (arith, div-le-self (a .sum - a .by * 2147483648) (a .by))
+    omega (arith, div-le-self (a .sum - a .by * twoTo31) (a .by))
 
 sub-result : tie.Need-sub-result
 sub-result c = search needs
@@ -32,17 +33,17 @@ div-result-2 : tie.Need-div-result-2
 div-result-2 c = search needs
 
 sub-result-3 : tie.Need-sub-result-3
-sub-result-3 c = div-at-most _ 2147483648 (c .before .args .by) (c .before .pre .0) (omega arith)
+sub-result-3 c = div-at-most _ twoTo31 (c .before .args .by) (c .before .pre .0) (omega arith)
 
 returns : tie.Need-returns
 returns c =
     let a = c .before .args in
-    div-above (a .sum) 2147483648 (a .by) (c .before .pre .0) (c .if1 .taken)
+    div-above (a .sum) twoTo31 (a .by) (c .before .pre .0) (c .if1 .taken)
 
 returns-2 : tie.Need-returns-2
 returns-2 c =
     let a = c .before .args in
-    div-below (a .sum) 2147483648 (a .by) (c .before .pre .0) (c .if1 .left)
+    div-below (a .sum) twoTo31 (a .by) (c .before .pre .0) (c .if1 .left)
 
 pub divide-spec : {M : Type 1} → statement M
 divide-spec =

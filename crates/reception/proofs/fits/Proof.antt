@@ -5,6 +5,7 @@ use mathlib.Core.Path.{ap}
 use native.Mathlib.Omega.{arith}
 use Prim.Native.Nat.{ℕ, _+_, _*_, _≤_}
 use lib.Dec.{leb, ltb, eqb}
+use Rattle.model.specs.RoundSheet.{headerSize}
 use Rattle.sheet_checks.proofs.Body.{byte-entries-most}
 use Rattle.reception.specs.Receiving.{fitting}
 use borrow.Author.Needs.{needs}
@@ -35,7 +36,7 @@ add-result c = omega (arith, entries c)
 
 returns : tie.Need-returns
 unfolding fitting
-returns c = ap (λ (E : ℕ). (leb (c .before .before .before .args .settings .n) 64 && ltb (2 * c .before .before .before .args .settings .m) (c .before .before .before .args .settings .n)) && (eqb (c .before .before .before .args .sheet) (8 + 5 * E) && eqb (c .before .before .before .args .values) (c .before .before .before .args .settings .n))) (c .entry-count .ensures)
+returns c = ap (λ (E : ℕ). (leb (c .before .before .before .args .settings .n) 64 && ltb (2 * c .before .before .before .args .settings .m) (c .before .before .before .args .settings .n)) && (eqb (c .before .before .before .args .sheet) (headerSize + 5 * E) && eqb (c .before .before .before .args .values) (c .before .before .before .args .settings .n))) (c .entry-count .ensures)
 
 pub fits-spec : {M : Type 1} → statement M
 fits-spec =

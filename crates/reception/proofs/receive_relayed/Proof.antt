@@ -9,6 +9,7 @@ use Prim.Native.Nat.{ℕ, _+_, _*_, _-_, _≤_}
 use lib.ListN.{length, take, drop, length-set}
 use Rattle.arithmetic.specs.Writing.{table, overwrite}
 use Rattle.model.specs.Steps.{decidedReading}
+use Rattle.model.specs.RoundSheet.{headerSize}
 use Rattle.round_laws.specs.Held.{heldOf}
 use Rattle.decisions.specs.Rows.{rowDecision}
 use Rattle.loop_laws.proofs.Loops.{store-none, store-next, store-ended}
@@ -32,7 +33,7 @@ rows-holds c =
     (refl, search needs, store-none (λ i. heldOf (rowReading (a .sheet .now) (a .settings) (a .need) i)) (a .values .now), refl)
 
 -- the row lies within the marks
-within : (c : tie.In-rows Inv-rows μ-rows) → (c .before .rows .r * c .before .before .before .before .before .args .settings .n + c .before .before .before .before .before .args .settings .n ≤ 4096) × (8 + (c .before .rows .r * c .before .before .before .before .before .args .settings .n + c .before .before .before .before .before .args .settings .n) ≤ length (c .before .before .before .before .before .args .sheet .now))
+within : (c : tie.In-rows Inv-rows μ-rows) → (c .before .rows .r * c .before .before .before .before .before .args .settings .n + c .before .before .before .before .before .args .settings .n ≤ 4096) × (headerSize + (c .before .rows .r * c .before .before .before .before .before .args .settings .n + c .before .before .before .before .before .args .settings .n) ≤ length (c .before .before .before .before .before .args .sheet .now))
 within c =
     let room = row-room (c .before .rows .r) (c .before .before .before .before .before .args .settings .n) (c .rows-test .taken) in
     let most = square-most (c .before .before .before .before .before .args .settings .n) (c .before .before .before .before .before .pre .0) in
@@ -84,8 +85,8 @@ rows-again c =
       store-next (λ i. heldOf (rowReading (a .sheet .now) (a .settings) (a .need) i)) (rows .r) (a .values .now) (rows .values) (c .receive-row .result)
           (rows .inv .2)
           (c .receive-row .ensures
-          ∙ ap₂ (λ (k : ℕ) (part : List ℕ). heldOf (decidedReading (rowDecision (a .need) (take k (drop (8 + rows .r * a .settings .n) (a .sheet .now))) part)))
-          (width-back (8 + rows .r * a .settings .n) (a .settings .n))
+          ∙ ap₂ (λ (k : ℕ) (part : List ℕ). heldOf (decidedReading (rowDecision (a .need) (take k (drop (headerSize + rows .r * a .settings .n) (a .sheet .now))) part)))
+          (width-back (headerSize + rows .r * a .settings .n) (a .settings .n))
           (c .before .row-part .ensures))
           (omega (arith, c .before .before .before .rows-test .taken, start .pre .2)),
       length-set (rows .values) (rows .r) (c .receive-row .result) ∙ rows .inv .3,

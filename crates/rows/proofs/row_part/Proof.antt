@@ -5,6 +5,7 @@ use borrow.Author.Needs.{needs}
 use mathlib.Core.Path.{_≡_}
 use native.Mathlib.Omega.{arith}
 use Prim.Native.Nat.{ℕ, _+_, _*_, _-_, _≤_}
+use Rattle.model.specs.RoundSheet.{headerSize}
 use Rattle.sheet_checks.proofs.Body.{byte-entries-most}
 use Rattle.rows.proofs.Parts.{row-entries-most, row-most, past-last, past-end, row-lies}
 use Rattle.rows.proofs.row_part.Statement.{statement}
@@ -75,7 +76,7 @@ part-result-end c = search needs
 
 returns-3 : tie.Need-returns-3
 returns-3 c =
-    rw (width-back (8 + c .before .before .entry-count .result + 4 * (c .before .before .before .before .before .before .before .args .r * c .before .before .before .row-entries .result)) (c .before .before .before .row-entries .result))
+    rw (width-back (headerSize + c .before .before .entry-count .result + 4 * (c .before .before .before .before .before .before .before .args .r * c .before .before .before .row-entries .result)) (c .before .before .before .row-entries .result))
     (rw (c .before .before .entry-count .ensures, c .before .before .before .row-entries .ensures)
     (row-lies (c .before .before .before .before .before .before .before .args .sheet .now) (c .before .before .before .before .before .before .before .args .settings) (c .before .before .before .before .before .before .before .args .r) (c .before .before .before .before .if1 .left)
     (rw (c .before .before .entry-count .ensures, c .before .before .before .row-entries .ensures) at (c .before .if2 .left))))

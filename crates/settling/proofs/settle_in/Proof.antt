@@ -5,6 +5,7 @@ use mathlib.Core.List.{List}
 use mathlib.Core.Path.{ap, _∙_}
 use native.Mathlib.Omega.{arith}
 use Prim.Native.Nat.{ℕ, _+_, _*_}
+use Rattle.model.specs.AnswerSheet.{answerHeaderSize}
 use Rattle.settling.specs.Answers.{settlingOf}
 use Rattle.settling.specs.declared.Settled.the-variants.{Granted}
 use Rattle.settling.proofs.Settling.{CallsLeave, refuses, settles, kept-long, few-faults}
@@ -83,7 +84,7 @@ returns-2 c =
     let agreed = written .before .before .before .before .before .before .before .before in
     let s = agreed .before .before .before .before .before .before .before .before .before .before in
     let r = agreed .before .before .before .before .before .receive in
-    ap (λ (l : List ℕ). settlingOf (Granted (10 + 5 * s .args .settings .n)) l) (written .put-answer .ensures)
+    ap (λ (l : List ℕ). settlingOf (Granted (answerHeaderSize + 5 * s .args .settings .n)) l) (written .put-answer .ensures)
     ∙ settles (s .args .sheet .now) (s .args .settings) (s .pre .0 .1) (s .pre .0 .0) (s .args .values .now) (r .last .1 .1 .0) (agreed .agree .last .0) (agreed .agree .result)
     (left agreed) (s .args .answer .now) (s .pre .0 .2) (written .before .before .before .if1 .left)
 

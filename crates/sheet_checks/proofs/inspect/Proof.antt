@@ -7,6 +7,7 @@ use Prim.Native.Nat.{ℕ, _+_, _*_}
 use native.Mathlib.Omega.{arith}
 use Rattle.settings_checks.specs.Answers.{checkOf}
 use Rattle.model.specs.Refusals.{firstOf, settingsChecks}
+use Rattle.model.specs.RoundSheet.{headerSize}
 use Rattle.refusal_laws.proofs.Limits.{limits, entries-most}
 use Rattle.sheet_laws.proofs.Inspection.{short-refused, settings-refused, length-refused, inspection-passes}
 use Rattle.sheet_checks.proofs.inspect.Statement.{statement}
@@ -64,7 +65,7 @@ returns-3 c =
     (c .before .before .before .before .before .sizes .ensures)
     (c .before .before .before .before .before .before .if1 .left)
     (passed (c .before))
-    (c .if2 .taken ∙ ap (λ (k : ℕ). 8 + 5 * k) (c .before .entry-count .ensures))
+    (c .if2 .taken ∙ ap (λ (k : ℕ). headerSize + 5 * k) (c .before .entry-count .ensures))
 
 returns-4 : tie.Need-returns-4
 returns-4 c =
@@ -73,7 +74,7 @@ returns-4 c =
     (c .before .before .before .before .before .sizes .ensures)
     (c .before .before .before .before .before .before .if1 .left)
     (passed (c .before))
-    (λ e. c .if2 .left (e ∙ sym (ap (λ (k : ℕ). 8 + 5 * k) (c .before .entry-count .ensures))))
+    (λ e. c .if2 .left (e ∙ sym (ap (λ (k : ℕ). headerSize + 5 * k) (c .before .entry-count .ensures))))
 
 pub inspect-spec : {M : Type 1} → statement M
 inspect-spec =

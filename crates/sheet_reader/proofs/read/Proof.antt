@@ -7,7 +7,7 @@ use Prim.Native.Nat.{ℕ, _+_, _*_}
 use native.Mathlib.Omega.{arith}
 use lib.ListN.{length}
 use Rattle.arithmetic.specs.Writing.{overwrite}
-use Rattle.model.specs.RoundSheet.{settingsAt, entryCount}
+use Rattle.model.specs.RoundSheet.{settingsAt, entryCount, headerSize}
 use Rattle.sheet_checks.specs.Answers.{openedOf}
 use Rattle.model.specs.Refusals.{firstOf, readChecks}
 use Rattle.sheet_laws.proofs.Outcomes.{refused-some, read-refuses}
@@ -33,10 +33,10 @@ seen c =
 
 sheet-long :
     (c : tie.After-entry-count)
-    → length (c .before .before .before .before .before .before .before .args .sheet .now) ≡ 8 + 5 *
+    → length (c .before .before .before .before .before .before .before .args .sheet .now) ≡ headerSize + 5 *
     c .entry-count .result
 sheet-long c =
-    seen c .sizes .long ∙ ap (λ (k : ℕ). 8 + 5 * k) (sym (c .entry-count .ensures))
+    seen c .sizes .long ∙ ap (λ (k : ℕ). headerSize + 5 * k) (sym (c .entry-count .ensures))
 
 open-requires : tie.Need-open-requires
 open-requires c κs = search needs

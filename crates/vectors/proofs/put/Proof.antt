@@ -5,11 +5,12 @@ use mathlib.Core.Path.{_≡_}
 use Prim.Native.Nat.{_<_}
 use native.Mathlib.Omega.{arith}
 use lib.ListN.{length, length-set}
+use Rattle.arithmetic.specs.Words.{twoTo32}
 use Rattle.vectors.proofs.put.Statement.{statement}
 use Rattle.vectors.proofs.put.Tie as tie
 
 abbrev Inv-bytes : tie.InvT-bytes
-Inv-bytes vector₀ from bits count size₀ rest₀ left₀ vector size rest left = (length vector ≡ length vector₀) × (rest < 4294967296)
+Inv-bytes vector₀ from bits count size₀ rest₀ left₀ vector size rest left = (length vector ≡ length vector₀) × (rest < twoTo32)
 
 abbrev μ-bytes : tie.MeasureT-bytes
 μ-bytes vector₀ from bits count size₀ rest₀ left₀ vector size rest left = left

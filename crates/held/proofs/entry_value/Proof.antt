@@ -1,9 +1,9 @@
--- `agreement::entry_value` meets its contract: a present entry is its number moved up, and any other is missing.
+-- `held::entry_value` meets its contract: a present entry is its number moved up, and any other is missing.
 -- Assumes nothing.
 use borrow.Author.Tests.{eq-eqb, ne-eqb}
 use borrow.Author.Needs.{needs}
-use Rattle.agreement.proofs.entry_value.Statement.{statement}
-use Rattle.agreement.proofs.entry_value.Tie as tie
+use Rattle.held.proofs.entry_value.Statement.{statement}
+use Rattle.held.proofs.entry_value.Tie as tie
 
 bias-requires : tie.Need-bias-requires
 bias-requires c κs = search needs

@@ -1,0 +1,2 @@
+pub mod Biasing
+pub mod Held

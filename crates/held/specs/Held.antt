@@ -1,0 +1,40 @@
+-- INNER: no reader needs this page to believe a public promise. How the code holds readings while it settles: a list of
+-- marks, and a list of numbers below 2^32. A mark of 1 is a present reading, whose number is its ticks moved up by 2^31;
+-- any other mark is none, and its number says nothing. The law `reading-held` (proofs/Held) says that no reading of 32
+-- bits is lost by it.
+--   entryReading           the reading that an entry's mark and bits are
+--   heldMark, heldValue    the mark and the number that a reading is held as
+--   presentIn, valueAt     whether a cabinet's reading is present; its number
+--   readingsIn             the readings that the two lists hold, one for each cabinet
+use mathlib.Core.Bool.{Bool, cond}
+use mathlib.Core.List.{List}
+use Prim.Native.Nat.{ℕ}
+use lib.Dec.{eqb}
+use lib.ListN.{getD}
+use mir.Syntax.{w32}
+use mir.Val.{toZ}
+use Rattle.arithmetic.specs.Words.{twoTo31}
+use Rattle.arithmetic.specs.Naturals.{up}
+use Rattle.model.specs.Ensemble.{Reading, missing, present, Readings}
+use Rattle.round_laws.specs.Naturals.{shift}
+
+-- "E marks of one byte (1 present, 0 missing)": any other mark is held as missing too
+abbrev pub entryReading : ℕ → ℕ → Reading
+entryReading mark bits = cond (eqb mark 1) (present (toZ w32 bits)) missing
+
+abbrev pub heldMark : Reading → ℕ
+heldMark (present z) = 1
+heldMark missing = 0
+
+abbrev pub heldValue : Reading → ℕ
+heldValue (present z) = up twoTo31 z
+heldValue missing = 0
+
+abbrev pub presentIn : List ℕ → ℕ → Bool
+presentIn marks r = eqb (getD marks r 0) 1
+
+abbrev pub valueAt : List ℕ → ℕ → ℕ
+valueAt values r = getD values r 0
+
+abbrev pub readingsIn : List ℕ → List ℕ → Readings
+readingsIn marks values r = shift twoTo31 (presentIn marks r) (valueAt values r)

@@ -3,7 +3,7 @@
 ghost use mathlib.Core.Path.{_≡_};
 ghost use mathlib.Core.Bool.{_||_};
 ghost use lib.Dec.{eqb, ltb};
-ghost use Rattle.settings_checks.specs.Answers.{checkOf};
+ghost use Rattle.refusals.specs.Answers.{checkOf};
 ghost use Rattle.model.specs.Refusals.{firstOf};
 ghost use Rattle.model.specs.Calls.{verdict};
 ghost use Rattle.model.specs.Ensemble.{maxCabinets};
@@ -14,7 +14,7 @@ use model::BAD_CABINETS;
 use model::BAD_LENGTH;
 use model::NO_ROOM;
 use model::Refusal;
-use settings_checks::Screened;
+use refusals::Screened;
 
 // A number of the answer sheet, or a refusal: 2, 6 or 7.
 pub enum Shown {

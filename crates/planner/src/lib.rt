@@ -9,7 +9,7 @@ ghost use Rattle.model.specs.Refusals.{orNext, badPlan, firstOf, settingsChecks
 ghost use Rattle.model.specs.Calls.{plan, step, Target};
 ghost use Rattle.model.specs.Ensemble.{maxWindow};
 ghost use Rattle.model.specs.Planner.{maxStepAccuracy};
-ghost use Rattle.settings_checks.specs.Answers.{checkOf};
+ghost use Rattle.refusals.specs.Answers.{checkOf};
 ghost use Rattle.planner.specs.Answers.{planOf, plannedOf, countedOf};
 use model::BAD_PLAN;
 use model::CCA;
@@ -20,7 +20,7 @@ use model::MEDIAN;
 use model::Refusal;
 use model::Settings;
 use model::TARGET_MISSED;
-use settings_checks::Screened;
+use refusals::Screened;
 
 // The settings with the next round's window, the accuracy planned by then, the rounds done. Any contents may stand
 // here.

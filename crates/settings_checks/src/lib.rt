@@ -1,11 +1,11 @@
 // Document 01, "The ensemble": the settings that pass checks 2 to 5 or are refused.
 ghost use mathlib.Core.Path.{_≡_};
-ghost use mathlib.Core.Bool.{true, _||_};
+ghost use mathlib.Core.Bool.{_||_};
 ghost use Prim.Native.Nat.{_+_, _*_};
 ghost use lib.Dec.{eqb, ltb};
-ghost use Rattle.model.specs.Refusals.{refuseIf, firstOf, settingsChecks};
+ghost use Rattle.model.specs.Refusals.{firstOf, settingsChecks};
 ghost use Rattle.model.specs.Ensemble.{maxCabinets, maxWindow};
-ghost use Rattle.settings_checks.specs.Answers.{checkOf};
+ghost use Rattle.refusals.specs.Answers.{checkOf};
 use model::BAD_CABINETS;
 use model::BAD_FAULTS;
 use model::BAD_METHOD;
@@ -14,14 +14,8 @@ use model::CCA;
 use model::MAX_CABINETS;
 use model::MAX_WINDOW;
 use model::MIDPOINT;
-use model::Refusal;
 use model::Settings;
-
-// Whether a call's settings are refused.
-pub enum Screened {
-    Passed,
-    Refused(Refusal),
-}
+use refusals::Screened;
 
 fn bad_cabinets(n: u8) -> bool
     ensures { λ r. ⌜ r ≡ (eqb n 0 || ltb maxCabinets n) ⌝ }
@@ -47,27 +41,15 @@ fn bad_window(window: u32) -> bool
     MAX_WINDOW < window
 }
 
-fn refused(number: u8) -> Screened
-    ensures { λ r. ⌜ checkOf r ≡ refuseIf true number ⌝ }
-{
-    Screened::Refused(Refusal { number, place: 0 })
-}
-
 // Checks 2 to 5, of any settings.
 pub fn screen(settings: Settings) -> Screened
     ensures { λ r. ⌜ checkOf r ≡ firstOf (settingsChecks settings) ⌝ }
 {
-    if bad_cabinets(settings.n) {
-        return refused(BAD_CABINETS);
-    }
-    if bad_faults(settings.n, settings.m) {
-        return refused(BAD_FAULTS);
-    }
-    if bad_method(settings.rule, settings.estimator) {
-        return refused(BAD_METHOD);
-    }
-    if bad_window(settings.window) {
-        return refused(BAD_WINDOW);
-    }
-    Screened::Passed
+    let cabinets = refusals::refuse_if(bad_cabinets(settings.n), BAD_CABINETS);
+    let faults = refusals::refuse_if(bad_faults(settings.n, settings.m), BAD_FAULTS);
+    let method = refusals::refuse_if(bad_method(settings.rule, settings.estimator), BAD_METHOD);
+    let window = refusals::refuse_if(bad_window(settings.window), BAD_WINDOW);
+    let last = refusals::first_of(method, window);
+    let later = refusals::first_of(faults, last);
+    refusals::first_of(cabinets, later)
 }

@@ -24,7 +24,7 @@ use model::NO_ROOM;
 use model::Refusal;
 use model::Settings;
 use model::TOO_MANY_FAULTS;
-use settings_checks::Screened;
+use refusals::Screened;
 use sheet_checks::Opened;
 
 // The answer sheet's length, or the first refusal.

@@ -2,7 +2,7 @@
 ghost use mathlib.Core.Path.{_≡_};
 ghost use mathlib.Core.List.{_∷_};
 ghost use lib.ListN.{length};
-ghost use Rattle.settings_checks.specs.Answers.{checkOf};
+ghost use Rattle.refusals.specs.Answers.{checkOf};
 ghost use Rattle.model.specs.RoundSheet.{settingsAt, entryCount, sheetLength, markAt, bitsAt};
 ghost use Rattle.model.specs.Refusals.{firstOf, badLength, arrayChecks, sheetChecks, rowChecks};
 ghost use Rattle.model.specs.Calls.{verdict};
@@ -13,7 +13,7 @@ use model::HEADER_SIZE;
 use model::Refusal;
 use model::Settings;
 use model::TOO_SHORT;
-use settings_checks::Screened;
+use refusals::Screened;
 
 mod marks;
 mod missing;

@@ -2,14 +2,14 @@
 ghost use mathlib.Core.Path.{_≡_};
 ghost use Prim.Native.Nat.{_+_, _*_, _≤_};
 ghost use lib.ListN.{length};
-ghost use Rattle.settings_checks.specs.Answers.{checkOf};
+ghost use Rattle.refusals.specs.Answers.{checkOf};
 ghost use Rattle.model.specs.RoundSheet.{markAt, bitsAt, headerSize};
 ghost use Rattle.model.specs.Refusals.{badMissing};
 use entry_checks::Found;
 use model::BAD_MISSING;
 use model::HEADER_SIZE;
 use model::Refusal;
-use settings_checks::Screened;
+use refusals::Screened;
 
 // Check 9 of a sheet of its length, with this number of entries.
 pub(crate) fn check(sheet: &[u8], entries: usize) -> Screened

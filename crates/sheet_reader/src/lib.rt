@@ -13,7 +13,7 @@ ghost use Rattle.sheet_reader.specs.Answers.{readOf};
 use model::HEADER_SIZE;
 use model::NO_ROOM;
 use model::Refusal;
-use settings_checks::Screened;
+use refusals::Screened;
 use sheet_checks::Opened;
 use tick::Tick;
 

@@ -7,7 +7,7 @@ ghost use mir.Syntax.{w32};
 ghost use mir.Val.{ofZ};
 ghost use Rattle.arithmetic.specs.Counting.{lowest};
 ghost use Rattle.arithmetic.specs.Writing.{overwrite};
-ghost use Rattle.settings_checks.specs.Answers.{checkOf};
+ghost use Rattle.refusals.specs.Answers.{checkOf};
 ghost use Rattle.model.specs.RoundSheet.{byte, bitsIn, readingBytes, sizeBytes};
 ghost use Rattle.model.specs.Refusals.{firstOf, notZero, arrayChecks, writeChecks};
 ghost use Rattle.model.specs.Calls.{write};
@@ -21,7 +21,7 @@ use model::HEADER_SIZE;
 use model::NO_ROOM;
 use model::Refusal;
 use model::Settings;
-use settings_checks::Screened;
+use refusals::Screened;
 use tick::Tick;
 
 // The length of the sheet written, or the first refusal.

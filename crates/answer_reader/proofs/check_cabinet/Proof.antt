@@ -2,7 +2,7 @@
 -- Assumes nothing.
 use borrow.Author.Needs.{needs}
 use mathlib.Core.Path.{sym, ap, _∙_}
-use Rattle.settings_checks.specs.Answers.{checkOf}
+use Rattle.refusals.specs.Answers.{checkOf}
 use Rattle.answer_reader.proofs.Checks.{sheet-refuses, cabinet-refuses, cabinet-passes}
 use Rattle.answer_reader.proofs.check_cabinet.Statement.{statement}
 use Rattle.answer_reader.proofs.check_cabinet.Tie as tie

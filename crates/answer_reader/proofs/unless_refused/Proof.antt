@@ -2,8 +2,8 @@
 -- Assumes nothing.
 use borrow.Author.Needs.{needs}
 use mathlib.Core.Path.{sym, ap}
-use Rattle.settings_checks.specs.Answers.{checkOf}
-use Rattle.settings_checks.specs.declared.Screened.{Screened}
+use Rattle.refusals.specs.Answers.{checkOf}
+use Rattle.refusals.specs.declared.Screened.{Screened}
 use Rattle.model.specs.Calls.{verdict}
 use Rattle.answer_reader.proofs.unless_refused.Statement.{statement}
 use Rattle.answer_reader.proofs.unless_refused.Tie as tie

@@ -4,7 +4,7 @@ use borrow.Author.Needs.{needs}
 use mathlib.Core.Path.{_≡_, refl, sym, ap, _∙_}
 use Rattle.model.specs.Refusals.{firstOf, planChecks}
 use Rattle.model.specs.Calls.{granted}
-use Rattle.settings_checks.specs.Answers.{checkOf}
+use Rattle.refusals.specs.Answers.{checkOf}
 use Rattle.planner_laws.proofs.Steps.{plan-by-check}
 use Rattle.planner.proofs.Checks.{plan-check}
 use Rattle.planner.proofs.plan_for.Statement.{statement}

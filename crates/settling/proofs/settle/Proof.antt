@@ -5,7 +5,7 @@ use native.Mathlib.Omega.{arith}
 use Rattle.model.specs.RoundSheet.{settingsAt}
 use Rattle.model.specs.Refusals.{firstOf, sheetChecks}
 use Rattle.model.specs.Calls.{granted, verdict}
-use Rattle.settings_checks.specs.Answers.{checkOf}
+use Rattle.refusals.specs.Answers.{checkOf}
 use Rattle.sheet_checks.specs.Answers.{openedOf}
 use Rattle.settling.proofs.Checking.{inspection-refuses, opened-settings, room-refuses, entries-refuse, checks-pass}
 use borrow.Author.Needs.{needs}

@@ -5,7 +5,7 @@ use mathlib.Core.Option.{none}
 use mathlib.Core.Path.{_≡_, sym, ap, _∙_}
 use Prim.Native.Nat.{ℕ, _+_, _*_}
 use native.Mathlib.Omega.{arith}
-use Rattle.settings_checks.specs.Answers.{checkOf}
+use Rattle.refusals.specs.Answers.{checkOf}
 use Rattle.model.specs.Refusals.{firstOf, settingsChecks}
 use Rattle.model.specs.RoundSheet.{headerSize}
 use Rattle.refusal_laws.proofs.Limits.{limits, entries-most}

@@ -2,7 +2,7 @@
 -- Assumes nothing.
 use borrow.Author.Needs.{needs}
 use mathlib.Core.Path.{_≡_, sym, ap, _∙_}
-use Rattle.settings_checks.specs.Answers.{checkOf}
+use Rattle.refusals.specs.Answers.{checkOf}
 use Rattle.model.specs.RoundSheet.{settingsAt}
 use Rattle.model.specs.Refusals.{firstOf, sheetChecks, entryChecks}
 use Rattle.sheet_checks.specs.Answers.{openedOf}

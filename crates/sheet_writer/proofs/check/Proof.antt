@@ -4,7 +4,7 @@ use borrow.Author.Needs.{needs}
 use mathlib.Core.Option.{none}
 use mathlib.Core.Path.{_≡_, sym, ap, _∙_}
 use native.Mathlib.Omega.{arith}
-use Rattle.settings_checks.specs.Answers.{checkOf}
+use Rattle.refusals.specs.Answers.{checkOf}
 use Rattle.model.specs.Refusals.{firstOf, settingsChecks}
 use Rattle.refusal_laws.proofs.Limits.{limits, entries-most}
 use Rattle.sheet_laws.proofs.Filling.{writing-refused, marks-length-refused, readings-length-refused, room-refused, arrays-decide}

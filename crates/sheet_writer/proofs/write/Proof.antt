@@ -7,7 +7,7 @@ use mathlib.Core.Path.{_≡_, sym, ap, _∙_}
 use Prim.Native.Nat.{_-_}
 use native.Mathlib.Omega.{arith}
 use lib.ListN.{length, take, drop}
-use Rattle.settings_checks.specs.Answers.{checkOf}
+use Rattle.refusals.specs.Answers.{checkOf}
 use Rattle.model.specs.RoundSheet.{readingBytes, sizeBytes}
 use Rattle.model.specs.Refusals.{firstOf, writeChecks}
 use Rattle.sheet_laws.proofs.Outcomes.{write-refuses}

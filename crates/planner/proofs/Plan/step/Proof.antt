@@ -5,7 +5,7 @@ use mathlib.Core.Option.{none}
 use mathlib.Core.Path.{_≡_, sym, ap, _∙_}
 use Rattle.model.specs.Refusals.{firstOf, stepChecks}
 use Rattle.model.specs.Calls.{granted}
-use Rattle.settings_checks.specs.Answers.{checkOf}
+use Rattle.refusals.specs.Answers.{checkOf}
 use Rattle.refusal_laws.proofs.Limits.{limits-pass}
 use Rattle.planner_laws.proofs.Checks.{none-may-step}
 use Rattle.planner_laws.proofs.Steps.{step-by-check}

@@ -1,8 +1,8 @@
--- `planner::first_of` meets its contract: each arm is a case of `orNext`.
+-- `refusals::first_of` meets its contract: each arm is a case of `orNext`.
 -- Assumes nothing.
 use borrow.Author.Needs.{needs}
-use Rattle.planner.proofs.first_of.Statement.{statement}
-use Rattle.planner.proofs.first_of.Tie as tie
+use Rattle.refusals.proofs.first_of.Statement.{statement}
+use Rattle.refusals.proofs.first_of.Tie as tie
 
 enum-told : tie.Need-enum-told
 enum-told c = search needs

@@ -63,7 +63,10 @@ def constant(name):
 
 def refusals():
     """The checks of the table: number and name."""
-    checks = re.findall(r"^(\w+) .*= (?:refuseIf|atEntry) .* (\d+)$", text(MODEL / "Refusals.antt"), flags=re.M)
+    page = text(MODEL / "Refusals.antt")
+    numbers = dict(re.findall(r"^(\w+)Number = (\d+)$", page, flags=re.M))
+    rows = re.findall(r"^(\w+) .*= (?:refuseIf|atEntry) .* (\w+)Number$", page, flags=re.M)
+    checks = [(name, numbers[number]) for name, number in rows]
     if [int(number) for _, number in checks] != list(range(1, 13)):
         sys.exit("figures: crates/model/specs/Refusals.antt does not have the checks 1 to 12")
     return [(int(number), constant(name)) for name, number in checks]

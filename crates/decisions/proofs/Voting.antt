@@ -79,7 +79,7 @@ module _ (marks row : List ℕ) where
 
   -- ---- the answers
 
-  pub decision-long : (need : ℕ) → 64 < length marks → knownFaulty ≡ rowDecision need marks row
+  pub decision-long : (need : ℕ) → maxCabinets < length marks → knownFaulty ≡ rowDecision need marks row
   unfolding rowDecision
   decision-long need l = rw (lt-ltb maxCabinets (length marks) l)
 

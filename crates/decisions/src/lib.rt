@@ -19,7 +19,7 @@ pub enum Decided {
 
 // The number of the copy t.
 fn copy_bits(row: &[u8], t: usize) -> u32
-    requires { ⌜ (4 * t + 3 < length (now row)) × (t < 64) ⌝ }
+    requires { ⌜ (4 * t + 3 < length (now row)) × (t < maxCabinets) ⌝ }
     ensures { λ r. ⌜ r ≡ copyBits (now (row .entry)) t ⌝ }
 {
     let at = 4 * t;

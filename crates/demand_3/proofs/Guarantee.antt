@@ -10,7 +10,7 @@ use native.Mathlib.Omega.{arith}
 use lib.IntN.{ℤ}
 use lib.ListN.{length}
 use Rattle.model.specs.declared.Settings.{Settings}
-use Rattle.model.specs.Planner.{Plan, advance, nextWindow, growth, withWindow}
+use Rattle.model.specs.Planner.{Plan, advance, nextWindow, growth, withWindow, maxRounds}
 use Rattle.demand_3.specs.Guarantee.{Station, m, Start, Sends, Allowed, State, start, next, newValue, apart}
 use Rattle.demand_3.specs.Guarantee.{Good}
 use Rattle.demand_3.specs.Guarantee.{bad, Every, closeGap, closeError, Close, Each, Demand3}
@@ -21,7 +21,7 @@ use Rattle.demand_3.proofs.Round.{round-present}
 use Rattle.demand_3.proofs.Exact.{exact-limits, exact-wide}
 
 module _ (st : Station) (begins : Start st) (truth : ℤ) where
-  module _ (j : ℕ) (now : State) (ready : Ready st j now) (early : j < 32) (x : Sends) (allowed : Allowed st x)
+  module _ (j : ℕ) (now : State) (ready : Ready st j now) (early : j < maxRounds) (x : Sends) (allowed : Allowed st x)
       (good : ℕ → Bool) (stand : Good (stationAt st now) good truth) (few : bad st good ≤ m st) where
     advances : next st now x .plan ≡ advance (now .plan)
     advances = next-plan st begins j now ready x allowed early
@@ -69,11 +69,11 @@ module _ (st : Station) (begins : Start st) (truth : ℤ) where
 
   -- every round of a list
   every :
-      (rounds : List Sends) (good : ℕ → Bool) (now : State) (j : ℕ) → j + length rounds ≤ 32 → Each (Allowed st) rounds
+      (rounds : List Sends) (good : ℕ → Bool) (now : State) (j : ℕ) → j + length rounds ≤ maxRounds → Each (Allowed st) rounds
       → Ready st j now → Good (stationAt st now) good truth → bad st good ≤ m st → Every st (Close st truth) now rounds
   every [] good now j l each ready stand few = tt
   every (x ∷ xs) good now j l each ready stand few =
-      let early : j < 32 = omega arith in (
+      let early : j < maxRounds = omega arith in (
         closes j now ready early x (each .0) good stand few,
         every xs (st .sound) (next st now x) (suc j) (omega arith) (each .1)
             (ready-next st begins j now ready x (each .0) early)
@@ -83,7 +83,7 @@ module _ (st : Station) (begins : Start st) (truth : ℤ) where
 
 pub guarantee : Demand3
 guarantee st begins rounds l each good truth g =
-    let most : 0 + length rounds ≤ 32 = rw (zero-add (length rounds)) l in
+    let most : 0 + length rounds ≤ maxRounds = rw (zero-add (length rounds)) l in
     record {
       every-round = every-orderly st begins rounds (start st) 0 most each (ready-start st begins);
       few = every st begins truth rounds good (start st) 0 most each (ready-start st begins) g;

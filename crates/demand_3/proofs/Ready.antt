@@ -19,7 +19,7 @@ use Rattle.model.specs.declared.Settings.{Settings}
 use Rattle.model.specs.Ensemble.{missing, present, isPresent, ticks}
 use Rattle.model.specs.RoundSheet.{entryCount}
 use Rattle.model.specs.AnswerSheet.{answerLength}
-use Rattle.model.specs.Planner.{Plan, planFrom, advance, after, withWindow}
+use Rattle.model.specs.Planner.{Plan, planFrom, advance, after, withWindow, maxRounds}
 use Rattle.model.specs.Refusals.{refusal, firstOf, settingsChecks, tooManyFaultsNumber}
 use Rattle.model.specs.Calls.{Verdict, granted, refused, step}
 use Rattle.refusal_laws.proofs.Limits.{Limits, limits-pass}
@@ -68,7 +68,7 @@ module _ (st : Station) (begins : Start st) (j : ℕ) (now : State) (ready : Rea
   pass : firstOf (settingsChecks c) ≡ none
   pass = limits-pass c limits-hold
 
-  plan-steps : j < 32 → step (now .plan) ≡ granted (advance (now .plan))
+  plan-steps : j < maxRounds → step (now .plan) ≡ granted (advance (now .plan))
   unfolding after
   plan-steps early =
       subst⁻¹ (λ (p : Plan). step p ≡ granted (advance p)) (ready .plan)
@@ -140,7 +140,7 @@ module _ (st : Station) (begins : Start st) (j : ℕ) (now : State) (ready : Rea
 
     -- ---- the round
 
-    module _ (early : j < 32) where
+    module _ (early : j < maxRounds) where
       pub next-plan : next st now x .plan ≡ advance (now .plan)
       unfolding next
       next-plan = rw (plan-steps early)
@@ -158,11 +158,11 @@ module _ (st : Station) (begins : Start st) where
   ready-start = record { plan = refl; readings = λ r s. begins .readings r }
 
   pub every-orderly :
-      (rounds : List Sends) (now : State) (j : ℕ) → j + length rounds ≤ 32 → Each (Allowed st) rounds
+      (rounds : List Sends) (now : State) (j : ℕ) → j + length rounds ≤ maxRounds → Each (Allowed st) rounds
       → Ready st j now → Every st (Orderly st) now rounds
   every-orderly [] now j l each ready = tt
   every-orderly (x ∷ xs) now j l each ready =
-      let early : j < 32 = omega arith in (
+      let early : j < maxRounds = omega arith in (
         orderly st begins j now ready x (each .0) early,
         every-orderly xs (next st now x) (suc j) (omega arith) (each .1)
             (ready-next st begins j now ready x (each .0) early),

@@ -9,6 +9,7 @@ use lib.Dec.{lit<, lit≤}
 use lib.IntN.{ℤ, pos}
 use lib.ListN.{length}
 use Rattle.arithmetic.proofs.Bools.{clash}
+use Rattle.model.specs.Planner.{maxRounds}
 use Rattle.demand_3.specs.Guarantee.{Station, Start, Sends, Allowed, Each, start, Good}
 use Rattle.demand_3.specs.Guarantee.{Every, First, Orderly, Close, Wide, Guarantee}
 use Rattle.demand_3.specs.Exact.{ExactFirst}
@@ -28,7 +29,7 @@ promised st rounds good truth m = guarantee st (m .starts) rounds (m .most) (m .
 
 -- what holds whatever t is needs no good cabinet: the empty set is a good one
 pub every-run-orderly :
-    (st : Station) → Start st → (rounds : List Sends) → length rounds ≤ 32 → Each (Allowed st) rounds
+    (st : Station) → Start st → (rounds : List Sends) → length rounds ≤ maxRounds → Each (Allowed st) rounds
     → Every st (Orderly st) (start st) rounds
 every-run-orderly st begins rounds most each =
     guarantee st begins rounds most each (λ p. false) (pos 0) none-good .every-round

@@ -19,6 +19,7 @@ use Prim.Native.Nat.{ℕ, _+_, _*_, _-_, _≤_, _<_}
 use lib.IntN.{ℤ, pos, _-ℤ_}
 use lib.ListN.{length}
 use Rattle.model.specs.Steps.{mean}
+use Rattle.model.specs.Planner.{maxRounds}
 use Rattle.demand_3.specs.Guarantee.{Station, N, m, δ, κ, Start, Sends, Allowed, Each, State, start}
 use Rattle.demand_3.specs.Guarantee.{newValue, Unrefused, Sound, apart, Good, bad, First, wideGap, wideError}
 
@@ -58,7 +59,7 @@ pub record ExactFirst (st : Station) (rounds : List Sends) (t : ℕ) (true-value
 abbrev pub ExactLimits : Type 0
 ExactLimits =
     (st : Station) → Start st
-    → (rounds : List Sends) → length rounds ≤ 32 → Each (Allowed st) rounds
+    → (rounds : List Sends) → length rounds ≤ maxRounds → Each (Allowed st) rounds
     → (good : ℕ → Bool) (true-value : ℤ) → Good st good true-value
     → m st < bad st good → bad st good < N st - m st
     → ExactFirst st rounds (bad st good) true-value

@@ -41,7 +41,7 @@ use Rattle.model.specs.declared.Settings.{Settings}
 use Rattle.model.specs.Ensemble.{Reading, missing, present, Readings, isPresent, ticks}
 use Rattle.model.specs.RoundSheet.{cca, entryCount, sheetLength, word}
 use Rattle.model.specs.AnswerSheet.{answerLength}
-use Rattle.model.specs.Planner.{Plan, planFrom, ceilDiv}
+use Rattle.model.specs.Planner.{Plan, planFrom, ceilDiv, maxRounds}
 use Rattle.model.specs.Refusals.{refusal, firstOf, planChecks, tooManyFaultsNumber}
 use Rattle.model.specs.Calls.{Verdict, granted, refused, Outcome, write, settle, step}
 
@@ -259,6 +259,6 @@ pub record Guarantee (st : Station) (rounds : List Sends) (good : ℕ → Bool) 
 abbrev pub Demand3 : Type 0
 Demand3 =
     (st : Station) → Start st
-    → (rounds : List Sends) → length rounds ≤ 32 → Each (Allowed st) rounds
+    → (rounds : List Sends) → length rounds ≤ maxRounds → Each (Allowed st) rounds
     → (good : ℕ → Bool) (true-value : ℤ) → Good st good true-value
     → Guarantee st rounds good true-value

@@ -28,7 +28,7 @@ use lib.IntN.{ℤ}
 use lib.ListN.{length}
 use Rattle.model.specs.RoundSheet.{cca, median}
 use Rattle.model.specs.AnswerSheet.{answerLength}
-use Rattle.model.specs.Planner.{ceilDiv, planFrom, after}
+use Rattle.model.specs.Planner.{ceilDiv, planFrom, after, maxRounds}
 use Rattle.model.specs.Calls.{granted}
 use Rattle.demand_3.specs.Guarantee.{Station, N, m, δ, κ, Start, Sends, Allowed, Each, State, start, next}
 use Rattle.demand_3.specs.Guarantee.{settled, newValue, Unrefused, Sound, apart, Good, bad, First}
@@ -107,6 +107,6 @@ pub record Regulators (st : Station) (rounds : List Sends) (good : ℕ → Bool)
 abbrev pub RegulatorsCase : Type 0
 RegulatorsCase =
     (st : Station) → SevenPlannedForTwo st → Start st
-    → (rounds : List Sends) → length rounds ≤ 32 → Each (Allowed st) rounds
+    → (rounds : List Sends) → length rounds ≤ maxRounds → Each (Allowed st) rounds
     → (good : ℕ → Bool) (true-value : ℤ) → Good st good true-value
     → Regulators st rounds good true-value

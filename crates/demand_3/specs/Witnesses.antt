@@ -29,7 +29,7 @@ use Rattle.model.specs.declared.Settings.{Settings}
 use Rattle.model.specs.Ensemble.{Reading, missing, Readings}
 use Rattle.model.specs.RoundSheet.{fca, cca, average, median, midpoint}
 use Rattle.model.specs.AnswerSheet.{answerLength}
-use Rattle.model.specs.Planner.{ceilDiv}
+use Rattle.model.specs.Planner.{ceilDiv, maxRounds}
 use Rattle.model.specs.Refusals.{refusal, tooManyFaultsNumber}
 use Rattle.model.specs.Calls.{refused}
 use Rattle.model.specs.Cases.{settings, at, minus}
@@ -78,7 +78,7 @@ faultyCount st = count (λ p. not (st .sound p)) (N st)
 
 pub record Meets (st : Station) (rounds : List Sends) (good : ℕ → Bool) (true-value : ℤ) : Type 0 where
   pub starts : Start st
-  pub most : length rounds ≤ 32
+  pub most : length rounds ≤ maxRounds
   pub allowed : Each (Allowed st) rounds
   pub goodness : Good st good true-value
 

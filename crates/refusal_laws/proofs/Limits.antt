@@ -10,8 +10,9 @@ use borrow.Author.Tests.{ltb-false, le-ltb, ne-eqb}
 use lib.Dec.{ltb, eqb}
 use Rattle.arithmetic.proofs.Bools.{or-left, or-right}
 use Rattle.model.specs.declared.Settings.{Settings}
-use Rattle.model.specs.RoundSheet.{entryCount}
+use Rattle.model.specs.RoundSheet.{entryCount, cca, midpoint}
 use Rattle.model.specs.Refusals.{firstOf, settingsChecks, badCabinets, badFaults, badMethod, badWindow}
+use Rattle.model.specs.Refusals.{badCabinetsNumber, badFaultsNumber, badMethodNumber, badWindowNumber}
 use Rattle.model.specs.Ensemble.{maxCabinets, maxWindow}
 use Rattle.refusal_laws.proofs.Checks.{none-at, when-none}
 
@@ -28,17 +29,18 @@ module _ (c : Settings) where
   pub limits : firstOf (settingsChecks c) ≡ none → Limits c
   unfolding settingsChecks badCabinets badFaults badMethod badWindow
   limits h =
-      let cabinets = when-none (eqb (c .n) 0 || ltb maxCabinets (c .n)) 2 (none-at (settingsChecks c) h 0) in
-      let faults = when-none (ltb (c .n) (3 * c .m + 1)) 3 (none-at (settingsChecks c) h 1) in
-      let method = when-none (ltb 1 (c .rule) || ltb 2 (c .estimator)) 4 (none-at (settingsChecks c) h 2) in
-      let window = when-none (ltb maxWindow (c .window)) 5 (none-at (settingsChecks c) h 3) in
+      let cabinets = when-none (eqb (c .n) 0 || ltb maxCabinets (c .n)) badCabinetsNumber (none-at (settingsChecks c) h 0) in
+      let faults = when-none (ltb (c .n) (3 * c .m + 1)) badFaultsNumber (none-at (settingsChecks c) h 1) in
+      let unknown = ltb cca (c .rule) || ltb midpoint (c .estimator) in
+      let method = when-none unknown badMethodNumber (none-at (settingsChecks c) h 2) in
+      let window = when-none (ltb maxWindow (c .window)) badWindowNumber (none-at (settingsChecks c) h 3) in
       let three : 3 * c .m + 1 ≤ c .n = ltb-false (c .n) (3 * c .m + 1) faults in
       record {
         someCabinet = omega arith;
-        cabinets = ltb-false 64 (c .n) (or-right (eqb (c .n) 0) (ltb maxCabinets (c .n)) cabinets);
+        cabinets = ltb-false maxCabinets (c .n) (or-right (eqb (c .n) 0) (ltb maxCabinets (c .n)) cabinets);
         faults = three;
-        rule = ltb-false 1 (c .rule) (or-left (ltb 1 (c .rule)) (ltb 2 (c .estimator)) method);
-        estimator = ltb-false 2 (c .estimator) (or-right (ltb 1 (c .rule)) (ltb 2 (c .estimator)) method);
+        rule = ltb-false cca (c .rule) (or-left (ltb cca (c .rule)) (ltb midpoint (c .estimator)) method);
+        estimator = ltb-false midpoint (c .estimator) (or-right (ltb cca (c .rule)) (ltb midpoint (c .estimator)) method);
         window = ltb-false maxWindow (c .window) window;
       }
 
@@ -48,15 +50,15 @@ module _ (c : Settings) where
       let some-cabinet : eqb (c .n) 0 ≡ false = ne-eqb (c .n) 0 (λ e. let s = l .someCabinet in omega arith) in
       let cabinets : ltb maxCabinets (c .n) ≡ false = le-ltb maxCabinets (c .n) (l .cabinets) in
       let faults : ltb (c .n) (3 * c .m + 1) ≡ false = le-ltb (c .n) (3 * c .m + 1) (l .faults) in
-      let rule : ltb 1 (c .rule) ≡ false = le-ltb 1 (c .rule) (l .rule) in
-      let estimator : ltb 2 (c .estimator) ≡ false = le-ltb 2 (c .estimator) (l .estimator) in
+      let rule : ltb cca (c .rule) ≡ false = le-ltb cca (c .rule) (l .rule) in
+      let estimator : ltb midpoint (c .estimator) ≡ false = le-ltb midpoint (c .estimator) (l .estimator) in
       let window : ltb maxWindow (c .window) ≡ false = le-ltb maxWindow (c .window) (l .window) in
       rw (some-cabinet, cabinets, faults, rule, estimator, window)
 
   -- at most 64 × 64 entries
   pub entries-most : c .n ≤ maxCabinets → entryCount c ≤ 4096
   unfolding entryCount
-  entries-most h = go (eqb (c .rule) 1)
+  entries-most h = go (eqb (c .rule) cca)
     where
       go : (b : Bool) → cond b (c .n * c .n) (c .n) ≤ 4096
       go true = mul-le-mul h h

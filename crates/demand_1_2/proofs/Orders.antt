@@ -19,9 +19,12 @@ use Rattle.model.specs.declared.Settings.{Settings}
 use Rattle.model.specs.declared.Refusal.{Refusal}
 use Rattle.model.specs.Refusals.{refusal, Check, refuseIf, atEntry, orNext, firstOf, tooShort, badCabinets, badFaults}
 use Rattle.model.specs.Refusals.{badMethod, badWindow, badLength, noRoom, badMark, badMissing, tooManyFaults, badPlan}
-use Rattle.model.specs.Refusals.{targetMissed, settingsChecks, sheetChecks}
+use Rattle.model.specs.Refusals.{targetMissed, settingsChecks, sheetChecks, badMarkNumber, badMissingNumber}
 use Rattle.model.specs.Ensemble.{maxCabinets, maxWindow}
 use Rattle.model.specs.RoundSheet.{cca, midpoint, headerSize, settingsAt, sheetLength}
+use Rattle.model.specs.Refusals.{noRoomNumber, tooManyFaultsNumber, badCabinetsNumber, badFaultsNumber, badPlanNumber}
+use Rattle.model.specs.Refusals.{badLengthNumber, badMethodNumber, badWindowNumber, targetMissedNumber}
+use Rattle.model.specs.Refusals.{tooShortNumber}
 use Rattle.sheet_laws.proofs.Checks.{marks-passed}
 use Rattle.demand_1_2.specs.Demand1.{FirstThatApplies, InOrder, LowestAtFault, Placed}
 
@@ -152,37 +155,37 @@ each-at p (n ∷ ns) z h (suc i) = each-at p ns z (and-right (p n) (each p ns) h
 
 -- ---- the checks of the table
 
-pub short-says : (s : List ℕ) → Says 1 (tooShort s)
+pub short-says : (s : List ℕ) → Says tooShortNumber (tooShort s)
 unfolding tooShort
-short-says s = says-if (ltb (length s) headerSize) 1
+short-says s = says-if (ltb (length s) headerSize) tooShortNumber
 
-pub length-says : (given wanted : ℕ) → Says 6 (badLength given wanted)
+pub length-says : (given wanted : ℕ) → Says badLengthNumber (badLength given wanted)
 unfolding badLength
-length-says given wanted = says-if (not (eqb given wanted)) 6
+length-says given wanted = says-if (not (eqb given wanted)) badLengthNumber
 
-pub room-says : (given wanted : ℕ) → Says 7 (noRoom given wanted)
+pub room-says : (given wanted : ℕ) → Says noRoomNumber (noRoom given wanted)
 unfolding noRoom
-room-says given wanted = says-if (ltb given wanted) 7
+room-says given wanted = says-if (ltb given wanted) noRoomNumber
 
-pub faults-says : (accepted : ℕ) → Says 10 (tooManyFaults accepted)
+pub faults-says : (accepted : ℕ) → Says tooManyFaultsNumber (tooManyFaults accepted)
 unfolding tooManyFaults
-faults-says accepted = says-if (eqb accepted 0) 10
+faults-says accepted = says-if (eqb accepted 0) tooManyFaultsNumber
 
-pub plan-says : (b : Bool) → Says 11 (badPlan b)
+pub plan-says : (b : Bool) → Says badPlanNumber (badPlan b)
 unfolding badPlan
-plan-says b = says-if b 11
+plan-says b = says-if b badPlanNumber
 
-pub target-says : (last target : ℕ) → Says 12 (targetMissed last target)
+pub target-says : (last target : ℕ) → Says targetMissedNumber (targetMissed last target)
 unfolding targetMissed
-target-says last target = says-if (ltb target last) 12
+target-says last target = says-if (ltb target last) targetMissedNumber
 
 pub plain-settings : (c : Settings) → Plain (2 ∷ 3 ∷ 4 ∷ 5 ∷ []) (settingsChecks c)
 unfolding settingsChecks badCabinets badFaults badMethod badWindow
 plain-settings c =
-    check-more (says-if (eqb (c .n) 0 || ltb maxCabinets (c .n)) 2)
-    (check-more (says-if (ltb (c .n) (3 * c .m + 1)) 3)
-    (check-more (says-if (ltb cca (c .rule) || ltb midpoint (c .estimator)) 4)
-    (check-more (says-if (ltb maxWindow (c .window)) 5) no-checks)))
+    check-more (says-if (eqb (c .n) 0 || ltb maxCabinets (c .n)) badCabinetsNumber)
+    (check-more (says-if (ltb (c .n) (3 * c .m + 1)) badFaultsNumber)
+    (check-more (says-if (ltb cca (c .rule) || ltb midpoint (c .estimator)) badMethodNumber)
+    (check-more (says-if (ltb maxWindow (c .window)) badWindowNumber) no-checks)))
 
 pub plain-one : {number : ℕ} {x : Check} → Says number x → Plain (number ∷ []) (x ∷ [])
 plain-one f = check-more f no-checks
@@ -197,22 +200,22 @@ plain-sheet s =
 
 -- a number that has no entry to point at
 abbrev pub neither : ℕ → Bool
-neither k = not (eqb k 8) && not (eqb k 9)
+neither k = not (eqb k badMarkNumber) && not (eqb k badMissingNumber)
 
 module _ (mark bits : ℕ → ℕ) (E : ℕ) where
-  mark-number : (r : Refusal) → badMark mark E ≡ some r → r .number ≡ 8
+  mark-number : (r : Refusal) → badMark mark E ≡ some r → r .number ≡ badMarkNumber
   unfolding badMark
-  mark-number r h = entry-says (lowest (λ e. ltb 1 (mark e)) E) 8 r h .1
+  mark-number r h = entry-says (lowest (λ e. ltb 1 (mark e)) E) badMarkNumber r h .1
 
-  missing-number : (r : Refusal) → badMissing mark bits E ≡ some r → r .number ≡ 9
+  missing-number : (r : Refusal) → badMissing mark bits E ≡ some r → r .number ≡ badMissingNumber
   unfolding badMissing
-  missing-number r h = entry-says (lowest (λ e. eqb (mark e) 0 && not (eqb (bits e) 0)) E) 9 r h .1
+  missing-number r h = entry-says (lowest (λ e. eqb (mark e) 0 && not (eqb (bits e) 0)) E) badMissingNumber r h .1
 
   mark-place : (r : Refusal) → badMark mark E ≡ some r → LowestAtFault (λ e. 1 < mark e) E (r .place)
   unfolding badMark
   mark-place r h =
       let test : ℕ → Bool = λ e. ltb 1 (mark e) in
-      let found = lowest-found test E (r .place) (entry-says (lowest test E) 8 r h .0) in
+      let found = lowest-found test E (r .place) (entry-says (lowest test E) badMarkNumber r h .0) in
       record {
         isEntry = found .inRange;
         atFault = ltb-true 1 (mark (r .place)) (found .passes);
@@ -228,7 +231,7 @@ module _ (mark bits : ℕ → ℕ) (E : ℕ) where
   unfolding badMissing
   missing-place r h =
       let test : ℕ → Bool = λ e. eqb (mark e) 0 && not (eqb (bits e) 0) in
-      let found = lowest-found test E (r .place) (entry-says (lowest test E) 9 r h .0) in
+      let found = lowest-found test E (r .place) (entry-says (lowest test E) badMissingNumber r h .0) in
       let e = r .place in
       record {
         isEntry = found .inRange;
@@ -243,18 +246,18 @@ module _ (mark bits : ℕ → ℕ) (E : ℕ) where
 
   -- checks 8 and 9 between plain checks, whose numbers are neither
   module _ {ns ms : List ℕ} {xs ys : List Check} (before : Plain ns xs) (behind : Plain ms ys) where
-    pub entry-order : InOrder (ns ++ (8 ∷ 9 ∷ ms)) (xs ++ (badMark mark E ∷ badMissing mark bits E ∷ ys))
+    pub entry-order : InOrder (ns ++ (badMarkNumber ∷ badMissingNumber ∷ ms)) (xs ++ (badMark mark E ∷ badMissing mark bits E ∷ ys))
     entry-order =
-        plain-then before (8 ∷ 9 ∷ ms) (badMark mark E ∷ badMissing mark bits E ∷ ys)
-        (order-more 8 (badMark mark E) (9 ∷ ms) (badMissing mark bits E ∷ ys) mark-number
-        (order-more 9 (badMissing mark bits E) ms ys missing-number (plain-order behind)))
+        plain-then before (badMarkNumber ∷ badMissingNumber ∷ ms) (badMark mark E ∷ badMissing mark bits E ∷ ys)
+        (order-more badMarkNumber (badMark mark E) (badMissingNumber ∷ ms) (badMissing mark bits E ∷ ys) mark-number
+        (order-more badMissingNumber (badMissing mark bits E) ms ys missing-number (plain-order behind)))
 
     plain-placed : (k : ℕ) (r : Refusal) → neither k ≡ true → r ≡ refusal k 0 → Placed mark bits E r
     plain-placed k r h e =
         record {
-          ofMark = λ z. clash (and-left (not (eqb k 8)) _ h) (ap not (eq-eqb k 8 (number z)));
-          ofMissing = λ z. clash (and-right (not (eqb k 8)) _ h) (ap not (eq-eqb k 9 (number z)));
-          marksFirst = λ z. clash (and-right (not (eqb k 8)) _ h) (ap not (eq-eqb k 9 (number z)));
+          ofMark = λ z. clash (and-left (not (eqb k badMarkNumber)) _ h) (ap not (eq-eqb k badMarkNumber (number z)));
+          ofMissing = λ z. clash (and-right (not (eqb k badMarkNumber)) _ h) (ap not (eq-eqb k badMissingNumber (number z)));
+          marksFirst = λ z. clash (and-right (not (eqb k badMarkNumber)) _ h) (ap not (eq-eqb k badMissingNumber (number z)));
           elsewhere = λ _ _. ap (λ (x : Refusal). x .place) e;
         }
       where

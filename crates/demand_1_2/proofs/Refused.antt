@@ -65,7 +65,7 @@ module _ (s answer : List ℕ) where
 
   -- a check that says 10 is the last, and it says so where nothing is accepted
   last-says :
-      (r : Refusal) → r .number ≡ 10 → (x : Check) → firstOf front ≡ x
+      (r : Refusal) → r .number ≡ tooManyFaultsNumber → (x : Check) → firstOf front ≡ x
       → orNext x (tooManyFaults (roundAt s .count)) ≡ some r → (firstOf front ≡ none) × (roundAt s .count ≡ 0)
   unfolding tooManyFaults each
   last-says r ten none e h = (e, zeroes (eqb (roundAt s .count) 0) refl h)

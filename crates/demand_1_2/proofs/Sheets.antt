@@ -23,6 +23,7 @@ use Rattle.model.specs.RoundSheet.{cca, byte, settingsAt, entryCount, markAt, b
 use Rattle.model.specs.Steps.{same, decisionAt, decidedReading, decideRow, readingsOf, roundAt}
 use Rattle.model.specs.AnswerSheet.{answerLength}
 use Rattle.model.specs.Refusals.{Check, orNext, firstOf, sheetChecks, entryChecks, settleChecks, noRoom, tooManyFaults}
+use Rattle.model.specs.Refusals.{tooManyFaultsNumber}
 use Rattle.sheet_laws.proofs.Words.{word-fits}
 use Rattle.refusal_laws.proofs.Checks.{next-none-left, next-none-right, when-none}
 use Rattle.sheet_laws.proofs.Orders.{settle-checks}
@@ -98,7 +99,7 @@ module _ (s : List ℕ) (small : (j : ℕ) → byte s j < 256) where
     some-accepted : 0 < roundAt s .count
     unfolding tooManyFaults
     some-accepted =
-        pos-of-ne-zero (λ z. clash (eq-eqb (roundAt s .count) 0 z) (when-none (eqb (roundAt s .count) 0) 10 few-faults))
+        pos-of-ne-zero (λ z. clash (eq-eqb (roundAt s .count) 0 z) (when-none (eqb (roundAt s .count) 0) tooManyFaultsNumber few-faults))
 
     pub settled-estimate : SFits w32 (roundAt s .estimate)
     unfolding roundAt

@@ -19,7 +19,7 @@ use Rattle.model.specs.Steps.{Round}
 use Rattle.sheet_laws.proofs.Words.{digits4, byte-append-left, byte-append-right, word-append-right}
 use Rattle.sheet_laws.proofs.Readings.{length-readingBytes, word-readings, bits-fit}
 
-pub length-answerHeader : (n : ℕ) (r : Round) → length (answerHeader n r) ≡ 10
+pub length-answerHeader : (n : ℕ) (r : Round) → length (answerHeader n r) ≡ answerHeaderSize
 unfolding answerHeader bytes4
 length-answerHeader n r = refl
 
@@ -68,7 +68,7 @@ module _ (n : ℕ) (r : Round) (old : List ℕ) where
       let used = readingBytes (table (r .used) n) in
       let rest = drop (length (answerBytes n r)) old in
       ap (λ (l : List ℕ). byte l (answerHeaderSize + i)) (append-assoc head (marks ++ used) rest)
-      ∙ byte-append-right head ((marks ++ used) ++ rest) 10 i (length-answerHeader n r)
+      ∙ byte-append-right head ((marks ++ used) ++ rest) answerHeaderSize i (length-answerHeader n r)
       ∙ ap (λ (l : List ℕ). byte l i) (append-assoc marks used rest)
       ∙ byte-append-left marks (used ++ rest) i (rw (length-table (r .mark) n) h)
       ∙ getD-table (r .mark) n i 0 h
@@ -84,8 +84,8 @@ module _ (n : ℕ) (r : Round) (old : List ℕ) where
       let rest = drop (length (answerBytes n r)) old in
       ap (λ (l : List ℕ). word l (answerHeaderSize + n + 4 * i))
       (append-assoc head (marks ++ used) rest ∙ ap (λ (l : List ℕ). head ++ l) (append-assoc marks used rest))
-      ∙ ap (word (head ++ (marks ++ (used ++ rest)))) (add-assoc 10 n (4 * i))
-      ∙ word-append-right head (marks ++ (used ++ rest)) 10 (n + 4 * i) (length-answerHeader n r)
+      ∙ ap (word (head ++ (marks ++ (used ++ rest)))) (add-assoc answerHeaderSize n (4 * i))
+      ∙ word-append-right head (marks ++ (used ++ rest)) answerHeaderSize (n + 4 * i) (length-answerHeader n r)
       ∙ word-append-right marks (used ++ rest) n (4 * i) (length-table (r .mark) n)
       ∙ word-readings (table (r .used) n) rest i (rw (length-table (r .used) n) h)
       (rw (getD-table (r .used) n i (pos 0) h) fits)

@@ -11,8 +11,9 @@ use lib.Dec.{ltb, eqb}
 use lib.ListN.{length}
 use Rattle.arithmetic.specs.Counting.{lowest}
 use Rattle.arithmetic.proofs.Counting.{lowest-none, lowest-missed}
-use Rattle.model.specs.RoundSheet.{settingsAt, entryCount, sheetLength, markAt, bitsAt}
+use Rattle.model.specs.RoundSheet.{settingsAt, entryCount, sheetLength, markAt, bitsAt, headerSize}
 use Rattle.model.specs.Refusals.{firstOf, settingsChecks, sheetChecks, entryChecks, tooShort, badLength, noRoom, badMark, badMissing}
+use Rattle.model.specs.Refusals.{badMarkNumber, badMissingNumber, noRoomNumber}
 use Rattle.refusal_laws.proofs.Checks.{first-append, next-none-right, none-at, none-left, when-none, entry-none}
 
 -- ---- 6: a length
@@ -33,7 +34,7 @@ room-pass given wanted h = rw (le-ltb given wanted h)
 
 pub room-passed : (given wanted : ℕ) → noRoom given wanted ≡ none → wanted ≤ given
 unfolding noRoom
-room-passed given wanted h = ltb-false given wanted (when-none (ltb given wanted) 7 h)
+room-passed given wanted h = ltb-false given wanted (when-none (ltb given wanted) noRoomNumber h)
 
 -- ---- 8 and 9: the entries
 
@@ -45,7 +46,7 @@ module _ (mark : ℕ → ℕ) (E : ℕ) where
   pub marks-passed : badMark mark E ≡ none → (e : ℕ) → e < E → mark e ≤ 1
   unfolding badMark
   marks-passed h e l =
-      ltb-false 1 (mark e) (lowest-missed (λ i. ltb 1 (mark i)) E (entry-none (lowest (λ i. ltb 1 (mark i)) E) 8 h) e l)
+      ltb-false 1 (mark e) (lowest-missed (λ i. ltb 1 (mark i)) E (entry-none (lowest (λ i. ltb 1 (mark i)) E) badMarkNumber h) e l)
 
   module _ (bits : ℕ → ℕ) where
     zero-missing : (e : ℕ) → (mark e ≡ 0 → bits e ≡ 0) → (eqb (mark e) 0 && not (eqb (bits e) 0)) ≡ false
@@ -67,7 +68,7 @@ module _ (mark : ℕ → ℕ) (E : ℕ) where
         (not-false (eqb (bits e) 0)
         (ap (λ (b : Bool). b && not (eqb (bits e) 0)) (sym (eq-eqb (mark e) 0 m))
         ∙ lowest-missed (λ i. eqb (mark i) 0 && not (eqb (bits i) 0)) E
-        (entry-none (lowest (λ i. eqb (mark i) 0 && not (eqb (bits i) 0)) E) 9 h) e l))
+        (entry-none (lowest (λ i. eqb (mark i) 0 && not (eqb (bits i) 0)) E) badMissingNumber h) e l))
 
 -- ---- a whole sheet
 
@@ -87,7 +88,7 @@ module _ (s : List ℕ) where
       → firstOf (sheetChecks s) ≡ none
   unfolding sheetChecks tooShort firstOf
   sheet-pass a b =
-      let header : ltb (length s) 8 ≡ false = le-ltb (length s) 8 (omega arith) in
+      let header : ltb (length s) headerSize ≡ false = le-ltb (length s) headerSize (omega arith) in
       rw (first-append, header, a, length-pass (length s) (sheetLength (settingsAt s)) b)
 
   -- what checks 8 and 9 tell

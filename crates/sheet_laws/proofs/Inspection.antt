@@ -22,15 +22,15 @@ use Rattle.sheet_laws.proofs.Outcomes.{granted-none, granted-same}
 module _ (s : List ℕ) where
   pub short-refused : length s < headerSize → refused (refusal tooShortNumber 0) ≡ verdict (firstOf (sheetChecks s)) (settingsAt s)
   unfolding sheetChecks tooShort firstOf
-  short-refused h = rw (lt-ltb (length s) 8 h)
+  short-refused h = rw (lt-ltb (length s) headerSize h)
 
-  module _ (c : Settings) (same : c ≡ settingsAt s) (long : 8 ≤ length s) where
+  module _ (c : Settings) (same : c ≡ settingsAt s) (long : headerSize ≤ length s) where
     checks-after-header :
         firstOf (sheetChecks s) ≡ orNext (firstOf (settingsChecks c))
         (firstOf (badLength (length s) (sheetLength c) ∷ []))
     unfolding sheetChecks tooShort firstOf
     checks-after-header =
-        rw (le-ltb (length s) 8 long, same) (first-append (settingsChecks (settingsAt s)) (badLength (length s) (sheetLength (settingsAt s)) ∷ []))
+        rw (le-ltb (length s) headerSize long, same) (first-append (settingsChecks (settingsAt s)) (badLength (length s) (sheetLength (settingsAt s)) ∷ []))
 
     pub settings-refused :
         (r : Refusal) → firstOf (settingsChecks c) ≡ some r

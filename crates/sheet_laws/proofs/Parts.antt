@@ -14,7 +14,7 @@ use Rattle.arithmetic.specs.Writing.{table}
 use Rattle.arithmetic.proofs.Writing.{length-table, getD-table}
 use Rattle.arithmetic.proofs.Counting.{lowest-ext, lowest-found}
 use Rattle.model.specs.RoundSheet.{byte, word, markAt, bitsAt, headerSize}
-use Rattle.model.specs.Refusals.{atEntry, badMark, badMissing}
+use Rattle.model.specs.Refusals.{atEntry, badMark, badMissing, badMarkNumber, badMissingNumber}
 use Rattle.model.specs.Refusals.{notZero}
 use Rattle.sheet_laws.proofs.Words.{word-ext}
 
@@ -36,29 +36,29 @@ table-part s k n h =
 
 -- bytes 8 to 8 + E, and the rest
 abbrev pub marksPart : List ℕ → ℕ → List ℕ
-marksPart s E = take (headerSize + E - 8) (drop 8 s)
+marksPart s E = take (headerSize + E - headerSize) (drop headerSize s)
 
 abbrev pub readingsPart : List ℕ → ℕ → List ℕ
 readingsPart s E = take (length s - (headerSize + E)) (drop (headerSize + E) s)
 
 module _ (s : List ℕ) (E : ℕ) (long : length s ≡ headerSize + 5 * E) where
   pub length-marksPart : length (marksPart s E) ≡ E
-  length-marksPart = length-take-le (headerSize + E - 8) (drop 8 s) fits ∙ same
+  length-marksPart = length-take-le (headerSize + E - headerSize) (drop headerSize s) fits ∙ same
     where
-      fits : headerSize + E - 8 ≤ length (drop 8 s)
-      fits = let d = length-drop 8 s in omega arith
+      fits : headerSize + E - headerSize ≤ length (drop headerSize s)
+      fits = let d = length-drop headerSize s in omega arith
 
-      same : headerSize + E - 8 ≡ E
+      same : headerSize + E - headerSize ≡ E
       same = omega arith
 
   pub marksPart-at : (e : ℕ) → e < E → byte (marksPart s E) e ≡ markAt s e
-  marksPart-at e h = getD-take (headerSize + E - 8) (drop 8 s) e 0 (omega arith) ∙ getD-drop 8 s e 0
+  marksPart-at e h = getD-take (headerSize + E - headerSize) (drop headerSize s) e 0 (omega arith) ∙ getD-drop headerSize s e 0
 
   pub marksPart-table : marksPart s E ≡ table (markAt s) E
   marksPart-table =
-      ap (λ (k : ℕ). take k (drop 8 s)) same ∙ sym (table-part s 8 E (omega arith))
+      ap (λ (k : ℕ). take k (drop headerSize s)) same ∙ sym (table-part s headerSize E (omega arith))
     where
-      same : headerSize + E - 8 ≡ E
+      same : headerSize + E - headerSize ≡ E
       same = omega arith
 
   readingsPart-rest : readingsPart s E ≡ drop (headerSize + E) s
@@ -96,13 +96,13 @@ module _ (s : List ℕ) (E : ℕ) (long : length s ≡ headerSize + 5 * E) where
   -- checks 8 and 9, by what the searches find
   pub parts-marks :
       (found : Option ℕ) → found ≡ lowest (λ e. ltb 1 (byte (marksPart s E) e)) (length (marksPart s E))
-      → atEntry found 8 ≡ badMark (markAt s) E
+      → atEntry found badMarkNumber ≡ badMark (markAt s) E
   unfolding badMark
-  parts-marks found e = ap (λ (o : Option ℕ). atEntry o 8) (e ∙ search-marks)
+  parts-marks found e = ap (λ (o : Option ℕ). atEntry o badMarkNumber) (e ∙ search-marks)
 
   pub parts-readings :
       (found : Option ℕ)
       → found ≡ lowest (λ e. notZero (byte (marksPart s E) e) (word (readingsPart s E) (4 * e))) (length (marksPart s E))
-      → atEntry found 9 ≡ badMissing (markAt s) (bitsAt s E) E
+      → atEntry found badMissingNumber ≡ badMissing (markAt s) (bitsAt s E) E
   unfolding badMissing
-  parts-readings found e = ap (λ (o : Option ℕ). atEntry o 9) (e ∙ search-missing)
+  parts-readings found e = ap (λ (o : Option ℕ). atEntry o badMissingNumber) (e ∙ search-missing)

@@ -49,7 +49,7 @@ module _ (s : List ℕ) (small : (i : ℕ) → byte s i < 256) where
           ∙ sym (ap (take 4) (drop-drop (4 * n) k s))
 
   -- the sizes
-  pub sizes-part : 8 ≤ length s → sizeBytes (settingsAt s) ≡ take 8 s
+  pub sizes-part : headerSize ≤ length s → sizeBytes (settingsAt s) ≡ take headerSize s
   unfolding sizeBytes
   sizes-part h =
       ap₂ (λ (l r : List ℕ). l ++ r) (sym (take4 s 0 (omega arith))) (bytes4-word s 4 small h) ∙ sym (take-add 4 4 s)
@@ -63,13 +63,13 @@ module _ (s : List ℕ) (small : (i : ℕ) → byte s i < 256) where
           → sizeBytes (settingsAt s) ++ (table (markAt s) E ++ readingBytes (table (λ e. toZ w32 (bitsAt s E e)) E))
           ≡ s
       joined E long =
-          let sizes : sizeBytes (settingsAt s) ≡ take 8 s = sizes-part (omega arith) in
-          let marks : table (markAt s) E ≡ take E (drop 8 s) = table-part s 8 E (omega arith) in
+          let sizes : sizeBytes (settingsAt s) ≡ take headerSize s = sizes-part (omega arith) in
+          let marks : table (markAt s) E ≡ take E (drop headerSize s) = table-part s headerSize E (omega arith) in
           let readings : readingBytes (table (λ e. toZ w32 (bitsAt s E e)) E) ≡ take (4 * E) (drop (headerSize + E) s) = readings-part (headerSize + E) E (omega arith) in
           let rest : take (4 * E) (drop (headerSize + E) s) ≡ drop (headerSize + E) s = take-all (4 * E) (drop (headerSize + E) s) (let d = length-drop (headerSize + E) s in omega arith) in
           ap₂ (λ (l r : List ℕ). l ++ r) sizes
-          (ap₂ (λ (l r : List ℕ). l ++ r) marks (readings ∙ rest ∙ sym (drop-drop E 8 s)) ∙ take-append-drop E (drop 8 s))
-          ∙ take-append-drop 8 s
+          (ap₂ (λ (l r : List ℕ). l ++ r) marks (readings ∙ rest ∙ sym (drop-drop E headerSize s)) ∙ take-append-drop E (drop headerSize s))
+          ∙ take-append-drop headerSize s
 
   -- a sheet that passes every check is made of settings, marks and readings that a writer takes
   pub sheet-well-formed :

@@ -14,7 +14,7 @@ use mir.Syntax.{w32}
 use mir.Val.{ofZ}
 use Rattle.arithmetic.specs.Writing.{overwrite}
 use Rattle.model.specs.declared.Settings.{Settings}
-use Rattle.model.specs.RoundSheet.{bytes4, readingBytes, sizeBytes}
+use Rattle.model.specs.RoundSheet.{bytes4, readingBytes, sizeBytes, headerSize}
 use Rattle.sheet_laws.specs.Storing.{putWord}
 use Rattle.sheet_laws.proofs.Readings.{length-bytes4, length-readingBytes, readingBytes-append}
 
@@ -101,7 +101,7 @@ module _ {A : Type 0} where
 
 -- the four bytes and the number of the sizes
 pub sizes-stored :
-    (c : Settings) (b : List ℕ) → 8 ≤ length b
+    (c : Settings) (b : List ℕ) → headerSize ≤ length b
     → putWord (set (set (set (set b 0 (c .n)) 1 (c .m)) 2 (c .rule)) 3 (c .estimator)) 4 (c .window) ≡ overwrite
     (sizeBytes c) b
 unfolding sizeBytes

@@ -22,6 +22,7 @@ use Rattle.model.specs.Ensemble.{Reading, missing, present}
 use Rattle.model.specs.RoundSheet.{word, settingsAt, entryCount, sheetLength, markAt, bitsAt, entryAt, bytes4, readingBytes, sizeBytes, sheetBytes}
 use Rattle.model.specs.Refusals.{firstOf, settingsChecks, sheetChecks, entryChecks}
 use Rattle.model.specs.Calls.{marksOf, ticksOf}
+use Rattle.model.specs.RoundSheet.{headerSize}
 use Rattle.sheet_laws.proofs.Checks.{sheet-pass, sheet-entries-pass}
 use Rattle.refusal_laws.proofs.Limits.{limits}
 use Rattle.sheet_laws.proofs.Words.{digits4, byte-append-left, byte-append-right, word-append-right}
@@ -37,7 +38,7 @@ pub record WellFormed (c : Settings) (marks : List ℕ) (readings : List ℤ) : 
   pub readingsFit : (e : ℕ) → e < entryCount c → SFits w32 (getD readings e (pos 0))
   pub missingZero : (e : ℕ) → e < entryCount c → getD marks e 0 ≡ 0 → getD readings e (pos 0) ≡ pos 0
 
-pub length-sizeBytes : (c : Settings) → length (sizeBytes c) ≡ 8
+pub length-sizeBytes : (c : Settings) → length (sizeBytes c) ≡ headerSize
 unfolding sizeBytes bytes4
 length-sizeBytes c = refl
 
@@ -62,7 +63,7 @@ module _ (c : Settings) (marks : List ℕ) (readings : List ℤ) where
   pub written-mark : (e : ℕ) → e < length marks → markAt (sheetBytes c marks readings) e ≡ getD marks e 0
   unfolding sheetBytes
   written-mark e h =
-      byte-append-right (sizeBytes c) (marks ++ readingBytes readings) 8 e (length-sizeBytes c)
+      byte-append-right (sizeBytes c) (marks ++ readingBytes readings) headerSize e (length-sizeBytes c)
       ∙ byte-append-left marks (readingBytes readings) e h
 
   pub written-bits :
@@ -70,8 +71,8 @@ module _ (c : Settings) (marks : List ℕ) (readings : List ℤ) where
       → bitsAt (sheetBytes c marks readings) (entryCount c) e ≡ ofZ w32 (getD readings e (pos 0))
   unfolding sheetBytes
   written-bits e a h fits =
-      ap (word (sizeBytes c ++ (marks ++ readingBytes readings))) (add-assoc 8 (entryCount c) (4 * e))
-      ∙ word-append-right (sizeBytes c) (marks ++ readingBytes readings) 8 (entryCount c + 4 * e) (length-sizeBytes c)
+      ap (word (sizeBytes c ++ (marks ++ readingBytes readings))) (add-assoc headerSize (entryCount c) (4 * e))
+      ∙ word-append-right (sizeBytes c) (marks ++ readingBytes readings) headerSize (entryCount c + 4 * e) (length-sizeBytes c)
       ∙ word-append-right marks (readingBytes readings) (entryCount c) (4 * e) a
       ∙ ap (λ (l : List ℕ). word l (4 * e)) (sym (append-nil (readingBytes readings)))
       ∙ word-readings readings [] e h fits

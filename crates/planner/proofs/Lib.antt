@@ -1,4 +1,2 @@
-mod Shares
-mod Checks
 mod Turns
 mod Fresh

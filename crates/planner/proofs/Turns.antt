@@ -1,12 +1,12 @@
--- The planner's loops: after k turns the plan is the start k rounds on, each turn's step is granted, and what the loop for a
--- target answers is right.
+-- The planner's loops: after k turns the plan is the start k rounds on, each turn's step is granted, and what the loop
+-- for a target answers is right.
 -- Assumes nothing.
 use mathlib.Core.Option.{none}
 use mathlib.Core.Path.{_≡_, sym, ap, subst, _∙_}
 use Prim.Native.Nat.{ℕ, suc, _≤_, _<_}
 use native.Mathlib.Omega.{arith}
 use Rattle.model.specs.declared.Settings.{Settings}
-use Rattle.model.specs.Planner.{Plan, planFrom, advance, after, windowAfter, maxStepAccuracy}
+use Rattle.model.specs.Planner.{Plan, planFrom, advance, after, windowAfter, maxRounds, maxStepAccuracy}
 use Rattle.model.specs.Refusals.{refusal, firstOf, settingsChecks, planChecks, targetMissedNumber}
 use Rattle.model.specs.Calls.{granted, refused, Target}
 use Rattle.refusal_laws.proofs.Limits.{limits-pass}
@@ -28,19 +28,20 @@ module _ (c : Settings) (κ k : ℕ) {q : Plan} (e : q ≡ after k (planFrom c �
   turn d s = d ∙ ap advance e ∙ ap (λ (j : ℕ). after j (planFrom c κ)) (sym s)
 
   -- the next turn's step is granted
-  pub turn-allowed : (j : ℕ) → MayStart c κ j → k < 32
-      → (firstOf (settingsChecks (q .settings)) ≡ none) × ((q .rounds < 32) × (q .accuracy ≤ maxStepAccuracy))
+  pub turn-allowed : (j : ℕ) → MayStart c κ j → k < maxRounds
+      → (firstOf (settingsChecks (q .settings)) ≡ none) × ((q .rounds < maxRounds) × (q .accuracy ≤ maxStepAccuracy))
   turn-allowed j s l =
       let step = subst MayStep (sym e) (may-step-after (planFrom c κ) k (s .passes) (s .accurate) (omega arith)) in
       (limits-pass (q .settings) (step .passes), (step .early, step .accurate))
 
-  module _ (target : ℕ) (s : firstOf (planChecks c κ 0) ≡ none) (l : k ≤ 32) where
+  module _ (target : ℕ) (s : firstOf (planChecks c κ 0) ≡ none) (l : k ≤ maxRounds) where
     window-is : q .settings .window ≡ windowAfter k c κ
     window-is = ap (λ (p : Plan). p .settings .window) e
 
-    pub turn-missed : 32 ≤ k → target < q .settings .window → Target c κ target (refused (refusal targetMissedNumber 0))
+    pub turn-missed : maxRounds ≤ k → target < q .settings .window
+        → Target c κ target (refused (refusal targetMissedNumber 0))
     turn-missed h m =
-        let last : k ≡ 32 = omega arith in
+        let last : k ≡ maxRounds = omega arith in
         let window = window-is ∙ ap (λ (j : ℕ). windowAfter j c κ) last in
         target-missed c κ target s (omega arith)
 

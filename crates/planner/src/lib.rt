@@ -1,22 +1,12 @@
 // Document 01, "The planner": the window and the accuracy after some rounds, and the rounds that reach a target.
 ghost use mathlib.Core.Path.{_≡_};
-ghost use mathlib.Core.Bool.{cond, _&&_, _||_};
 ghost use mathlib.Core.Option.{none};
-ghost use Prim.Native.Nat.{_*_, _≤_, _<_};
-ghost use lib.Dec.{eqb, leb, ltb};
-ghost use Rattle.model.specs.Planner.{ceilDiv, nextWindow, withWindow, planFrom, advance, after, maxAccuracy};
-ghost use Rattle.model.specs.Refusals.{orNext, badPlan, firstOf, settingsChecks, planningChecks, planChecks};
+ghost use Prim.Native.Nat.{_≤_, _<_};
+ghost use Rattle.model.specs.Planner.{planFrom, advance, after, maxRounds, maxStepAccuracy};
+ghost use Rattle.model.specs.Refusals.{firstOf, settingsChecks, planChecks};
 ghost use Rattle.model.specs.Calls.{plan, step, Target};
-ghost use Rattle.model.specs.Ensemble.{maxWindow};
-ghost use Rattle.model.specs.Planner.{maxStepAccuracy};
-ghost use Rattle.refusals.specs.Answers.{checkOf};
 ghost use Rattle.planner.specs.Answers.{planOf, plannedOf, countedOf};
-use model::BAD_PLAN;
-use model::CCA;
-use model::MAX_ACCURACY;
 use model::MAX_ROUNDS;
-use model::MAX_STEP_ACCURACY;
-use model::MEDIAN;
 use model::Refusal;
 use model::Settings;
 use model::TARGET_MISSED;
@@ -42,94 +32,18 @@ pub enum Counted {
     Refused(Refusal),
 }
 
-fn bad_start(accuracy: u32, rounds: u32) -> bool
-    ensures { λ r. ⌜ r ≡ (ltb maxAccuracy accuracy || ltb 32 rounds) ⌝ }
-{
-    (MAX_ACCURACY < accuracy) | (MAX_ROUNDS < rounds)
-}
-
-fn bad_step(rounds: u32, accuracy: u32) -> bool
-    ensures { λ r. ⌜ r ≡ (leb 32 rounds || ltb maxStepAccuracy accuracy) ⌝ }
-{
-    (MAX_ROUNDS <= rounds) | (MAX_STEP_ACCURACY < accuracy)
-}
-
-// Check 11.
-fn check_plan(fails: bool) -> Screened
-    ensures { λ r. ⌜ checkOf r ≡ badPlan fails ⌝ }
-{
-    if fails {
-        Screened::Refused(Refusal {
-            number: BAD_PLAN,
-            place: 0,
-        })
-    } else {
-        Screened::Passed
-    }
-}
-
-// The first refusal stands.
-fn first_of(check: Screened, next: Screened) -> Screened
-    ensures { λ r. ⌜ checkOf r ≡ orNext (checkOf check) (checkOf next) ⌝ }
-{
-    match check {
-        Screened::Passed => next,
-        Screened::Refused(refusal) => Screened::Refused(refusal),
-    }
-}
-
-// Checks 2 to 5, and then 11.
-fn check_all(settings: Settings, fails: bool) -> Screened
-    ensures { λ r. ⌜ checkOf r ≡ firstOf (planningChecks settings fails) ⌝ }
-{
-    let of_settings = settings_checks::screen(settings);
-    let of_plan = check_plan(fails);
-    first_of(of_settings, of_plan)
-}
-
-fn window_factor(rule: u8, estimator: u8) -> u32
-    ensures { λ r. ⌜ (r ≡ cond (eqb rule 1 && eqb estimator 1) 1 2) × (r ≤ 2) ⌝ }
-{
-    if (rule == CCA) & (estimator == MEDIAN) {
-        1
-    } else {
-        2
-    }
-}
-
-// ⌈factor × m × window / N⌉
-fn share(settings: Settings, factor: u32) -> u32
-    requires { ⌜ (firstOf (settingsChecks settings) ≡ none) × (factor ≤ 2) ⌝ }
-    ensures { λ r. ⌜ (r ≡ ceilDiv (factor * (settings .m * settings .window)) (settings .n)) × (r ≤ maxWindow) ⌝ }
-{
-    let n = settings.n as u32;
-    let product = factor * ((settings.m as u32) * settings.window);
-    (product + (n - 1)) / n
-}
-
-// The settings with the next window.
-fn narrowed(settings: Settings) -> Settings
-    requires { ⌜ firstOf (settingsChecks settings) ≡ none ⌝ }
-    ensures { λ r. ⌜ (r ≡ withWindow settings (nextWindow settings)) × (firstOf (settingsChecks r) ≡ none) ⌝ }
-{
-    let factor = window_factor(settings.rule, settings.estimator);
-    let mut next = settings;
-    next.window = share(settings, factor);
-    next
-}
-
 // The plan one round on.
 fn advance(current: Plan) -> Plan
     requires { ⌜ firstOf (settingsChecks (current .settings)) ≡ none ⌝ }
-    requires { ⌜ (current .rounds < 32) × (current .accuracy ≤ maxStepAccuracy) ⌝ }
+    requires { ⌜ (current .rounds < maxRounds) × (current .accuracy ≤ maxStepAccuracy) ⌝ }
     ensures { λ r. ⌜ planOf r ≡ advance (planOf current) ⌝ }
 {
     let settings = current.settings;
-    let next = narrowed(settings);
-    let growth = share(settings, 1);
+    let mut next = settings;
+    next.window = shares::next_window(settings) as u32;
     Plan {
         settings: next,
-        accuracy: current.accuracy + growth,
+        accuracy: current.accuracy + (shares::growth(settings) as u32),
         rounds: current.rounds + 1,
     }
 }
@@ -140,7 +54,7 @@ impl Plan {
         ensures { λ r. ⌜ plannedOf r ≡ step (planOf self) ⌝ }
     {
         let settings = self.settings;
-        match check_all(settings, bad_step(self.rounds, self.accuracy)) {
+        match plan_checks::check_step(settings, self.accuracy, self.rounds) {
             Screened::Refused(refusal) => Planned::Refused(refusal),
             Screened::Passed => Planned::Granted(advance(self)),
         }
@@ -166,7 +80,7 @@ fn run(start: Plan, rounds: u32) -> Plan
 pub fn plan_for(settings: Settings, accuracy: u32, rounds: u32) -> Planned
     ensures { λ r. ⌜ plannedOf r ≡ plan settings accuracy rounds ⌝ }
 {
-    match check_all(settings, bad_start(accuracy, rounds)) {
+    match plan_checks::check_start(settings, accuracy, rounds) {
         Screened::Refused(refusal) => Planned::Refused(refusal),
         Screened::Passed => {
             let start = Plan {
@@ -189,10 +103,7 @@ fn reach(start: Plan, target: u32) -> Counted
     let mut k: u32 = 0;
     'rounds: while target < reached.settings.window {
         if MAX_ROUNDS <= k {
-            return Counted::Refused(Refusal {
-                number: TARGET_MISSED,
-                place: 0,
-            });
+            return Counted::Refused(refusals::refuse(TARGET_MISSED));
         }
         reached = advance(reached);
         k += 1;

@@ -1,10 +1,13 @@
--- `planner::reach` meets its contract. The invariant: at most 32 turns are done, and the plan is the start that many rounds on.
--- The measure is what is left of 32.
+-- `planner::reach` meets its contract. The invariant: at most 32 turns are done, and the plan is the start that many
+-- rounds on. The measure is what is left of 32.
 -- Assumes nothing.
-use mathlib.Core.Path.{_≡_, refl}
+use borrow.Author.Needs.{needs}
+use mathlib.Core.Path.{_≡_, refl, sym, subst}
 use Prim.Native.Nat.{_-_, _≤_, zero-le}
 use native.Mathlib.Omega.{arith}
-use Rattle.model.specs.Planner.{planFrom, after}
+use Rattle.model.specs.Planner.{planFrom, after, maxRounds}
+use Rattle.model.specs.declared.Refusal.{Refusal}
+use Rattle.model.specs.Calls.{refused, Target}
 use Rattle.planner_laws.proofs.Checks.{none-may-start}
 use Rattle.planner.specs.Answers.{planOf}
 use Rattle.planner.proofs.Turns.{no-turn, turn, turn-allowed, turn-missed, turn-reached}
@@ -12,22 +15,32 @@ use Rattle.planner.proofs.reach.Statement.{statement}
 use Rattle.planner.proofs.reach.Tie as tie
 
 abbrev Inv-rounds : tie.InvT-rounds
-Inv-rounds target start k₀ reached k = (k ≤ 32) × (planOf reached ≡ after k (planFrom (start .settings) (start .accuracy)))
+Inv-rounds target start k₀ reached k =
+    (k ≤ maxRounds) × (planOf reached ≡ after k (planFrom (start .settings) (start .accuracy)))
 
 abbrev μ-rounds : tie.MeasureT-rounds
-μ-rounds target start k₀ reached k = 32 - k
+μ-rounds target start k₀ reached k = maxRounds - k
 
 rounds-holds : tie.Need-rounds-holds Inv-rounds μ-rounds
 rounds-holds c = (zero-le, no-turn (planOf (c .args .start)) (c .pre .1) refl)
 
+refuse-requires : tie.Need-refuse-requires Inv-rounds μ-rounds
+refuse-requires c κs = search needs
+
 returns : tie.Need-returns Inv-rounds μ-rounds
 returns c =
-    let s = c .before .before .before .before in
-    let at = c .before .before .before .rounds in
-    turn-missed (s .args .start .settings) (s .args .start .accuracy) (at .k) (at .inv .1) (s .args .target) (s .pre .0)
+    let turn = c .before in
+    let s = turn .before .before .before .before in
+    let at = turn .before .before .before .rounds in
+    let start = s .args .start in
+    let missed =
+    turn-missed (start .settings) (start .accuracy) (at .k) (at .inv .1) (s .args .target) (s .pre .0)
     (at .inv .0)
     (omega arith)
-    (omega arith)
+    (omega arith) in
+    subst (λ (r : Refusal). Target (start .settings) (start .accuracy) (s .args .target) (refused r))
+    (sym (c .refuse .ensures))
+    missed
 
 advance-requires : tie.Need-advance-requires Inv-rounds μ-rounds
 advance-requires c κs =
@@ -53,7 +66,8 @@ returns-2 : tie.Need-returns-2 Inv-rounds μ-rounds
 returns-2 c =
     let s = c .before .before .before in
     let at = c .before .before .rounds in
-    turn-reached (s .args .start .settings) (s .args .start .accuracy) (at .k) (at .inv .1) (s .args .target) (s .pre .0)
+    let start = s .args .start in
+    turn-reached (start .settings) (start .accuracy) (at .k) (at .inv .1) (s .args .target) (s .pre .0)
     (at .inv .0)
     (omega arith)
 
@@ -64,6 +78,7 @@ reach-spec =
     Inv-rounds
     μ-rounds
     rounds-holds
+    refuse-requires
     returns
     advance-requires
     add-k

@@ -1,4 +1,5 @@
--- `planner::rounds_for` meets its contract: a refusal of the start for 0 rounds stands, and from a fresh plan `reach` answers.
+-- `planner::rounds_for` meets its contract: a refusal of the start for 0 rounds stands, and from a fresh plan `reach`
+-- answers.
 -- Assumes nothing.
 use borrow.Author.Needs.{needs}
 use mathlib.Core.Path.{_≡_, sym, ap, _∙_}
@@ -40,7 +41,9 @@ returns c =
 returns-2 : tie.Need-returns-2
 returns-2 c =
     let a = c .before .before .before .before .before .args in
-    fresh-target (a .settings) (a .accuracy) (fresh (c .before)) (a .target) (countedOf (c .reach .result)) (c .reach .ensures)
+    fresh-target (a .settings) (a .accuracy) (fresh (c .before)) (a .target)
+    (countedOf (c .reach .result))
+    (c .reach .ensures)
 
 pub rounds-for-spec : {M : Type 1} → statement M
 rounds-for-spec =

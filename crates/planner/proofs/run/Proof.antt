@@ -1,5 +1,5 @@
--- `planner::run` meets its contract. The invariant: at most `rounds` are left, and the plan is the start as many rounds on as are
--- done. The measure is the rounds left.
+-- `planner::run` meets its contract. The invariant: at most `rounds` are left, and the plan is the start as many rounds
+-- on as are done. The measure is the rounds left.
 -- Assumes nothing.
 use mathlib.Core.Path.{_≡_, ap, _∙_}
 use Prim.Native.Nat.{ℕ, _-_, _≤_}
@@ -26,7 +26,8 @@ advance-requires c κs =
     let a = c .before .before .args in
     let at = c .before .rounds in
     let s = none-may-start (a .start .settings) (a .start .accuracy) (a .rounds) (c .before .before .pre .0) in
-    turn-allowed (a .start .settings) (a .start .accuracy) (a .rounds - at .left) (at .inv .1) (a .rounds) s (omega arith)
+    let done : ℕ = a .rounds - at .left in
+    turn-allowed (a .start .settings) (a .start .accuracy) done (at .inv .1) (a .rounds) s (omega arith)
 
 sub-left : tie.Need-sub-left Inv-rounds μ-rounds
 sub-left c = omega arith
@@ -37,10 +38,10 @@ rounds-less c = omega arith
 rounds-again : tie.Need-rounds-again Inv-rounds μ-rounds
 rounds-again c =
     let a = c .before .before .before .args in
-    let at = c .before .before .rounds in (
-      omega arith,
-      turn (a .start .settings) (a .start .accuracy) (a .rounds - at .left) (at .inv .1) (c .advance .ensures) (omega arith),
-    )
+    let start = a .start in
+    let at = c .before .before .rounds in
+    let done : ℕ = a .rounds - at .left in
+    (omega arith, turn (start .settings) (start .accuracy) done (at .inv .1) (c .advance .ensures) (omega arith))
 
 returns : tie.Need-returns Inv-rounds μ-rounds
 returns c =

@@ -10,23 +10,15 @@ use Rattle.refusal_laws.proofs.Limits.{limits-pass}
 use Rattle.planner_laws.proofs.Checks.{none-may-step}
 use Rattle.planner_laws.proofs.Steps.{step-by-check}
 use Rattle.planner.specs.Answers.{planOf}
-use Rattle.planner.proofs.Checks.{step-check}
 use Rattle.planner.proofs.Plan.step.Statement.{statement}
 use Rattle.planner.proofs.Plan.step.Tie as tie
 
-check : (c : tie.After-check-all)
-    → firstOf (stepChecks (planOf (c .before .before .before .args .self))) ≡ checkOf (c .check-all .result)
-check c = step-check (planOf (c .before .before .before .args .self)) (c .check-all .ensures) (c .before .bad-step .ensures)
-
 passes : (c : tie.After-enum-told)
-    → firstOf (stepChecks (planOf (c .before .before .before .before .before .args .self))) ≡ none
-passes c = check (c .before .before) ∙ ap checkOf (c .enum-told .given .1)
+    → firstOf (stepChecks (planOf (c .before .before .before .before .args .self))) ≡ none
+passes c = sym (c .before .before .check-step .ensures) ∙ ap checkOf (c .enum-told .given .1)
 
-bad-step-requires : tie.Need-bad-step-requires
-bad-step-requires c κs = search needs
-
-check-all-requires : tie.Need-check-all-requires
-check-all-requires c κs = search needs
+check-step-requires : tie.Need-check-step-requires
+check-step-requires c κs = search needs
 
 enum-known-refusal : tie.Need-enum-known-refusal
 enum-known-refusal c = search needs
@@ -36,29 +28,24 @@ enum-told c = search needs
 
 advance-requires : tie.Need-advance-requires
 advance-requires c κs =
-    let self = c .before .before .before .before .before .args .self in
+    let self = c .before .before .before .before .args .self in
     let s = none-may-step (planOf self) (passes c) in
     (limits-pass (self .settings) (s .passes), (s .early, s .accurate))
 
 returns : tie.Need-returns
 returns c =
+    let checked = c .before .before .before in
     sym
-    (step-by-check (planOf (c .before .before .before .before .before .before .args .self))
-    (check (c .before .before .before) ∙ ap checkOf (c .before .refusal .given .1)))
+    (step-by-check (planOf (checked .before .before .args .self))
+    (sym (checked .check-step .ensures) ∙ ap checkOf (c .before .refusal .given .1)))
 
 returns-2 : tie.Need-returns-2
 returns-2 c =
+    let checked = c .before .before .before in
     ap granted (c .advance .ensures)
-    ∙ sym (step-by-check (planOf (c .before .before .before .before .before .before .args .self)) (passes (c .before)))
+    ∙ sym (step-by-check (planOf (checked .before .before .args .self)) (passes (c .before)))
 
 pub step-spec : {M : Type 1} → statement M
 step-spec =
     tie.close
-    (tie.spec
-    bad-step-requires
-    check-all-requires
-    enum-known-refusal
-    enum-told
-    advance-requires
-    returns
-    returns-2)
+    (tie.spec check-step-requires enum-known-refusal enum-told advance-requires returns returns-2)

@@ -63,7 +63,7 @@ fn fits(settings: Settings, sheet: usize, values: usize) -> bool
     let n = settings.n as usize;
     let m = settings.m as usize;
     ((n <= 64) & (2 * m < n))
-        & ((sheet == HEADER_SIZE + 5 * sheet_checks::entry_count(settings)) & (values == n))
+        & ((sheet == HEADER_SIZE + 5 * sheet_sizes::entry_count(settings)) & (values == n))
 }
 
 // Fills the list with the sheet's readings. Where the sizes do not fit it changes nothing, and answers false.

@@ -1,20 +1,17 @@
 -- Checks 6, 8 and 9 of a sheet with given settings, by the tests that the code makes; and of a sheet that passes checks 1 to 6.
 -- Assumes nothing.
-use mathlib.Core.Bool.{Bool, true, false, cond}
 use mathlib.Core.List.{List, _∷_}
 use mathlib.Core.Option.{none, some}
 use mathlib.Core.Path.{_≡_, refl, sym, ap, _∙_}
-use Prim.Native.Nat.{ℕ, _+_, _*_, _-_, _≤_}
-use native.Mathlib.Nat.{mul-le-mul}
+use Prim.Native.Nat.{ℕ, _+_, _*_, _-_}
 use native.Mathlib.Omega.{arith}
 use borrow.Author.Tests.{eq-eqb, ne-eqb}
-use lib.Dec.{eqb}
 use lib.ListN.{length, drop, length-drop}
 use lib.Seq.{length-take-le}
 use Rattle.model.specs.declared.Settings.{Settings}
 use Rattle.model.specs.declared.Refusal.{Refusal}
 use Rattle.arithmetic.specs.Counting.{lowest}
-use Rattle.model.specs.RoundSheet.{byte, word, cca, entryCount, sheetLength, markAt, bitsAt, headerSize}
+use Rattle.model.specs.RoundSheet.{byte, word, entryCount, sheetLength, markAt, bitsAt, headerSize}
 use Rattle.model.specs.Refusals.{refusal, firstOf, arrayChecks, entryChecks, badLength, badMark, badMissing, notZero}
 use Rattle.model.specs.Refusals.{badLengthNumber}
 use Rattle.refusal_laws.proofs.Checks.{next-none}
@@ -22,15 +19,6 @@ use Rattle.sheet_laws.proofs.Checks.{length-pass}
 use Rattle.sheet_laws.proofs.Inspection.{Inspected, entry-checks}
 use Rattle.sheet_laws.proofs.Parts.{marksPart, readingsPart, length-marksPart}
 use Rattle.entry_checks.specs.Answers.{missingIn}
-
--- sizes of a byte make few entries
-pub byte-entries-most : (c : Settings) → c .n ≤ 255 → entryCount c ≤ 65025
-unfolding entryCount
-byte-entries-most c small = go (eqb (c .rule) cca)
-  where
-    go : (b : Bool) → cond b (c .n * c .n) (c .n) ≤ 65025
-    go true = mul-le-mul small small
-    go false = omega arith
 
 module _ (s : List ℕ) (c : Settings) (E : ℕ) (same : E ≡ entryCount c) where
   pub body-length-refused : (length s ≡ headerSize + 5 * E → ⊥) → some (refusal badLengthNumber 0) ≡ firstOf (badLength (length s) (sheetLength c) ∷ arrayChecks (markAt s) (bitsAt s (entryCount c)) (entryCount c))

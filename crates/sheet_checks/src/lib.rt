@@ -8,7 +8,6 @@ ghost use Rattle.model.specs.Refusals.{firstOf, badLength, arrayChecks, sheetCh
 ghost use Rattle.model.specs.Calls.{verdict};
 ghost use Rattle.sheet_checks.specs.Answers.{openedOf};
 use model::BAD_LENGTH;
-use model::CCA;
 use model::HEADER_SIZE;
 use model::Refusal;
 use model::Settings;
@@ -24,25 +23,14 @@ pub enum Opened {
     Refused(Refusal),
 }
 
-// The sizes, bytes 0 to 7.
-fn sizes(sheet: &[u8]) -> Settings
-    ensures { λ r. ⌜ r ≡ settingsAt (now (sheet .entry)) ⌝ }
+// The settings, unless a check refuses.
+pub fn unless_refused(screened: Screened, settings: Settings) -> Opened
+    ensures { λ r. ⌜ openedOf r ≡ verdict (checkOf screened) settings ⌝ }
 {
-    Settings {
-        n: words::byte_at(sheet, 0),
-        m: words::byte_at(sheet, 1),
-        rule: words::byte_at(sheet, 2),
-        estimator: words::byte_at(sheet, 3),
-        window: words::word_at(sheet, 4),
+    match screened {
+        Screened::Passed => Opened::Granted(settings),
+        Screened::Refused(refusal) => Opened::Refused(refusal),
     }
-}
-
-// E, the number of entries.
-pub fn entry_count(settings: Settings) -> usize
-    ensures { λ r. ⌜ r ≡ entryCount settings ⌝ }
-{
-    let n = settings.n as usize;
-    if settings.rule == CCA { n * n } else { n }
 }
 
 // Checks 1 to 6.
@@ -51,26 +39,12 @@ pub fn inspect(sheet: &[u8]) -> Opened
         ⌜ openedOf r
         ≡ verdict (firstOf (sheetChecks (now (sheet .entry)))) (settingsAt (now (sheet .entry))) ⌝ }
 {
-    if sheet.len() < HEADER_SIZE {
-        return Opened::Refused(Refusal {
-            number: TOO_SHORT,
-            place: 0,
-        });
-    }
-    let settings = sizes(sheet);
-    match settings_checks::screen(settings) {
-        Screened::Refused(first) => Opened::Refused(first),
-        Screened::Passed => {
-            if sheet.len() == HEADER_SIZE + 5 * entry_count(settings) {
-                Opened::Granted(settings)
-            } else {
-                Opened::Refused(Refusal {
-                    number: BAD_LENGTH,
-                    place: 0,
-                })
-            }
-        }
-    }
+    let settings = sheet_sizes::settings_at(sheet);
+    let wanted = sheet_sizes::sheet_length(settings);
+    let short = refusals::refuse_if(sheet.len() < HEADER_SIZE, TOO_SHORT);
+    let length = refusals::refuse_if(sheet.len() != wanted, BAD_LENGTH);
+    let later = refusals::first_of(settings_checks::screen(settings), length);
+    unless_refused(refusals::first_of(short, later), settings)
 }
 
 // Checks 6, 8 and 9 of a sheet with these settings.
@@ -81,7 +55,7 @@ pub fn check_entries(sheet: &[u8], settings: Settings) -> Screened
         ∷ arrayChecks (markAt (now (sheet .entry)))
         (bitsAt (now (sheet .entry)) (entryCount settings)) (entryCount settings)) ⌝ }
 {
-    let entries = entry_count(settings);
+    let entries = sheet_sizes::entry_count(settings);
     if sheet.len() != HEADER_SIZE + 5 * entries {
         return Screened::Refused(Refusal {
             number: BAD_LENGTH,

@@ -9,9 +9,19 @@ use Rattle.model.specs.declared.Settings.{Settings}
 use Rattle.model.specs.RoundSheet.{byte, settingsAt, entryCount, sheetLength, bitsIn}
 use Rattle.model.specs.AnswerSheet.{answerLength}
 use Rattle.model.specs.Steps.{roundAt}
-use Rattle.model.specs.Refusals.{Check, orNext, firstOf, settingsChecks, sheetChecks, arrayChecks, entryChecks, badLength, noRoom, tooManyFaults}
+use Rattle.model.specs.Refusals.{Check, orNext, firstOf, settingsChecks, sheetChecks, arrayChecks, entryChecks}
+use Rattle.model.specs.Refusals.{tooShort, badLength, noRoom, tooManyFaults}
 use Rattle.model.specs.Refusals.{readChecks, writeChecks, rowChecks, settleChecks}
 use Rattle.refusal_laws.proofs.Checks.{first-append, first-snoc}
+
+-- a sheet: check 1, 2 to 5, 6
+pub sheet-checks :
+    (s : List ℕ)
+    → firstOf (sheetChecks s) ≡ orNext (tooShort s) (orNext (firstOf (settingsChecks (settingsAt s)))
+    (badLength (length s) (sheetLength (settingsAt s))))
+unfolding sheetChecks firstOf
+sheet-checks s =
+    ap (orNext (tooShort s)) (first-snoc (settingsChecks (settingsAt s)) (badLength (length s) (sheetLength (settingsAt s))))
 
 -- the reader: checks 1 to 6, 7 of each array, 8 and 9
 pub read-checks :

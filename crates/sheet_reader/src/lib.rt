@@ -55,7 +55,7 @@ fn open(sheet: &[u8], marks: usize, readings: usize) -> Opened
     match sheet_checks::inspect(sheet) {
         Opened::Refused(r) => Opened::Refused(r),
         Opened::Granted(settings) => {
-            let entries = sheet_checks::entry_count(settings);
+            let entries = sheet_sizes::entry_count(settings);
             if marks < entries {
                 return Opened::Refused(Refusal {
                     number: NO_ROOM,
@@ -86,7 +86,7 @@ pub fn read(sheet: &[u8], marks: &mut [u8], readings: &mut [i32]) -> Opened
     match open(sheet, marks.len(), readings.len()) {
         Opened::Refused(r) => Opened::Refused(r),
         Opened::Granted(settings) => {
-            let entries = sheet_checks::entry_count(settings);
+            let entries = sheet_sizes::entry_count(settings);
             let body = HEADER_SIZE + entries;
             bytes::copy(&sheet[HEADER_SIZE..body], marks);
             decode(sheet, entries, readings);

@@ -87,7 +87,7 @@ fn check(settings: Settings, marks: &[u8], readings: &[i32], room: usize) -> Scr
     match settings_checks::screen(settings) {
         Screened::Refused(r) => Screened::Refused(r),
         Screened::Passed => {
-            let entries = sheet_checks::entry_count(settings);
+            let entries = sheet_sizes::entry_count(settings);
             if marks.len() != entries {
                 return Screened::Refused(Refusal {
                     number: BAD_LENGTH,

@@ -113,7 +113,7 @@ pub extern "C" fn tohiranga_read(sheet: &[u8], marks: &mut [u8], readings: &mut 
 {
     match sheet_reader::read(sheet, marks, readings) {
         Opened::Granted(settings) => {
-            let entries = sheet_checks::entry_count(settings);
+            let entries = sheet_sizes::entry_count(settings);
             let sizes = sizes_of(settings);
             Opening {
                 answer: entries as u64,
@@ -230,8 +230,6 @@ pub extern "C" fn tohiranga_row(sheet: &[u8], cabinet: u32) -> u64
         return 0;
     }
     let width = rows::row_entries(settings);
-    let start = HEADER_SIZE
-        + sheet_checks::entry_count(settings)
-        + 4 * ((cabinet as usize) * width);
+    let start = HEADER_SIZE + sheet_sizes::entry_count(settings) + 4 * ((cabinet as usize) * width);
     (start as u64) * 4_294_967_296 + 4 * (width as u64)
 }

@@ -6,7 +6,7 @@ use native.Mathlib.Omega.{arith}
 use Prim.Native.Nat.{ℕ, _+_, _*_, _≤_}
 use lib.Dec.{leb, ltb, eqb}
 use Rattle.model.specs.RoundSheet.{headerSize}
-use Rattle.sheet_checks.proofs.Body.{byte-entries-most}
+use Rattle.sheet_sizes.proofs.Bounds.{byte-entries-most}
 use Rattle.reception.specs.Receiving.{fitting}
 use borrow.Author.Needs.{needs}
 use Rattle.reception.proofs.fits.Statement.{statement}

@@ -5,7 +5,8 @@ use mathlib.Core.Path.{_≡_, sym, ap, _∙_}
 use native.Mathlib.Omega.{arith}
 use Prim.Native.Nat.{_≤_}
 use Rattle.refusals.specs.Answers.{checkOf}
-use Rattle.sheet_checks.proofs.Body.{byte-entries-most, body-length-refused, body-mark-refused, body-marks-pass}
+use Rattle.sheet_sizes.proofs.Bounds.{byte-entries-most}
+use Rattle.sheet_checks.proofs.Body.{body-length-refused, body-mark-refused, body-marks-pass}
 use Rattle.sheet_checks.proofs.check_entries.Statement.{statement}
 use Rattle.sheet_checks.proofs.check_entries.Tie as tie
 

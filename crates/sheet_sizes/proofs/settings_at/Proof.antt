@@ -1,8 +1,8 @@
--- `sheet_checks::sizes` meets its contract: each field is the byte or the number that was read.
+-- `sheet_sizes::settings_at` meets its contract: each field is the byte or the number that was read.
 -- Assumes nothing.
 use borrow.Author.Needs.{needs}
-use Rattle.sheet_checks.proofs.sizes.Statement.{statement}
-use Rattle.sheet_checks.proofs.sizes.Tie as tie
+use Rattle.sheet_sizes.proofs.settings_at.Statement.{statement}
+use Rattle.sheet_sizes.proofs.settings_at.Tie as tie
 
 byte-at-requires : tie.Need-byte-at-requires
 byte-at-requires c κs = search needs
@@ -30,8 +30,8 @@ returns c =
       window = c .word-at .ensures i;
     }
 
-pub sizes-spec : {M : Type 1} → statement M
-sizes-spec =
+pub settings-at-spec : {M : Type 1} → statement M
+settings-at-spec =
     tie.close
     (tie.spec
     byte-at-requires

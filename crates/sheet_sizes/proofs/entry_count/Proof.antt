@@ -1,4 +1,4 @@
--- `sheet_checks::entry_count` meets its contract: N × N for CCA, else N.
+-- `sheet_sizes::entry_count` meets its contract: N × N for CCA, else N.
 -- Assumes nothing.
 use borrow.Author.Needs.{needs}
 use borrow.Author.Tests.{eq-eqb, ne-eqb}
@@ -6,8 +6,8 @@ use native.Mathlib.Nat.{lt-of-le-of-lt, mul-le-mul}
 use native.Mathlib.Omega.{arith}
 use lib.Dec.{lit<}
 use Rattle.model.specs.RoundSheet.{entryCount}
-use Rattle.sheet_checks.proofs.entry_count.Statement.{statement}
-use Rattle.sheet_checks.proofs.entry_count.Tie as tie
+use Rattle.sheet_sizes.proofs.entry_count.Statement.{statement}
+use Rattle.sheet_sizes.proofs.entry_count.Tie as tie
 
 cast-n : tie.Need-cast-n
 cast-n c = search needs

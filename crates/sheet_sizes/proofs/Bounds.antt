@@ -1,0 +1,17 @@
+-- Sizes of a byte make few entries.
+-- Assumes nothing.
+use mathlib.Core.Bool.{Bool, true, false, cond}
+use Prim.Native.Nat.{_*_, _≤_}
+use native.Mathlib.Nat.{mul-le-mul}
+use native.Mathlib.Omega.{arith}
+use lib.Dec.{eqb}
+use Rattle.model.specs.declared.Settings.{Settings}
+use Rattle.model.specs.RoundSheet.{cca, entryCount}
+
+pub byte-entries-most : (c : Settings) → c .n ≤ 255 → entryCount c ≤ 65025
+unfolding entryCount
+byte-entries-most c small = go (eqb (c .rule) cca)
+  where
+    go : (b : Bool) → cond b (c .n * c .n) (c .n) ≤ 65025
+    go true = mul-le-mul small small
+    go false = omega arith

@@ -1,0 +1,34 @@
+// Document 01, "The round sheet": the sizes that its first bytes say, and the lengths that follow from them.
+ghost use mathlib.Core.Path.{_≡_};
+ghost use Rattle.model.specs.RoundSheet.{settingsAt, entryCount, sheetLength};
+use model::CCA;
+use model::HEADER_SIZE;
+use model::Settings;
+
+// The sizes, bytes 0 to 7. Bytes past the end are 0.
+pub fn settings_at(sheet: &[u8]) -> Settings
+    ensures { λ r. ⌜ r ≡ settingsAt (now (sheet .entry)) ⌝ }
+{
+    Settings {
+        n: words::byte_at(sheet, 0),
+        m: words::byte_at(sheet, 1),
+        rule: words::byte_at(sheet, 2),
+        estimator: words::byte_at(sheet, 3),
+        window: words::word_at(sheet, 4),
+    }
+}
+
+// E, the number of entries.
+pub fn entry_count(settings: Settings) -> usize
+    ensures { λ r. ⌜ r ≡ entryCount settings ⌝ }
+{
+    let n = settings.n as usize;
+    if settings.rule == CCA { n * n } else { n }
+}
+
+// The bytes of a sheet with these sizes.
+pub fn sheet_length(settings: Settings) -> usize
+    ensures { λ r. ⌜ r ≡ sheetLength settings ⌝ }
+{
+    HEADER_SIZE + 5 * entry_count(settings)
+}

@@ -1,36 +1,36 @@
--- Spans on a list of naturals: the tests that the code makes are those of document 01's acceptance, and a count that has reached what
--- is needed stays there.
+-- Spans on lists of marks and values: the tests that the code makes are those of document 01's acceptance, and a count
+-- that has reached what is needed stays there.
 -- Assumes nothing.
 use mathlib.Core.Bool.{Bool, true, false, not, _&&_}
 use mathlib.Core.List.{List}
 use mathlib.Core.Logic.{_⊎_, inr, ⊎-elim}
 use mathlib.Core.Path.{_≡_, refl, sym, ap, ap₂, _∙_}
-use Prim.Native.Nat.{ℕ, zero, suc, _+_, _-_, _%_, _^_, _≤_, _<_, min, zero-le, suc-le-suc}
-use native.Mathlib.Nat.{le-refl, not-suc-le-zero}
+use Prim.Native.Nat.{ℕ, zero, suc, _+_, _-_, _%_, _≤_, _<_, min, zero-le, suc-le-suc}
+use native.Mathlib.Nat.{le-refl, le-of-suc-le-suc, not-suc-le-zero}
 use native.Mathlib.Omega.{arith}
 use borrow.Author.Count.{below-more}
-use borrow.Author.Tests.{lt-ltb, le-leb, lt-leb, ltb-true, leb-true, eqb-true, eqb-false}
-use lib.Dec.{leb, ltb, eqb}
+use borrow.Author.Tests.{le-leb, lt-leb, leb-true, eqb-true, eqb-false}
+use lib.Dec.{leb, eqb}
 use lib.ListN.{length, getD, set, length-set}
 use lib.Seq.{getD-set-same, getD-set-other}
 use Rattle.arithmetic.specs.Counting.{bit, count}
 use Rattle.arithmetic.proofs.Bools.{iff-eq, and-left, and-right, and-intro, and-false, clash}
-use Rattle.arithmetic.proofs.Counting.{split-last, bit-le-one, count-le, any-true, any-false}
+use Rattle.arithmetic.proofs.Counting.{split-last, count-le, any-true, any-false}
 use Rattle.arithmetic.specs.Words.{twoTo31, twoTo32}
 use Rattle.model.specs.Ensemble.{maxCabinets}
-use Rattle.round_laws.specs.Naturals.{within-nat, spans, accepted-nat}
+use Rattle.round_laws.specs.Naturals.{spans, accepted-nat}
 use Rattle.round_laws.proofs.Shifted.{accepted-shifted}
 use Rattle.round_laws.proofs.Natural.{accepted-present}
 use Rattle.loop_laws.proofs.Loops.{count-next}
-use Rattle.estimates.specs.Values.{valueAt, presentIn}
+use Rattle.held.specs.Held.{valueAt, presentIn}
 use Rattle.acceptance.specs.Values.{spansAt, acceptedIn, enoughAt, Remembered}
 
-pub held-small : (a b far h : ℕ) → h ≡ bit (leb a b && leb b (a + far)) → h ≤ 1
-held-small a b far h e = let l = bit-le-one (leb a b && leb b (a + far)) in omega arith
+-- ---- differences that wrap at 2^32
 
--- a difference that wraps lies within w just where b is no less than a and no more than a + w
-pub wrapped : (a b d w : ℕ) → a < twoTo32 → w < twoTo32 → d < 2 ^ 64 → (d + a) % 2 ^ 64 ≡ b → leb d w ≡ (leb a b && leb b (a + w))
-wrapped a b d w ha hw hd e =
+-- one lies within a reach that does not pass the highest number just where b is no less than a and no more than a + w
+pub wrapped :
+    (a b d w : ℕ) → a + w < twoTo32 → d < twoTo32 → (d + a) % twoTo32 ≡ b → leb d w ≡ (leb a b && leb b (a + w))
+wrapped a b d w reach hd e =
     iff-eq (leb d w) (leb a b && leb b (a + w))
     (λ t. let l : d ≤ w = leb-true d w t in and-intro (le-leb a b (omega arith)) (le-leb b (a + w) (omega arith)))
     (λ t.
@@ -38,130 +38,171 @@ wrapped a b d w ha hw hd e =
     let m : b ≤ a + w = leb-true b (a + w) (and-right (leb a b) (leb b (a + w)) t) in
     le-leb d w (omega arith))
 
--- the same of a span that is known to start at or below b
-pub wrapped-above : (a b d w : ℕ) → a ≤ b → b < 2 ^ 64 → d < 2 ^ 64 → (d + a) % 2 ^ 64 ≡ b → leb d w ≡ leb b (a + w)
+-- the same of any width, where the start is known to lie at or below b
+wrapped-above : (a b d w : ℕ) → a ≤ b → b < twoTo32 → d < twoTo32 → (d + a) % twoTo32 ≡ b → leb d w ≡ leb b (a + w)
 wrapped-above a b d w h hb hd e =
     iff-eq (leb d w) (leb b (a + w))
     (λ t. let l : d ≤ w = leb-true d w t in le-leb b (a + w) (omega arith))
     (λ t. let m : b ≤ a + w = leb-true b (a + w) t in le-leb d w (omega arith))
 
--- the same where the start may lie above b
-pub wrapped-from : (a b d w : ℕ) → b < 2 ^ 64 → d < 2 ^ 64 → (d + a) % 2 ^ 64 ≡ b → (leb a b && leb d w) ≡ (leb a b && leb b (a + w))
+-- the same of any width, with a test of the start
+pub wrapped-from :
+    (a b d w : ℕ)
+    → b < twoTo32
+    → d < twoTo32
+    → (d + a) % twoTo32 ≡ b
+    → (leb a b && leb d w) ≡ (leb a b && leb b (a + w))
 wrapped-from a b d w hb hd e = go (leb a b) refl
   where
     go : (t : Bool) → leb a b ≡ t → (t && leb d w) ≡ (t && leb b (a + w))
     go true h = wrapped-above a b d w (leb-true a b h) hb hd e
     go false h = refl
 
--- a start at or below a present reading is present
-pub tries-within : (w a b : ℕ) → (ltb b twoTo32 && (leb a b && leb b (a + w))) ≡ within-nat w (ltb a twoTo32) a (ltb b twoTo32) b
-tries-within w a b =
-    iff-eq (ltb b twoTo32 && (leb a b && leb b (a + w))) (within-nat w (ltb a twoTo32) a (ltb b twoTo32) b)
-    (λ t.
-    let l = ltb-true b twoTo32 (and-left (ltb b twoTo32) _ t) in
-    let m = leb-true a b (and-left (leb a b) _ (and-right (ltb b twoTo32) _ t)) in
-    and-intro (lt-ltb a twoTo32 (omega arith)) t)
-    (λ t. and-right (ltb a twoTo32) _ t)
+pub reach-fits : (a w far : ℕ) → a < twoTo32 → far ≡ min w (twoTo32 - 1 - a) → a + far < twoTo32
+reach-fits a w far h e = omega arith
 
--- a span cut at the last reading holds the present readings of the whole span
-pub cut-within : (w a b : ℕ) → a < twoTo32 → (leb a b && leb b (a + min w (4294967295 - a))) ≡ within-nat w (ltb a twoTo32) a (ltb b twoTo32) b
-cut-within w a b h =
-    iff-eq (leb a b && leb b (a + min w (4294967295 - a))) (within-nat w (ltb a twoTo32) a (ltb b twoTo32) b)
+-- a span cut at the highest number holds the numbers of the whole span
+cut-within :
+    (w a b far : ℕ)
+    → b < twoTo32
+    → far ≡ min w (twoTo32 - 1 - a)
+    → (leb a b && leb b (a + far)) ≡ (leb a b && leb b (a + w))
+cut-within w a b far h e =
+    iff-eq (leb a b && leb b (a + far)) (leb a b && leb b (a + w))
     (λ t.
     let l = leb-true a b (and-left (leb a b) _ t) in
-    let m = leb-true b (a + min w (4294967295 - a)) (and-right (leb a b) _ t) in
-    and-intro (lt-ltb a twoTo32 h)
-    (and-intro (lt-ltb b twoTo32 (omega arith)) (and-intro (le-leb a b l) (le-leb b (a + w) (omega arith)))))
+    let m = leb-true b (a + far) (and-right (leb a b) _ t) in
+    and-intro (le-leb a b l) (le-leb b (a + w) (omega arith)))
     (λ t.
-    let u = and-right (ltb a twoTo32) _ t in
-    let v = and-right (ltb b twoTo32) _ u in
-    let l = ltb-true b twoTo32 (and-left (ltb b twoTo32) _ u) in
-    let m = leb-true a b (and-left (leb a b) _ v) in
-    let k = leb-true b (a + w) (and-right (leb a b) _ v) in
-    and-intro (le-leb a b m) (le-leb b (a + min w (4294967295 - a)) (omega arith)))
+    let l = leb-true a b (and-left (leb a b) _ t) in
+    let m = leb-true b (a + w) (and-right (leb a b) _ t) in
+    and-intro (le-leb a b l) (le-leb b (a + far) (omega arith)))
 
 -- ---- counting
 
-pub count-grows : (p : ℕ → Bool) (m n : ℕ) → m ≤ n → count p m ≤ count p n
+count-grows : (p : ℕ → Bool) (m n : ℕ) → m ≤ n → count p m ≤ count p n
 unfolding count
 count-grows p m zero h = let e : m ≡ 0 = omega arith in rw e (le-refl 0)
 count-grows p m (suc n) h =
     ⊎-elim
-    (λ l. let ih = count-grows p m n (native.Mathlib.Nat.le-of-suc-le-suc l) in omega arith)
+    (λ l. let ih = count-grows p m n (le-of-suc-le-suc l) in omega arith)
     (λ e. rw e (le-refl (count p n + bit (p n))))
     (split-last m (suc n) (suc-le-suc h))
 
 -- ---- acceptance, start by start
 
-module _ (w : ℕ) (values : List ℕ) where
+module _ (w : ℕ) (marks values : List ℕ) where
   -- a span that is tried holds the reading
-  pub tried-holds : (mark s r : ℕ) {b : Bool} → b ≡ (not (eqb mark 1) && spansAt w values s r) → b ≡ true → spansAt w values s r ≡ true
-  tried-holds mark s r e t = and-right (not (eqb mark 1)) (spansAt w values s r) (sym e ∙ t)
+  pub tried-holds :
+      (known s r : ℕ) {b : Bool}
+      → b ≡ (not (eqb known 1) && spansAt w marks values s r)
+      → b ≡ true
+      → spansAt w marks values s r ≡ true
+  tried-holds known s r e t = and-right (not (eqb known 1)) (spansAt w marks values s r) (sym e ∙ t)
 
   -- a start whose span holds a reading is present
-  pub start-present : (s r : ℕ) → spansAt w values s r ≡ true → getD values s 0 < twoTo32
+  start-present : (s r : ℕ) → spansAt w marks values s r ≡ true → presentIn marks s ≡ true
   unfolding spansAt
-  start-present s r e = ltb-true (getD values s 0) twoTo32 (and-left (ltb (getD values s 0) twoTo32) _ e)
+  start-present s r e = and-left (presentIn marks s) _ e
 
   -- what the code counts for t is t's place in the span
-  pub held-spans : (s t far h : ℕ) → getD values s 0 < twoTo32 → far ≡ min w (4294967295 - getD values s 0) → h ≡ bit (leb (getD values s 0) (getD values t 0) && leb (getD values t 0) (getD values s 0 + far)) → h ≡ bit (spansAt w values s t)
+  pub held-spans :
+      (s t r far h : ℕ)
+      → spansAt w marks values s r ≡ true
+      → valueAt values t < twoTo32
+      → far ≡ min w (twoTo32 - 1 - valueAt values s)
+      → h ≡ bit (presentIn marks t && (leb (valueAt values s) (valueAt values t) && leb (valueAt values t) (valueAt values s + far)))
+      → h ≡ bit (spansAt w marks values s t)
   unfolding spansAt
-  held-spans s t far h p e q = q ∙ rw e (ap bit (cut-within w (getD values s 0) (getD values t 0) p))
+  held-spans s t r far h opened small e q =
+      let a = valueAt values s in
+      let b = valueAt values t in
+      q
+      ∙ ap (λ (c : Bool). bit (presentIn marks t && c)) (cut-within w a b far small e)
+      ∙ ap (λ (p : Bool). bit (p && (presentIn marks t && (leb a b && leb b (a + w))))) (sym (start-present s r opened))
 
-module _ (w need : ℕ) (values : List ℕ) where
+module _ (w need : ℕ) (marks values : List ℕ) where
   -- the start a accepts r
   abbrev pub admits : ℕ → ℕ → Bool
-  admits r a = spansAt w values a r && enoughAt w need values a
+  admits r a = spansAt w marks values a r && enoughAt w need marks values a
 
   -- document 01's test is that of the naturals
-  accepted-held : (r : ℕ) → acceptedIn w need values r ≡ accepted-nat w (presentIn values) (valueAt values) need (length values) r
+  accepted-held :
+      (r : ℕ)
+      → acceptedIn w need marks values r ≡ accepted-nat w (presentIn marks) (valueAt values) need (length marks) r
   unfolding acceptedIn
-  accepted-held r = accepted-shifted w (presentIn values) (valueAt values) twoTo31 need (length values) r
+  accepted-held r = accepted-shifted w (presentIn marks) (valueAt values) twoTo31 need (length marks) r
 
   -- an accepted reading is present
-  pub held-present : (r : ℕ) → acceptedIn w need values r ≡ true → presentIn values r ≡ true
-  held-present r e = accepted-present w (presentIn values) (valueAt values) need (length values) r (sym (accepted-held r) ∙ e)
+  pub held-present : (r : ℕ) → acceptedIn w need marks values r ≡ true → presentIn marks r ≡ true
+  held-present r e =
+      accepted-present w (presentIn marks) (valueAt values) need (length marks) r (sym (accepted-held r) ∙ e)
 
-  pub admitted : (r a : ℕ) → a < length values → admits r a ≡ true → acceptedIn w need values r ≡ true
-  unfolding accepted-nat spansAt enoughAt
-  admitted r a h e = accepted-held r ∙ any-true (λ s. spans w (presentIn values) (valueAt values) s r && leb need (count (spans w (presentIn values) (valueAt values) s) (length values))) (length values) a h e
+  -- what the search over starts asks of a start
+  abbrev asked : ℕ → ℕ → Bool
+  asked r s =
+      spans w (presentIn marks) (valueAt values) s r
+      && leb need (count (spans w (presentIn marks) (valueAt values) s) (length marks))
 
-  pub not-admitted : (r : ℕ) → ((a : ℕ) → a < length values → admits r a ≡ false) → acceptedIn w need values r ≡ false
+  pub admitted : (r a : ℕ) → a < length marks → admits r a ≡ true → acceptedIn w need marks values r ≡ true
   unfolding accepted-nat spansAt enoughAt
-  not-admitted r f = accepted-held r ∙ any-false (λ s. spans w (presentIn values) (valueAt values) s r && leb need (count (spans w (presentIn values) (valueAt values) s) (length values))) (length values) f
+  admitted r a h e = accepted-held r ∙ any-true (asked r) (length marks) a h e
+
+  pub not-admitted :
+      (r : ℕ) → ((a : ℕ) → a < length marks → admits r a ≡ false) → acceptedIn w need marks values r ≡ false
+  unfolding accepted-nat spansAt enoughAt
+  not-admitted r f = accepted-held r ∙ any-false (asked r) (length marks) f
 
   -- the start a is stored as what it is
-  pub remember : (known : List ℕ) (a v : ℕ) → a < length known → v ≡ 1 + bit (enoughAt w need values a) → Remembered w need values known → Remembered w need values (set known a v)
+  pub remember :
+      (known : List ℕ) (a v : ℕ)
+      → a < length known
+      → v ≡ 1 + bit (enoughAt w need marks values a)
+      → Remembered w need marks values known
+      → Remembered w need marks values (set known a v)
   remember known a v h e f b l = go (eqb b a) refl
     where
-      go : (t : Bool) → eqb b a ≡ t → (getD (set known a v) b 0 ≡ 0) ⊎ (getD (set known a v) b 0 ≡ 1 + bit (enoughAt w need values b))
+      go :
+          (t : Bool)
+          → eqb b a ≡ t
+          → (getD (set known a v) b 0 ≡ 0) ⊎ (getD (set known a v) b 0 ≡ 1 + bit (enoughAt w need marks values b))
       go true q = let s = eqb-true b a q in rw s (inr (getD-set-same known a v 0 h ∙ e))
       go false q = rw (getD-set-other known a b v 0 (eqb-false b a q)) (f b l)
 
   -- where the starts below s are tried, and the memory is sound
   pub record Tried (r : ℕ) (known : List ℕ) (found : Bool) (s : ℕ) : Type 0 where
-    pub upTo : s ≤ length values
-    pub few : length values ≤ maxCabinets
+    pub upTo : s ≤ length marks
+    pub few : length marks ≤ maxCabinets
     pub long : length known ≡ 64
     pub yet : found ≡ false
     pub none : (a : ℕ) → a < s → admits r a ≡ false
-    pub memory : Remembered w need values known
+    pub memory : Remembered w need marks values known
 
   -- where the span from s is counted up to t, and is short so far
   pub record Counted (r : ℕ) (known : List ℕ) (found : Bool) (s counted t : ℕ) : Type 0 where
     pub tried : Tried r known found s
-    pub upTo : t ≤ length values
-    pub exact : counted ≡ count (spansAt w values s) t
+    pub upTo : t ≤ length marks
+    pub exact : counted ≡ count (spansAt w marks values s) t
     pub short : 0 < t → counted < need
 
   -- the loop over starts begins
-  pub untried : (r : ℕ) (known : List ℕ) → length values ≤ maxCabinets → length known ≡ 64 → Remembered w need values known → Tried r known false 0
+  pub untried :
+      (r : ℕ) (known : List ℕ)
+      → length marks ≤ maxCabinets
+      → length known ≡ 64
+      → Remembered w need marks values known
+      → Tried r known false 0
   untried r known f l m =
       record { upTo = zero-le; few = f; long = l; yet = refl; none = λ a h. absurd (not-suc-le-zero h); memory = m }
 
-  module _ (r : ℕ) (known : List ℕ) (found : Bool) (s : ℕ) (below : s < length values) (tried : Tried r known found s) where
+  module _ (r : ℕ) (known : List ℕ) (found : Bool) (s : ℕ) (below : s < length marks) (tried : Tried r known found s) where
     -- a start that does not accept r is passed
-    pub pass : (known′ : List ℕ) → length known′ ≡ 64 → Remembered w need values known′ → admits r s ≡ false → Tried r known′ found (s + 1)
+    pass :
+        (known′ : List ℕ)
+        → length known′ ≡ 64
+        → Remembered w need marks values known′
+        → admits r s ≡ false
+        → Tried r known′ found (s + 1)
     pass known′ l m e =
         record {
           upTo = omega arith;
@@ -173,12 +214,20 @@ module _ (w need : ℕ) (values : List ℕ) where
         }
 
     -- a start that is remembered as short, or whose span does not hold r's reading
-    pub pass-untried : {b : Bool} → b ≡ (not (eqb (getD known s 0) 1) && spansAt w values s r) → b ≡ false → Tried r known found (s + 1)
+    pub pass-untried :
+        {b : Bool}
+        → b ≡ (not (eqb (getD known s 0) 1) && spansAt w marks values s r)
+        → b ≡ false
+        → Tried r known found (s + 1)
     pass-untried e f =
         pass known (tried .long) (tried .memory)
-        (go (spansAt w values s r) (enoughAt w need values s) (tried .memory s below) (sym e ∙ f))
+        (go (spansAt w marks values s r) (enoughAt w need marks values s) (tried .memory s below) (sym e ∙ f))
       where
-        go : (a b : Bool) → (getD known s 0 ≡ 0) ⊎ (getD known s 0 ≡ 1 + bit b) → (not (eqb (getD known s 0) 1) && a) ≡ false → (a && b) ≡ false
+        go :
+            (a b : Bool)
+            → (getD known s 0 ≡ 0) ⊎ (getD known s 0 ≡ 1 + bit b)
+            → (not (eqb (getD known s 0) 1) && a) ≡ false
+            → (a && b) ≡ false
         go false b m q = refl
         go true false m q = refl
         go true true m q = absurd (⊎-elim (λ z. differ 0 z refl) (λ z. differ 2 z refl) m)
@@ -187,8 +236,9 @@ module _ (w need : ℕ) (values : List ℕ) where
             differ k z f = clash (ap (λ (v : ℕ). not (eqb v 1) && true) z ∙ ap (λ (t : Bool). not t && true) f) q
 
     -- a start that is remembered as holding enough
-    pub known-enough : getD known s 0 ≡ 2 → enoughAt w need values s ≡ true
-    known-enough e = ⊎-elim (λ z. absurd (impossible z)) (λ z. go (enoughAt w need values s) z) (tried .memory s below)
+    pub known-enough : getD known s 0 ≡ 2 → enoughAt w need marks values s ≡ true
+    known-enough e =
+        ⊎-elim (λ z. absurd (impossible z)) (λ z. go (enoughAt w need marks values s) z) (tried .memory s below)
       where
         impossible : getD known s 0 ≡ 0 → ⊥
         impossible z = omega arith
@@ -204,37 +254,38 @@ module _ (w need : ℕ) (values : List ℕ) where
     module _ (c t : ℕ) (so-far : Counted r known found s c t) where
       pub count-small : c ≤ maxCabinets
       count-small =
-          let l = count-le (spansAt w values s) t in
+          let l = count-le (spansAt w marks values s) t in
           let e = so-far .exact in
           let u = so-far .upTo in
           let f = tried .few in
           omega arith
 
       -- the count reached n: the start is short, and is stored so
-      pub count-short : length values ≤ t → enoughAt w need values s ≡ false
+      count-short : length marks ≤ t → enoughAt w need marks values s ≡ false
       unfolding enoughAt
       count-short h =
-          let e : t ≡ length values = omega (arith, so-far .upTo) in
+          let e : t ≡ length marks = omega (arith, so-far .upTo) in
           let l = so-far .short (omega arith) in
-          lt-leb need (count (spansAt w values s) (length values)) (rw (← e, ← so-far .exact) l)
+          lt-leb need (count (spansAt w marks values s) (length marks)) (rw (← e, ← so-far .exact) l)
 
-      pub pass-counted : length values ≤ t → Tried r (set known s 1) found (s + 1)
+      pub pass-counted : length marks ≤ t → Tried r (set known s 1) found (s + 1)
       pass-counted h =
           let e = count-short h in
+          let room : s < length known = omega (arith, tried .few, tried .long) in
           pass (set known s 1) (length-set known s 1 ∙ tried .long)
-          (remember known s 1 (omega (arith, tried .few, tried .long)) (ap (λ (b : Bool). 1 + bit b) (sym e)) (tried .memory))
-          (and-false (spansAt w values s r) e)
+          (remember known s 1 room (ap (λ (b : Bool). 1 + bit b) (sym e)) (tried .memory))
+          (and-false (spansAt w marks values s r) e)
 
-      module _ (room : t < length values) (h : ℕ) (one : h ≡ bit (spansAt w values s t)) where
-        pub next-exact : c + h ≡ count (spansAt w values s) (t + 1)
-        next-exact = ap₂ (λ (a b : ℕ). a + b) (so-far .exact) one ∙ sym (count-next (spansAt w values s) t)
+      module _ (room : t < length marks) (h : ℕ) (one : h ≡ bit (spansAt w marks values s t)) where
+        next-exact : c + h ≡ count (spansAt w marks values s) (t + 1)
+        next-exact = ap₂ (λ (a b : ℕ). a + b) (so-far .exact) one ∙ sym (count-next (spansAt w marks values s) t)
 
         pub count-on : c + h < need → Counted r known found s (c + h) (t + 1)
         count-on l = record { tried = tried; upTo = omega arith; exact = next-exact; short = λ _. l }
 
-        pub count-enough : need ≤ c + h → enoughAt w need values s ≡ true
+        pub count-enough : need ≤ c + h → enoughAt w need marks values s ≡ true
         unfolding enoughAt
         count-enough l =
-            let g = count-grows (spansAt w values s) (t + 1) (length values) (omega arith) in
+            let g = count-grows (spansAt w marks values s) (t + 1) (length marks) (omega arith) in
             let e = next-exact in
-            le-leb need (count (spansAt w values s) (length values)) (omega arith)
+            le-leb need (count (spansAt w marks values s) (length marks)) (omega arith)

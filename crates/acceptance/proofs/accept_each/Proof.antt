@@ -1,43 +1,68 @@
--- `acceptance::accept_each` meets its contract: the readings passed are tested and counted, and the memory is sound; the measure is the readings left.
+-- `acceptance::accept_each` meets its contract: the readings passed are tested and counted, and the memory is sound; the
+-- measure is the readings left.
 -- Assumes nothing.
 use borrow.Author.Needs.{needs}
 use native.Mathlib.Omega.{arith}
 use Prim.Native.Nat.{_-_}
 use lib.ListN.{length}
-use Rattle.acceptance.proofs.Testing.{Testing, test-none, test-one, test-small, all-counted, all-tested, flags-long}
 use Rattle.loop_laws.proofs.Loops.{flag-small}
+use Rattle.acceptance.proofs.Testing.{Testing, test-none, test-one, test-small, all-counted, all-tested, flags-long}
 use Rattle.acceptance.proofs.accept_each.Statement.{statement}
 use Rattle.acceptance.proofs.accept_each.Tie as tie
 
 abbrev Inv-readings : tie.InvT-readings
-Inv-readings values window need known₀ accepted₀ count₀ r₀ known accepted count r = Testing window need values accepted₀ known accepted count r
+Inv-readings marks values span need known₀ accepted₀ count₀ r₀ known accepted count r =
+    Testing span need marks values accepted₀ known accepted count r
 
 abbrev μ-readings : tie.MeasureT-readings
-μ-readings values window need known₀ accepted₀ count₀ r₀ known accepted count r = length values - r
+μ-readings marks values span need known₀ accepted₀ count₀ r₀ known accepted count r = length marks - r
+
+abbrev call : tie.At-readings Inv-readings μ-readings → tie.Start Inv-readings μ-readings
+call c = c .before .before .before .before .before
+
+-- the turn that a reading is tested in
+abbrev turn : tie.After-slice-known3 Inv-readings μ-readings → tie.In-readings Inv-readings μ-readings
+turn c = c .before .before .before .before
 
 readings-holds : tie.Need-readings-holds Inv-readings μ-readings
 readings-holds c =
-    let s = c .before .before .before in
+    let s = c .before .before .before .before in
     let a = s .args in
-    test-none (a .window) (a .need) (a .values .now) (a .accepted .now) (a .known .now) (s .pre .0 .0) (s .pre .0 .1) (s .pre .0 .2) (s .pre .1)
+    test-none (a .span) (a .need) (a .marks .now) (a .values .now) (a .accepted .now) (a .known .now) (s .pre .0 .0)
+    (s .pre .0 .1)
+    (s .pre .1)
 
 accepts-requires : tie.Need-accepts-requires Inv-readings μ-readings
 accepts-requires c κs = search needs
 
 slice-write-accepted : tie.Need-slice-write-accepted Inv-readings μ-readings
 slice-write-accepted c =
-    let a = c .before .before .before .before .before .before .before .before .before .args in
-    let m = c .before .before .before .before .before .readings in
-    omega (arith, m .inv .room, flags-long (a .window) (a .need) (a .values .now) (a .accepted .now) (m .known) (m .accepted) (m .count) (m .r) (m .inv))
+    let m = turn c .before in
+    let a = call m .args in
+    let l = m .readings in
+    omega (
+      arith,
+      l .inv .room,
+      flags-long (a .span) (a .need) (a .marks .now) (a .values .now) (a .accepted .now) (l .known) (l .accepted) (l .count)
+          (l .r)
+          (l .inv),
+    )
 
 cast-count : tie.Need-cast-count Inv-readings μ-readings
 cast-count c = search needs
 
 add-count : tie.Need-add-count Inv-readings μ-readings
 add-count c =
-    let a = c .before .before .before .before .before .before .before .before .before .args in
-    let m = c .before .before .before .before .before .readings in
-    omega (arith, flag-small (c .before .before .accepts .result), test-small (a .window) (a .need) (a .values .now) (a .accepted .now) (m .known) (m .accepted) (m .count) (m .r) (m .inv))
+    let m = turn c .before in
+    let a = call m .args in
+    let l = m .readings in
+    omega (
+      arith,
+      flag-small (c .before .before .accepts .result),
+      test-small (a .span) (a .need) (a .marks .now) (a .values .now) (a .accepted .now) (l .known) (l .accepted) (l .count)
+          (l .r)
+          (l .inv),
+    )
 
 add-r : tie.Need-add-r Inv-readings μ-readings
 add-r c = search needs
@@ -47,26 +72,46 @@ readings-less c = search needs
 
 readings-again : tie.Need-readings-again Inv-readings μ-readings
 readings-again c =
-    let a = c .before .before .before .before .before .before .before .before .before .args in
-    let m = c .before .before .before .before .before .readings in
+    let m = turn c in
+    let a = call (m .before) .args in
+    let l = m .before .readings in
     let b = c .before .before .accepts in
-    test-one (a .window) (a .need) (a .values .now) (a .accepted .now) (m .known) (m .accepted) (m .count) (m .r) (m .inv) (c .before .before .before .before .readings-test .taken)
-    (b .last .1 .1 .1 .0) (b .kept .1 .1 .1 .0) (b .ensures .1) (b .result) (b .ensures .0)
+    test-one (a .span) (a .need) (a .marks .now) (a .values .now) (a .accepted .now) (l .known) (l .accepted) (l .count)
+    (l .r)
+    (l .inv)
+    (m .readings-test .taken)
+    (b .last .1 .1 .1 .1 .0)
+    (b .kept .1 .1 .1 .1 .0)
+    (b .ensures .1)
+    (b .result)
+    (b .ensures .0)
 
 same-length : tie.Need-same-length Inv-readings μ-readings
 same-length c = search needs
 
 same-length-2 : tie.Need-same-length-2 Inv-readings μ-readings
 same-length-2 c =
-    let a = c .before .before .before .before .before .args in
-    let m = c .before .readings in
-    flags-long (a .window) (a .need) (a .values .now) (a .accepted .now) (m .known) (m .accepted) (m .count) (m .r) (m .inv)
+    let a = call (c .before) .args in
+    let l = c .before .readings in
+    flags-long (a .span) (a .need) (a .marks .now) (a .values .now) (a .accepted .now) (l .known) (l .accepted) (l .count)
+    (l .r)
+    (l .inv)
 
 returns : tie.Need-returns Inv-readings μ-readings
 returns c =
-    let a = c .before .before .before .before .before .args in
-    let m = c .before .readings in
-    (all-counted (a .window) (a .need) (a .values .now) (a .accepted .now) (m .known) (m .accepted) (m .count) (m .r) (m .inv) (c .readings-test .left), all-tested (a .window) (a .need) (a .values .now) (a .accepted .now) (m .known) (m .accepted) (m .count) (m .r) (m .inv) (c .readings-test .left))
+    let a = call (c .before) .args in
+    let l = c .before .readings in
+    let ended = c .readings-test .left in (
+      all-counted (a .span) (a .need) (a .marks .now) (a .values .now) (a .accepted .now) (l .known) (l .accepted)
+          (l .count)
+          (l .r)
+          (l .inv)
+          ended,
+      all-tested (a .span) (a .need) (a .marks .now) (a .values .now) (a .accepted .now) (l .known) (l .accepted) (l .count)
+          (l .r)
+          (l .inv)
+          ended,
+    )
 
 pub accept-each-spec : {M : Type 1} → statement M
 accept-each-spec =

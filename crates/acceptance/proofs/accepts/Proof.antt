@@ -1,94 +1,167 @@
--- `acceptance::accepts` meets its contract. Over starts: those tried do not accept the reading, and the memory is sound. Over readings:
--- the count is that of the readings passed, and is short so far. The measures are the starts and the readings left.
+-- `acceptance::accepts` meets its contract. Over starts: those tried do not accept the reading, and the memory is sound.
+-- Over readings: the count is that of the readings passed, and is short so far. The measures are the starts and the
+-- readings left.
 -- Assumes nothing.
 use borrow.Author.Needs.{needs}
-use native.Mathlib.Omega.{arith}
-use Prim.Native.Nat.{_-_, _+_}
-use lib.ListN.{length, getD, length-set}
-use mathlib.Core.Bool.{Bool}
-use mathlib.Core.Path.{sym, ap, _∙_}
-use Rattle.arithmetic.specs.Counting.{bit}
-use Rattle.arithmetic.proofs.Bools.{and-intro}
-use Rattle.acceptance.specs.Values.{spansAt}
+use mathlib.Core.Bool.{Bool, true}
 use mathlib.Core.Logic.{⊎-elim}
-use Rattle.acceptance.proofs.Spans.{Tried, Counted, held-small, untried, count-small, tried-holds, start-present, held-spans, count-begin, count-on, count-enough, pass-counted, pass-untried, known-enough, admitted, not-admitted, remember}
+use mathlib.Core.Path.{_≡_, sym, ap, _∙_}
+use native.Mathlib.Omega.{arith}
+use Prim.Native.Nat.{ℕ, _-_, _+_, _<_}
+use lib.ListN.{length, getD, length-set}
+use Rattle.arithmetic.specs.Counting.{bit}
+use Rattle.arithmetic.specs.Words.{twoTo32}
+use Rattle.arithmetic.proofs.Bools.{and-intro}
+use Rattle.arithmetic.proofs.Counting.{bit-le-one}
+use Rattle.acceptance.specs.Values.{spansAt}
+use Rattle.acceptance.proofs.Spans.{Tried, Counted, reach-fits, untried, count-small, tried-holds}
+use Rattle.acceptance.proofs.Spans.{held-spans, count-begin, count-on, count-enough, pass-counted, pass-untried}
+use Rattle.acceptance.proofs.Spans.{known-enough, admitted, not-admitted, remember}
 use Rattle.acceptance.proofs.accepts.Statement.{statement}
 use Rattle.acceptance.proofs.accepts.Tie as tie
 
 abbrev Inv-readings : tie.InvT-readings
-Inv-readings values window need known₀ r value found₀ s start mark far count₀ t₀ known found count t =
-    Counted window need values r known found s count t
+Inv-readings marks values span need known₀ r mark value found₀ s start so-far far count₀ t₀ known found count t =
+    Counted span need marks values r known found s count t
 
 abbrev μ-readings : tie.MeasureT-readings
-μ-readings values window need known₀ r value found₀ s start mark far count₀ t₀ known found count t =
-    length values - t
+μ-readings marks values span need known₀ r mark value found₀ s start so-far far count₀ t₀ known found count t =
+    length marks - t
 
 abbrev Inv-starts : tie.InvT-starts
-Inv-starts values window need known₀ r value found₀ s₀ known found s = Tried window need values r known found s
+Inv-starts marks values span need known₀ r mark value found₀ s₀ known found s = Tried span need marks values r known found s
 
 abbrev μ-starts : tie.MeasureT-starts
-μ-starts values window need known₀ r value found₀ s₀ known found s = length values - s
+μ-starts marks values span need known₀ r mark value found₀ s₀ known found s = length marks - s
+
+-- ---- places: the call, a turn over starts, one over readings
+
+abbrev call : tie.At-starts Inv-readings μ-readings Inv-starts μ-starts → tie.Start Inv-readings μ-readings Inv-starts μ-starts
+call c = c .before .before .before .before .before .before
+
+abbrev turn : tie.After-tries Inv-readings μ-readings Inv-starts μ-starts → tie.In-starts Inv-readings μ-readings Inv-starts μ-starts
+turn c = c .before .before .before .before
+
+abbrev inner : tie.After-held Inv-readings μ-readings Inv-starts μ-starts → tie.In-readings Inv-readings μ-readings Inv-starts μ-starts
+inner c = c .before .before .before
+
+abbrev outer : tie.In-readings Inv-readings μ-readings Inv-starts μ-starts → tie.After-tries Inv-readings μ-readings Inv-starts μ-starts
+outer c = c .before .before .before .before .before
+
+-- a value has 32 bits
+small : (c : tie.At-starts Inv-readings μ-readings Inv-starts μ-starts) (j : ℕ) → getD (call c .args .values .now) j 0 < twoTo32
+small c j = c .before .before .before .before .shared-slice-known2 .given j .fits
+
+-- a start that is tried holds r's reading
+opened :
+    (c : tie.Then1 Inv-readings μ-readings Inv-starts μ-starts)
+    → let o = turn (c .before) .before in
+    let a = call o .args in
+    spansAt (a .span) (a .marks .now) (a .values .now) (o .starts .s) (a .r) ≡ true
+unfolding spansAt
+opened c =
+    let o = turn (c .before) .before in
+    let a = call o .args in
+    let s = o .starts .s in
+    tried-holds (a .span) (a .marks .now) (a .values .now) (getD (o .starts .known) s 0) s (a .r)
+    (c .before .tries .ensures)
+    (c .if1 .taken)
+
+shared-slice-read-mark : tie.Need-shared-slice-read-mark Inv-readings μ-readings Inv-starts μ-starts
+shared-slice-read-mark c = search needs
 
 mul-value : tie.Need-mul-value Inv-readings μ-readings Inv-starts μ-starts
 mul-value c = search needs
 
-shared-slice-read-value :
-    tie.Need-shared-slice-read-value Inv-readings μ-readings Inv-starts μ-starts
+shared-slice-read-value : tie.Need-shared-slice-read-value Inv-readings μ-readings Inv-starts μ-starts
 shared-slice-read-value c = search needs
 
 starts-holds : tie.Need-starts-holds Inv-readings μ-readings Inv-starts μ-starts
 starts-holds c =
-    let a = c .before .before .before in
-    untried (a .args .window) (a .args .need) (a .args .values .now) (a .args .r) (a .args .known .now) (a .pre .0 .1) (a .pre .0 .2) (a .pre .1)
+    let s = c .before .before .before .before .before in
+    let a = s .args in
+    untried (a .span) (a .need) (a .marks .now) (a .values .now) (a .r) (a .known .now) (s .pre .0 .0 .1) (s .pre .0 .0 .2)
+    (s .pre .1)
 
 mul-start : tie.Need-mul-start Inv-readings μ-readings Inv-starts μ-starts
 mul-start c = search needs
 
-shared-slice-read-start :
-    tie.Need-shared-slice-read-start Inv-readings μ-readings Inv-starts μ-starts
+shared-slice-read-start : tie.Need-shared-slice-read-start Inv-readings μ-readings Inv-starts μ-starts
 shared-slice-read-start c = search needs
 
-slice-read-mark : tie.Need-slice-read-mark Inv-readings μ-readings Inv-starts μ-starts
-slice-read-mark c = search needs
+slice-read-so-far : tie.Need-slice-read-so-far Inv-readings μ-readings Inv-starts μ-starts
+slice-read-so-far c = search needs
+
+shared-slice-read-tries : tie.Need-shared-slice-read-tries Inv-readings μ-readings Inv-starts μ-starts
+shared-slice-read-tries c = search needs
 
 tries-requires : tie.Need-tries-requires Inv-readings μ-readings Inv-starts μ-starts
 tries-requires c κs = search needs
 
 reach-requires : tie.Need-reach-requires Inv-readings μ-readings Inv-starts μ-starts
-unfolding spansAt
-reach-requires c κs =
-    let a = c .before .before .before .before .before .before .before .before .before .before .args in
-    start-present (a .window) (a .values .now) (c .before .before .before .before .before .before .starts .s) (a .r) (tried-holds (a .window) (a .values .now) (getD (c .before .before .before .before .before .before .starts .known) (c .before .before .before .before .before .before .starts .s) 0) (c .before .before .before .before .before .before .starts .s) (a .r) (c .before .before .tries .ensures) (c .before .if1 .taken))
+reach-requires c κs = search needs
 
 readings-holds : tie.Need-readings-holds Inv-readings μ-readings Inv-starts μ-starts
 readings-holds c =
-    let a = c .before .before .before .before .before .before .before .before .before .before .before .args in
-    let s = c .before .before .before .before .before .before .before .starts in
-    count-begin (a .window) (a .need) (a .values .now) (a .r) (s .known) (s .found) (s .s) (c .before .before .before .before .before .before .starts-test .taken) (s .inv)
+    let o = turn (c .before .before .before) in
+    let a = call (o .before) .args in
+    let s = o .before .starts in
+    count-begin (a .span) (a .need) (a .marks .now) (a .values .now) (a .r) (s .known) (s .found) (s .s)
+    (o .starts-test .taken)
+    (s .inv)
+
+shared-slice-read-held : tie.Need-shared-slice-read-held Inv-readings μ-readings Inv-starts μ-starts
+shared-slice-read-held c = search needs
 
 mul-held : tie.Need-mul-held Inv-readings μ-readings Inv-starts μ-starts
 mul-held c = search needs
 
-shared-slice-read-held :
-    tie.Need-shared-slice-read-held Inv-readings μ-readings Inv-starts μ-starts
-shared-slice-read-held c = search needs
+shared-slice-read-held-2 : tie.Need-shared-slice-read-held-2 Inv-readings μ-readings Inv-starts μ-starts
+shared-slice-read-held-2 c = search needs
 
 held-requires : tie.Need-held-requires Inv-readings μ-readings Inv-starts μ-starts
-unfolding spansAt
 held-requires c κs =
-    let a = c .before .before .before .before .before .before .before .before .before .before .before .before .before .before .args in
-    let p = start-present (a .window) (a .values .now) (c .before .before .before .before .before .before .before .before .before .before .starts .s) (a .r) (tried-holds (a .window) (a .values .now) (getD (c .before .before .before .before .before .before .before .before .before .before .starts .known) (c .before .before .before .before .before .before .before .before .before .before .starts .s) 0) (c .before .before .before .before .before .before .before .before .before .before .starts .s) (a .r) (c .before .before .before .before .before .before .tries .ensures) (c .before .before .before .before .before .if1 .taken)) in
-    (p, omega (arith, p, c .before .before .before .reach .ensures))
+    let reached = c .before .before .before .before in
+    let o = turn (reached .before .before .before) .before in
+    let a = call o .args in
+    reach-fits (getD (a .values .now) (o .starts .s) 0) (a .span) (reached .reach .result)
+    (small o (o .starts .s))
+    (reached .reach .ensures)
+
+-- what is counted for a reading is its place in the span
+one :
+    (c : tie.After-held Inv-readings μ-readings Inv-starts μ-starts)
+    → let o = turn (outer (inner c)) .before in
+    let a = call o .args in
+    c .held .result ≡ bit (spansAt (a .span) (a .marks .now) (a .values .now) (o .starts .s) (inner c .before .readings .t))
+one c =
+    let reached = inner c .before .before in
+    let tried = reached .before .before in
+    let o = turn (tried .before) .before in
+    let a = call o .args in
+    held-spans (a .span) (a .marks .now) (a .values .now) (o .starts .s) (inner c .before .readings .t) (a .r)
+    (reached .reach .result)
+    (c .held .result)
+    (opened tried)
+    (small o (inner c .before .readings .t))
+    (reached .reach .ensures)
+    (c .held .ensures)
 
 add-count : tie.Need-add-count Inv-readings μ-readings Inv-starts μ-starts
 add-count c =
-    let a = c .before .before .before .before .before .before .before .before .before .before .before .before .before .before .before .args in
-    let o = c .before .before .before .before .before .before .before .before .before .before .before .starts .s in
-    let i = c .before .before .before .readings in
+    let o = turn (outer (inner c)) in
+    let a = call (o .before) .args in
+    let i = inner c .before .readings in
     omega (
       arith,
-      count-small (a .window) (a .need) (a .values .now) (a .r) (i .known) (i .found) o (c .before .before .before .before .before .before .before .before .before .before .starts-test .taken) (i .inv .tried) (i .count) (i .t) (i .inv),
-      held-small (getD (a .values .now) o 0) (getD (a .values .now) (i .t) 0) (c .before .before .before .before .reach .result) (c .held .result) (c .held .ensures),
+      count-small (a .span) (a .need) (a .marks .now) (a .values .now) (a .r) (i .known) (i .found) (o .before .starts .s)
+          (o .starts-test .taken)
+          (i .inv .tried)
+          (i .count)
+          (i .t)
+          (i .inv),
+      one c,
+      bit-le-one (spansAt (a .span) (a .marks .now) (a .values .now) (o .before .starts .s) (i .t)),
     )
 
 slice-write-known : tie.Need-slice-write-known Inv-readings μ-readings Inv-starts μ-starts
@@ -101,16 +174,20 @@ readings-less : tie.Need-readings-less Inv-readings μ-readings Inv-starts μ-st
 readings-less c = search needs
 
 readings-again : tie.Need-readings-again Inv-readings μ-readings Inv-starts μ-starts
-unfolding spansAt
 readings-again c =
-    let a = c .before .before .before .before .before .before .before .before .before .before .before .before .before .before .before .before .args in
-    let o = c .before .before .before .before .before .before .before .before .before .before .before .before .starts .s in
-    let i = c .before .before .before .before .readings in
-    let p = start-present (a .window) (a .values .now) o (a .r) (tried-holds (a .window) (a .values .now) (getD (c .before .before .before .before .before .before .before .before .before .before .before .before .starts .known) o 0) o (a .r) (c .before .before .before .before .before .before .before .before .tries .ensures) (c .before .before .before .before .before .before .before .if1 .taken)) in
-    count-on (a .window) (a .need) (a .values .now) (a .r) (i .known) (i .found) o (c .before .before .before .before .before .before .before .before .before .before .before .starts-test .taken) (i .inv .tried) (i .count) (i .t) (i .inv)
-    (c .before .before .before .readings-test .taken)
+    let now = inner (c .before) in
+    let o = turn (outer now) in
+    let a = call (o .before) .args in
+    let i = now .before .readings in
+    count-on (a .span) (a .need) (a .marks .now) (a .values .now) (a .r) (i .known) (i .found) (o .before .starts .s)
+    (o .starts-test .taken)
+    (i .inv .tried)
+    (i .count)
+    (i .t)
+    (i .inv)
+    (now .readings-test .taken)
     (c .before .held .result)
-    (held-spans (a .window) (a .values .now) o (i .t) (c .before .before .before .before .before .reach .result) (c .before .held .result) p (c .before .before .before .before .before .reach .ensures) (c .before .held .ensures))
+    (one (c .before))
     (c .if3 .left)
 
 slice-write-known-2 : tie.Need-slice-write-known-2 Inv-readings μ-readings Inv-starts μ-starts
@@ -125,16 +202,25 @@ starts-less c = search needs
 starts-again : tie.Need-starts-again Inv-readings μ-readings Inv-starts μ-starts
 unfolding spansAt
 starts-again c =
-    let a = c .before .before .before .before .before .before .before .before .before .args in
-    let s = c .before .before .before .before .before .starts in
-    let below = c .before .before .before .before .starts-test .taken in
+    let o = turn (c .before) in
+    let a = call (o .before) .args in
+    let s = o .before .starts in
+    let below = o .starts-test .taken in
     ⊎-elim
     (λ u.
+    let i = u .3 in
     rw (u .5, u .6)
-    (pass-counted (a .window) (a .need) (a .values .now) (a .r) (u .3 .known) (u .3 .found) (s .s) below (u .3 .inv .tried) (u .3 .count) (u .3 .t) (u .3 .inv) (u .4 .left)))
+    (pass-counted (a .span) (a .need) (a .marks .now) (a .values .now) (a .r) (i .known) (i .found) (s .s) below
+    (i .inv .tried)
+    (i .count)
+    (i .t)
+    (i .inv)
+    (u .4 .left)))
     (λ u.
     rw (u .1, u .2)
-    (pass-untried (a .window) (a .need) (a .values .now) (a .r) (s .known) (s .found) (s .s) below (s .inv) (c .before .tries .ensures) (u .0 .left)))
+    (pass-untried (a .span) (a .need) (a .marks .now) (a .values .now) (a .r) (s .known) (s .found) (s .s) below (s .inv)
+    (c .before .tries .ensures)
+    (u .0 .left)))
     (c .if1 .came)
 
 same-length : tie.Need-same-length Inv-readings μ-readings Inv-starts μ-starts
@@ -142,46 +228,62 @@ same-length c = search needs
 
 returns : tie.Need-returns Inv-readings μ-readings Inv-starts μ-starts
 returns c =
-    let a = c .before .before .before .before .before .args in
+    let a = call (c .before) .args in
     let s = c .before .starts in
-    (s .inv .yet ∙ sym (not-admitted (a .window) (a .need) (a .values .now) (a .r) (λ b l. s .inv .none b (omega (arith, c .starts-test .left)))), s .inv .memory)
+    let ended = c .starts-test .left in (
+      s .inv .yet
+          ∙ sym
+          (not-admitted (a .span) (a .need) (a .marks .now) (a .values .now) (a .r)
+          (λ b l. s .inv .none b (omega (arith, ended)))),
+      s .inv .memory,
+    )
 
 same-length-2 : tie.Need-same-length-2 Inv-readings μ-readings Inv-starts μ-starts
 same-length-2 c = search needs
 
 returns-2 : tie.Need-returns-2 Inv-readings μ-readings Inv-starts μ-starts
-unfolding spansAt
 returns-2 c =
-    let a = c .before .before .before .before .before .before .before .before .before .before .args in
-    let s = c .before .before .before .before .before .before .starts in
-    let o = s .s in
-    let below = c .before .before .before .before .before .starts-test .taken in (
+    let o = turn (c .before .before) in
+    let a = call (o .before) .args in
+    let s = o .before .starts in
+    let below = o .starts-test .taken in
+    let enough =
+    known-enough (a .span) (a .need) (a .marks .now) (a .values .now) (a .r) (s .known) (s .found) (s .s) below (s .inv)
+    (c .if2 .taken) in (
       sym
-          (admitted (a .window) (a .need) (a .values .now) (a .r) o below
-          (and-intro (tried-holds (a .window) (a .values .now) (getD (c .before .before .before .before .before .before .starts .known) o 0) o (a .r) (c .before .before .tries .ensures) (c .before .if1 .taken)) (known-enough (a .window) (a .need) (a .values .now) (a .r) (s .known) (s .found) o below (s .inv) (c .if2 .taken)))),
+          (admitted (a .span) (a .need) (a .marks .now) (a .values .now) (a .r) (s .s) below
+          (and-intro (opened (c .before)) enough)),
       s .inv .memory,
     )
 
 same-length-3 : tie.Need-same-length-3 Inv-readings μ-readings Inv-starts μ-starts
-same-length-3 c = simp length-set (omega (arith, c .before .before .before .before .readings .inv .tried .long))
+same-length-3 c = simp length-set (omega (arith, inner (c .before) .before .readings .inv .tried .long))
 
 returns-3 : tie.Need-returns-3 Inv-readings μ-readings Inv-starts μ-starts
-unfolding spansAt
 returns-3 c =
-    let a = c .before .before .before .before .before .before .before .before .before .before .before .before .before .before .before .before .args in
-    let o = c .before .before .before .before .before .before .before .before .before .before .before .before .starts .s in
-    let below = c .before .before .before .before .before .before .before .before .before .before .before .starts-test .taken in
-    let i = c .before .before .before .before .readings in
-    let opened = tried-holds (a .window) (a .values .now) (getD (c .before .before .before .before .before .before .before .before .before .before .before .before .starts .known) o 0) o (a .r) (c .before .before .before .before .before .before .before .before .tries .ensures) (c .before .before .before .before .before .before .before .if1 .taken) in
-    let p = start-present (a .window) (a .values .now) o (a .r) opened in
+    let now = inner (c .before) in
+    let tried = now .before .before .before .before in
+    let o = turn (tried .before) in
+    let a = call (o .before) .args in
+    let s = o .before .starts .s in
+    let below = o .starts-test .taken in
+    let i = now .before .readings in
     let enough =
-    count-enough (a .window) (a .need) (a .values .now) (a .r) (i .known) (i .found) o below (i .inv .tried) (i .count) (i .t) (i .inv)
-    (c .before .before .before .readings-test .taken)
+    count-enough (a .span) (a .need) (a .marks .now) (a .values .now) (a .r) (i .known) (i .found) s below (i .inv .tried)
+    (i .count)
+    (i .t)
+    (i .inv)
+    (now .readings-test .taken)
     (c .before .held .result)
-    (held-spans (a .window) (a .values .now) o (i .t) (c .before .before .before .before .before .reach .result) (c .before .held .result) p (c .before .before .before .before .before .reach .ensures) (c .before .held .ensures))
+    (one (c .before))
     (c .if3 .taken) in (
-      sym (admitted (a .window) (a .need) (a .values .now) (a .r) o below (and-intro opened enough)),
-      remember (a .window) (a .need) (a .values .now) (i .known) o 2 (omega (arith, i .inv .tried .long, i .inv .tried .few)) (ap (λ (b : Bool). 1 + bit b) (sym enough)) (i .inv .tried .memory),
+      sym
+          (admitted (a .span) (a .need) (a .marks .now) (a .values .now) (a .r) s below
+          (and-intro (opened tried) enough)),
+      remember (a .span) (a .need) (a .marks .now) (a .values .now) (i .known) s 2
+          (omega (arith, i .inv .tried .long, i .inv .tried .few))
+          (ap (λ (b : Bool). 1 + bit b) (sym enough))
+          (i .inv .tried .memory),
     )
 
 pub accepts-spec : {M : Type 1} → statement M
@@ -192,17 +294,20 @@ accepts-spec =
     μ-readings
     Inv-starts
     μ-starts
+    shared-slice-read-mark
     mul-value
     shared-slice-read-value
     starts-holds
     mul-start
     shared-slice-read-start
-    slice-read-mark
+    slice-read-so-far
+    shared-slice-read-tries
     tries-requires
     reach-requires
     readings-holds
-    mul-held
     shared-slice-read-held
+    mul-held
+    shared-slice-read-held-2
     held-requires
     add-count
     slice-write-known

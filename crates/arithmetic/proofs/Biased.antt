@@ -13,30 +13,26 @@ use Rattle.arithmetic.specs.Naturals.{down}
 use Rattle.arithmetic.proofs.Shift.{down-pos, down-neg}
 use Rattle.arithmetic.specs.Words.{twoTo31, twoTo32}
 
--- 2^31
-abbrev pub bias : ℕ
-bias = twoTo31
-
 -- bits below 2^31 are a number at or above 0
-pub toZ-low : (x : ℕ) → x < bias → toZ w32 x ≡ down bias (x + bias)
-toZ-low x h = rw (lt-ltb x bias h) (sym (down-pos bias (x + bias) (omega arith) ∙ ap pos go))
+pub toZ-low : (x : ℕ) → x < twoTo31 → toZ w32 x ≡ down twoTo31 (x + twoTo31)
+toZ-low x h = rw (lt-ltb x twoTo31 h) (sym (down-pos twoTo31 (x + twoTo31) (omega arith) ∙ ap pos go))
   where
-    go : x + bias - bias ≡ x
+    go : x + twoTo31 - twoTo31 ≡ x
     go = omega arith
 
 -- bits from 2^31 on are a number below 0
-pub toZ-high : (x : ℕ) → bias ≤ x → x < twoTo32 → toZ w32 x ≡ down bias (x - bias)
-toZ-high x h l = rw (le-ltb x bias h) (sym (down-neg bias (x - bias) (omega arith) ∙ ap negsuc go))
+pub toZ-high : (x : ℕ) → twoTo31 ≤ x → x < twoTo32 → toZ w32 x ≡ down twoTo31 (x - twoTo31)
+toZ-high x h l = rw (le-ltb x twoTo31 h) (sym (down-neg twoTo31 (x - twoTo31) (omega arith) ∙ ap negsuc go))
   where
-    go : bias - suc (x - bias) ≡ twoTo32 - suc x
+    go : twoTo31 - suc (x - twoTo31) ≡ twoTo32 - suc x
     go = omega arith
 
 -- the bits of a number that was moved down
-pub ofZ-low : (a : ℕ) → a < bias → ofZ w32 (down bias a) ≡ a + bias
-ofZ-low a h = rw (down-neg bias a h) go
+pub ofZ-low : (a : ℕ) → a < twoTo31 → ofZ w32 (down twoTo31 a) ≡ a + twoTo31
+ofZ-low a h = rw (down-neg twoTo31 a h) go
   where
-    go : twoTo32 - suc (bias - suc a) ≡ a + bias
+    go : twoTo32 - suc (twoTo31 - suc a) ≡ a + twoTo31
     go = omega arith
 
-pub ofZ-high : (a : ℕ) → bias ≤ a → ofZ w32 (down bias a) ≡ a - bias
-ofZ-high a h = rw (down-pos bias a h)
+pub ofZ-high : (a : ℕ) → twoTo31 ≤ a → ofZ w32 (down twoTo31 a) ≡ a - twoTo31
+ofZ-high a h = rw (down-pos twoTo31 a h)

@@ -8,9 +8,9 @@ use lib.IntN.{ℤ, pos, _+ℤ_, _-ℤ_}
 use lib.Signed.{mag}
 use mir.Syntax.{w32}
 use mir.Val.{SFits}
-use Rattle.arithmetic.proofs.Biased.{bias}
 use Rattle.arithmetic.specs.Naturals.{down}
 use Rattle.arithmetic.proofs.Shift.{up, down-cong, pos-down, neg-down, add-down, down-up, dist-down}
+use Rattle.arithmetic.specs.Words.{twoTo31}
 use Rattle.model.specs.Steps.{mean}
 use Rattle.round_laws.specs.Naturals.{mean-nat}
 use Rattle.round_laws.proofs.Shifted.{mean-down}
@@ -33,7 +33,7 @@ pub dist-of : (k d a b : ℕ) → a ≤ b + d → b ≤ a + d → apart (down k 
 dist-of k d a b h i = let e = dist-down k a b in omega arith
 
 -- how far a number of 32 bits reaches
-pub fits-mag : (z : ℤ) → SFits w32 z → mag z < bias
+pub fits-mag : (z : ℤ) → SFits w32 z → mag z < twoTo31
 fits-mag z h = h .sfits
 
 -- ---- the mean

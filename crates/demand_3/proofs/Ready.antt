@@ -12,9 +12,9 @@ use native.Mathlib.Omega.{arith}
 use lib.ListN.{length}
 use mir.Syntax.{w32}
 use mir.Val.{SFits}
-use Rattle.arithmetic.proofs.Biased.{bias}
 use Rattle.arithmetic.proofs.Bools.{clash}
 use Rattle.arithmetic.specs.Naturals.{down}
+use Rattle.arithmetic.specs.Words.{twoTo31}
 use Rattle.model.specs.declared.Settings.{Settings}
 use Rattle.model.specs.Ensemble.{missing, present, isPresent, ticks}
 use Rattle.model.specs.RoundSheet.{entryCount}
@@ -110,7 +110,7 @@ module _ (st : Station) (begins : Start st) (j : ℕ) (now : State) (ready : Rea
 
         -- as a natural, moved down by k
         pub new-value :
-            (k : ℕ) → bias ≤ k
+            (k : ℕ) → twoTo31 ≤ k
             → next st now x .held p
             ≡ present (down k (valueBy (N st) (m st) w (received c (seen st now x w p) (reads p) k)))
         new-value k h =

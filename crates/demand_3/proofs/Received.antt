@@ -9,9 +9,9 @@ use lib.Signed.{mag}
 use mir.Syntax.{w32}
 use mir.Val.{SFits}
 use Rattle.arithmetic.specs.Counting.{count}
-use Rattle.arithmetic.proofs.Biased.{bias}
 use Rattle.arithmetic.specs.Naturals.{down}
 use Rattle.arithmetic.proofs.Shift.{up}
+use Rattle.arithmetic.specs.Words.{twoTo31}
 use Rattle.model.specs.declared.Settings.{Settings}
 use Rattle.model.specs.Ensemble.{Reading, missing, present, Readings, isPresent, ticks}
 use Rattle.model.specs.Steps.{roundOf}
@@ -28,7 +28,7 @@ reading-fits : (y : Reading) → IsReading y → SFits w32 (ticks y)
 reading-fits missing i = record { sfits = omega arith }
 reading-fits (present z) i = i
 
-reading-mag : (y : Reading) → IsReading y → mag (ticks y) < bias
+reading-mag : (y : Reading) → IsReading y → mag (ticks y) < twoTo31
 reading-mag y i = fits-mag (ticks y) (reading-fits y i)
 
 module _ (c : Settings) (v : Readings) (reads : (r : ℕ) → r < c .n → IsReading (v r)) where
@@ -36,16 +36,16 @@ module _ (c : Settings) (v : Readings) (reads : (r : ℕ) → r < c .n → IsRea
   abbrev pub received : ℕ → Receiver
   received k = record { pres = λ r. isPresent (v r); x = λ r. up k (ticks (v r)); k = k; kind = c .estimator }
 
-  represented : (k : ℕ) → bias ≤ k → EqualBelow (c .n) v (shifted k (λ r. isPresent (v r)) (λ r. up k (ticks (v r))))
+  represented : (k : ℕ) → twoTo31 ≤ k → EqualBelow (c .n) v (shifted k (λ r. isPresent (v r)) (λ r. up k (ticks (v r))))
   represented k h r l = sym (shift-raise k (v r) (lt-of-lt-of-le (reading-mag (v r) (reads r l)) h))
 
   pub received-count :
-      (k : ℕ) → bias ≤ k
+      (k : ℕ) → twoTo31 ≤ k
       → roundOf c v .count ≡ count (accepts (c .n) (c .m) (c .window) (received k)) (c .n)
   received-count k h = round-count c (λ r. isPresent (v r)) (λ r. up k (ticks (v r))) v k (represented k h)
 
   pub received-value :
-      (k : ℕ) → bias ≤ k → 0 < c .n → 0 < roundOf c v .count
+      (k : ℕ) → twoTo31 ≤ k → 0 < c .n → 0 < roundOf c v .count
       → roundOf c v .value ≡ down k (valueBy (c .n) (c .m) (c .window) (received k))
   received-value k h some-n some-acc =
       round-value c (λ r. isPresent (v r)) (λ r. up k (ticks (v r))) v k (represented k h) some-n

@@ -15,11 +15,11 @@ use lib.Dec.{eqb}
 use lib.IntN.{ℤ}
 use lib.Signed.{mag}
 use Rattle.arithmetic.specs.Counting.{count}
-use Rattle.arithmetic.proofs.Biased.{bias}
 use Rattle.arithmetic.proofs.Bools.{clash}
 use Rattle.arithmetic.proofs.Counting.{count-mono}
 use Rattle.arithmetic.specs.Naturals.{down}
 use Rattle.arithmetic.proofs.Shift.{up, down-up}
+use Rattle.arithmetic.specs.Words.{twoTo31}
 use Rattle.decision_laws.proofs.Rows.{faults}
 use Rattle.model.specs.declared.Settings.{Settings}
 use Rattle.model.specs.Ensemble.{Reading, missing, present, isPresent, ticks}
@@ -53,7 +53,7 @@ present-ticks : (y : Reading) → isPresent y ≡ true → y ≡ present (ticks 
 present-ticks missing e = clash e refl
 present-ticks (present z) e = refl
 
-reading-far : (y : Reading) (k : ℕ) → IsReading y → bias ≤ k → mag (ticks y) < k
+reading-far : (y : Reading) (k : ℕ) → IsReading y → twoTo31 ≤ k → mag (ticks y) < k
 reading-far missing k i h = omega arith
 reading-far (present z) k i h = lt-of-lt-of-le (fits-mag z i) h
 
@@ -82,12 +82,12 @@ module _ (st : Station) (begins : Start st) (j : ℕ) (now : State) (ready : Rea
   -- ---- the round in the naturals, moved up far enough for every reading and for true time
 
   abbrev far : ℕ
-  far = bias + suc (mag truth)
+  far = twoTo31 + suc (mag truth)
 
-  far-enough : bias ≤ bias + suc (mag truth)
+  far-enough : twoTo31 ≤ twoTo31 + suc (mag truth)
   far-enough = omega arith
 
-  truth-near : mag truth < bias + suc (mag truth)
+  truth-near : mag truth < twoTo31 + suc (mag truth)
   truth-near = omega arith
 
   abbrev has : ℕ → Receiver

@@ -11,9 +11,9 @@ use lib.Dec.{eqb}
 use lib.IntN.{pos, _-ℤ_}
 use Rattle.arithmetic.specs.Counting.{count}
 use Rattle.arithmetic.specs.Naturals.{down, total}
-use Rattle.arithmetic.proofs.Biased.{bias}
 use Rattle.arithmetic.proofs.Bools.{both-ways, clash}
 use Rattle.arithmetic.proofs.Shift.{down-cong, pos-down, dist-down}
+use Rattle.arithmetic.specs.Words.{twoTo31}
 use Rattle.model.specs.Ensemble.{present, isPresent}
 use Rattle.model.specs.RoundSheet.{fca, median}
 use Rattle.model.specs.Steps.{mean}
@@ -46,7 +46,7 @@ module _ (n m t δ κ : ℕ) (h : Covered n m t δ κ) where
   x = worstSends n m t δ κ
 
   -- readings moved up by K
-  module _ (K : ℕ) (far : bias ≤ K) where
+  module _ (K : ℕ) (far : twoTo31 ≤ K) where
     abbrev reader : ℕ → Receiver
     reader = has n m t δ κ h K
 
@@ -189,9 +189,9 @@ always-reached n m t δ κ h =
         (omega (arith, h .more, h .fewer), lt-ltb 1 (n - t) (omega (arith, h .fewer, h .crowded))),
       );
       unrefused = (
-        ap isPresent (low-value n m t δ κ h bias (le-refl bias)),
-        ap isPresent (high-value n m t δ κ h bias (le-refl bias)),
+        ap isPresent (low-value n m t δ κ h twoTo31 (le-refl twoTo31)),
+        ap isPresent (high-value n m t δ κ h twoTo31 (le-refl twoTo31)),
       );
-      farthest = farthest n m t δ κ h bias (le-refl bias);
-      widest = λ l. wide n m t δ κ h bias (le-refl bias) ∙ rw (spread-whole δ κ (omega (arith, l)));
+      farthest = farthest n m t δ κ h twoTo31 (le-refl twoTo31);
+      widest = λ l. wide n m t δ κ h twoTo31 (le-refl twoTo31) ∙ rw (spread-whole δ κ (omega (arith, l)));
     }

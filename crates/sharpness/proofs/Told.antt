@@ -11,9 +11,9 @@ use native.Mathlib.Omega.{arith}
 use borrow.Author.Tests.{ltb-true, ltb-false}
 use lib.Dec.{ltb}
 use lib.IntN.{ℤ, pos, _-ℤ_}
-use Rattle.arithmetic.proofs.Biased.{bias}
 use Rattle.arithmetic.proofs.Bools.{both-ways}
 use Rattle.arithmetic.proofs.Shift.{up}
+use Rattle.arithmetic.specs.Words.{twoTo31}
 use Rattle.model.specs.Ensemble.{Reading, present, isPresent, ticks}
 use Rattle.model.specs.RoundSheet.{fca, median}
 use Rattle.model.specs.Cases.{settings}
@@ -70,7 +70,7 @@ module _ (n m t δ κ : ℕ) (h : Covered n m t δ κ) where
 
     -- ---- cabinet 0
 
-    module _ (far : bias ≤ K) where
+    module _ (far : twoTo31 ≤ K) where
       near-K : δ ≤ K
       near-K = omega (arith, may-start n m t δ κ h .passes .window)
 

@@ -4,4 +4,3 @@ pub mod Writing
 pub mod Division
 pub mod Shift
 pub mod Sums
-pub mod Biased

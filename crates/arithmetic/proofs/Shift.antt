@@ -9,8 +9,7 @@ use borrow.Author.Tests.{lt-ltb, le-ltb, le-leb, lt-leb, ltb-true, ltb-false, le
 use lib.Dec.{leb, ltb}
 use lib.IntN.{ℤ, pos, negsuc, negℤ, natAbs, subℕ, _+ℤ_, _-ℤ_}
 use lib.Signed.{leZ, ltZ, shrZ, mag}
-use Rattle.arithmetic.specs.Naturals.{down}
-unfoldable pub use Rattle.arithmetic.specs.Naturals.{up}
+use Rattle.arithmetic.specs.Naturals.{down, up}
 use Rattle.arithmetic.proofs.Bools.{iff-eq}
 use Rattle.arithmetic.proofs.Division.{div-sub-mul, div-from-above}
 

@@ -1,1 +1,3 @@
+pub mod Majority
+pub mod Candidates
 pub mod Voting

@@ -15,9 +15,9 @@ use Rattle.arithmetic.proofs.Bools.{and-left, and-right}
 use Rattle.model.specs.RoundSheet.{word}
 use Rattle.model.specs.Steps.{decided, knownFaulty, decideRow}
 use Rattle.model.specs.Ensemble.{maxCabinets}
-use Rattle.decision_laws.specs.Majority.{Candidate, holds-bits}
-use Rattle.decision_laws.proofs.Majority.{candidate-lower}
-use Rattle.decision_laws.proofs.Candidates.{bits-begin, bits-agree, bits-replace, bits-missing, bits-enough, bits-spent, bits-decide, toZ-one}
+use Rattle.decisions.specs.Majority.{Candidate, holds-bits}
+use Rattle.decisions.proofs.Majority.{candidate-lower}
+use Rattle.decisions.proofs.Candidates.{bits-begin, bits-agree, bits-replace, bits-missing, bits-enough, bits-spent, bits-decide, toZ-one}
 use Rattle.arithmetic.proofs.Bools.{or-left, or-right}
 use Rattle.arithmetic.specs.Words.{twoTo32}
 use Rattle.decisions.specs.Rows.{markedAt, copyBits, copyAt, Elected, Fitting, rowDecision}

@@ -19,7 +19,7 @@ use mir.Val.{toZ}
 use Rattle.model.specs.Ensemble.{Readings, missing, present, maxCabinets}
 use Rattle.model.specs.RoundSheet.{word}
 use Rattle.model.specs.Steps.{Decision, decided, knownFaulty, decideRow}
-use Rattle.decision_laws.specs.Majority.{Candidate, holds-bits}
+use Rattle.decisions.specs.Majority.{Candidate, holds-bits}
 use Rattle.decisions.specs.declared.Decided.{Decided}
 use Rattle.decisions.specs.declared.Decided.the-variants.{Bits, KnownFaulty}
 use Rattle.decisions.specs.declared.Tried.{Tried}

@@ -8,8 +8,8 @@ use lib.IntN.{ℤ}
 use lib.Signed.{leZ, ltZ, mag, _≤ℤ_}
 use borrow.Author.Tests.{le-leb}
 use Rattle.arithmetic.proofs.Bools.{to-T}
-use Rattle.arithmetic.specs.Naturals.{down}
-use Rattle.arithmetic.proofs.Shift.{up, down-up, le-down, lt-down}
+use Rattle.arithmetic.specs.Naturals.{down, up}
+use Rattle.arithmetic.proofs.Shift.{down-up, le-down, lt-down}
 use Rattle.model.specs.Ensemble.{Readings, isPresent}
 use Rattle.model.specs.Steps.{accepted}
 use Rattle.round_laws.proofs.Local.{accepted-local}

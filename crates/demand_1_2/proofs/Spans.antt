@@ -15,7 +15,8 @@ use lib.Signed.{leZ, mag, _≤ℤ_, ≤ℤ-refl}
 use Rattle.arithmetic.specs.Counting.{count}
 use Rattle.arithmetic.proofs.Bools.{clash, of-T, and-left, and-right}
 use Rattle.arithmetic.proofs.Counting.{count-mono, count-some, count-pos, any-some}
-use Rattle.arithmetic.proofs.Shift.{up, down-up, le-down, add-pos-down}
+use Rattle.arithmetic.proofs.Shift.{down-up, le-down, add-pos-down}
+use Rattle.arithmetic.specs.Naturals.{up}
 use Rattle.model.specs.declared.Settings.{Settings}
 use Rattle.model.specs.Ensemble.{Reading, missing, present, Readings, isPresent, ticks, quorum}
 use Rattle.model.specs.Steps.{inside, within, accepted, acceptedAt, roundOf}

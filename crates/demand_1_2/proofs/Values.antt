@@ -12,8 +12,8 @@ use mir.Syntax.{w32}
 use mir.Val.{SFits}
 use Rattle.arithmetic.specs.Counting.{count}
 use Rattle.arithmetic.proofs.Counting.{count-pos}
-use Rattle.arithmetic.specs.Naturals.{down}
-use Rattle.arithmetic.proofs.Shift.{up, down-up, down-ind}
+use Rattle.arithmetic.specs.Naturals.{down, up}
+use Rattle.arithmetic.proofs.Shift.{down-up, down-ind}
 use Rattle.arithmetic.specs.Words.{twoTo31}
 use Rattle.model.specs.declared.Settings.{Settings}
 use Rattle.model.specs.Ensemble.{Readings, isPresent, ticks}

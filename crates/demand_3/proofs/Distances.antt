@@ -8,8 +8,8 @@ use lib.IntN.{ℤ, pos, _+ℤ_, _-ℤ_}
 use lib.Signed.{mag}
 use mir.Syntax.{w32}
 use mir.Val.{SFits}
-use Rattle.arithmetic.specs.Naturals.{down}
-use Rattle.arithmetic.proofs.Shift.{up, down-cong, pos-down, neg-down, add-down, down-up, dist-down}
+use Rattle.arithmetic.specs.Naturals.{down, up}
+use Rattle.arithmetic.proofs.Shift.{down-cong, pos-down, neg-down, add-down, down-up, dist-down}
 use Rattle.arithmetic.specs.Words.{twoTo31}
 use Rattle.model.specs.Steps.{mean}
 use Rattle.round_laws.specs.Naturals.{mean-nat}

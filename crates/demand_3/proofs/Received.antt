@@ -9,8 +9,7 @@ use lib.Signed.{mag}
 use mir.Syntax.{w32}
 use mir.Val.{SFits}
 use Rattle.arithmetic.specs.Counting.{count}
-use Rattle.arithmetic.specs.Naturals.{down}
-use Rattle.arithmetic.proofs.Shift.{up}
+use Rattle.arithmetic.specs.Naturals.{down, up}
 use Rattle.arithmetic.specs.Words.{twoTo31}
 use Rattle.model.specs.declared.Settings.{Settings}
 use Rattle.model.specs.Ensemble.{Reading, missing, present, Readings, isPresent, ticks}

@@ -17,8 +17,8 @@ use lib.Signed.{mag}
 use Rattle.arithmetic.specs.Counting.{count}
 use Rattle.arithmetic.proofs.Bools.{clash}
 use Rattle.arithmetic.proofs.Counting.{count-mono}
-use Rattle.arithmetic.specs.Naturals.{down}
-use Rattle.arithmetic.proofs.Shift.{up, down-up}
+use Rattle.arithmetic.specs.Naturals.{down, up}
+use Rattle.arithmetic.proofs.Shift.{down-up}
 use Rattle.arithmetic.specs.Words.{twoTo31}
 use Rattle.decision_laws.proofs.Rows.{faults}
 use Rattle.model.specs.declared.Settings.{Settings}

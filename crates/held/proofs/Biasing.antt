@@ -8,7 +8,7 @@ use borrow.Author.Tests.{ltb-true, ltb-false}
 use lib.Dec.{ltb}
 use mir.Syntax.{w32}
 use mir.Val.{toZ, ofZ}
-use Rattle.arithmetic.proofs.Biased.{toZ-low, toZ-high, ofZ-low, ofZ-high}
+use Rattle.held.proofs.Biased.{toZ-low, toZ-high, ofZ-low, ofZ-high}
 use Rattle.arithmetic.specs.Naturals.{down}
 use Rattle.arithmetic.specs.Words.{twoTo32, twoTo31}
 

@@ -1,2 +1,3 @@
+pub mod Biased
 pub mod Biasing
 pub mod Held

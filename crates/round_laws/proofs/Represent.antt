@@ -6,7 +6,8 @@ use native.Mathlib.Nat.{le-trans, not-suc-le-zero}
 use native.Mathlib.Omega.{arith}
 use lib.Signed.{mag}
 use Rattle.arithmetic.proofs.Counting.{split-last}
-use Rattle.arithmetic.proofs.Shift.{up, down-up}
+use Rattle.arithmetic.proofs.Shift.{down-up}
+use Rattle.arithmetic.specs.Naturals.{up}
 use Rattle.model.specs.Ensemble.{Reading, missing, present, Readings, isPresent, ticks}
 use Rattle.round_laws.specs.Naturals.{shift, shifted}
 use Rattle.round_laws.proofs.Local.{EqualBelow}

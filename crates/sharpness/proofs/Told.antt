@@ -12,8 +12,8 @@ use borrow.Author.Tests.{ltb-true, ltb-false}
 use lib.Dec.{ltb}
 use lib.IntN.{ℤ, pos, _-ℤ_}
 use Rattle.arithmetic.proofs.Bools.{both-ways}
-use Rattle.arithmetic.proofs.Shift.{up}
 use Rattle.arithmetic.specs.Words.{twoTo31}
+use Rattle.arithmetic.specs.Naturals.{up}
 use Rattle.model.specs.Ensemble.{Reading, present, isPresent, ticks}
 use Rattle.model.specs.RoundSheet.{fca, median}
 use Rattle.model.specs.Cases.{settings}

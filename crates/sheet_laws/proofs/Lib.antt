@@ -12,6 +12,5 @@ pub mod Readings
 pub mod Written
 pub mod Reread
 pub mod RoundTrips
-pub mod Entries
 pub mod Storing
 pub mod Answer

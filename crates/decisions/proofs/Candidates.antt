@@ -19,10 +19,10 @@ use Rattle.arithmetic.proofs.Counting.{count-ext, count-mono}
 use Rattle.arithmetic.specs.Words.{twoTo32}
 use Rattle.model.specs.Ensemble.{missing, present, Readings}
 use Rattle.model.specs.Steps.{same, decided, knownFaulty, decideRow}
 use Rattle.decision_laws.proofs.Equality.{same-true, eq-same, present-inj, missing-present}
 use Rattle.decision_laws.proofs.Decision.{copiesOf, copies-some, decide-value, decide-none, decide-spent}
-use Rattle.decision_laws.specs.Majority.{Candidate, holds-bits}
-use Rattle.decision_laws.proofs.Majority.{candidate-begin, candidate-raise, candidate-replace, candidate-keep, majority}
+use Rattle.decisions.specs.Majority.{Candidate, holds-bits}
+use Rattle.decisions.proofs.Majority.{candidate-begin, candidate-raise, candidate-replace, candidate-keep, majority}
 
 -- a test that passes where c has need copies, and fails only where no value has, decides the row
 decide-test : (need n : ℕ) (copy : Readings) (c : ℤ) (b : Bool) → n < need + need → (b ≡ true → need ≤ copiesOf copy c n) → (b ≡ false → (z : ℤ) → need ≤ copiesOf copy z n → ⊥) → decideRow need n copy ≡ cond b (decided c) knownFaulty

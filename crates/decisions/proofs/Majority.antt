@@ -10,7 +10,7 @@ use Rattle.arithmetic.specs.Counting.{bit, count}
 use Rattle.arithmetic.proofs.Bools.{not-true-false}
 use Rattle.arithmetic.proofs.Counting.{bit-le-one}
 use Rattle.loop_laws.proofs.Loops.{count-next}
-use Rattle.decision_laws.specs.Majority.{Candidate}
+use Rattle.decisions.specs.Majority.{Candidate}
 
 module _ {A : Type 0} (holds : A → ℕ → Bool) where
   -- the count of a value after one copy more

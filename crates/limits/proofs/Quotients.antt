@@ -17,7 +17,8 @@ rise-is n x = ap (λ (a : ℕ). a / (2 * n)) (omega arith)
 
 module _ (n x y q : ℕ) where
   -- two quotients by 2n whose dividends are together 2nx + 2n - 1 are together x
-  at-least : 2 * (n * x - x) + n < 2 * n * y + 2 * n → 2 * x + (n - 1) < 2 * n * q + 2 * n → x ≤ n * x → 0 < n → x ≤ y + q
+  at-least : 2 * (n * x - x) + n < 2 * n * y + 2 * n → 2 * x + (n - 1) < 2 * n * q + 2 * n → x ≤ n * x → 0 < n
+      → x ≤ y + q
   at-least u v room some =
       ⊎-elim (leb-true x (y + q))
       (λ f.

@@ -1,10 +1,11 @@
--- What the guarantee states, by cases: each outcome of the code, on plain values. Products are small, since the settings pass.
+-- What the guarantee states, by cases: each outcome of the code, on plain values. Products are small, since the
+-- settings pass.
 -- Assumes nothing.
 use mathlib.Core.Bool.{Bool, true, _&&_}
 use mathlib.Core.Option.{none, some}
 use mathlib.Core.Path.{_≡_, refl, sym, ap, ap₂, _∙_, subst}
 use Prim.Native.Nat.{ℕ, _+_, _*_, _-_, _/_, _≤_, _<_}
-use native.Mathlib.Nat.{mul-le-mul}
+use native.Mathlib.Nat.{le-trans, mul-le-mul}
 use native.Mathlib.Omega.{arith}
 use borrow.Author.Tests.{le-leb, lt-leb, leb-true, ltb-true, eqb-true}
 use lib.Dec.{leb, ltb, eqb}
@@ -14,46 +15,53 @@ use Rattle.model.specs.declared.Refusal.{Refusal}
 use Rattle.model.specs.RoundSheet.{fca, median}
 use Rattle.model.specs.Planner.{ceilDiv, maxAccuracy}
 use Rattle.model.specs.Cases.{settings}
-use Rattle.model.specs.Refusals.{firstOf, settingsChecks, planChecks}
-use Rattle.model.specs.Ensemble.{maxWindow}
+use Rattle.model.specs.Refusals.{firstOf, planChecks}
+use Rattle.model.specs.Ensemble.{maxCabinets, maxWindow}
 use Rattle.planner_laws.proofs.Ceiling.{ceil-div-le}
 use Rattle.planner_laws.proofs.Checks.{none-may-start}
-use Rattle.refusal_laws.proofs.Limits.{Limits, limits, limits-pass}
+use Rattle.refusal_laws.proofs.Limits.{Limits}
 use Rattle.limit_laws.proofs.Means.{rise, fall}
 use Rattle.demand_3.specs.Exact.{exactGap, exactError}
 use Rattle.demand_3.proofs.Exact.{gap-is, error-is}
 use Rattle.sharpness.specs.Sharpness.{Covered}
-use Rattle.limits.specs.Limits.{Stated, planned, wider, nothing, refused, stationOf, reachable, widerAt, bounds, stated}
+use Rattle.limits.specs.Limits.{Stated, planned, wider, nothing, refused}
+use Rattle.limits.specs.Limits.{stationOf, reachable, widerAt, bounds, stated}
 use Rattle.limits.proofs.Quotients.{rise-is, fall-is}
 
 module _ (c : Settings) where
-  module _ (e : firstOf (settingsChecks c) ≡ none) (parts : ℕ) (l : parts ≤ 256) where
-    pub product-le : parts * c .window ≤ 256000000
-    product-le = mul-le-mul {n₂ = 256} {m₂ = maxWindow} l (limits c e .window)
+  module _ (l : Limits c) (parts : ℕ) (few : parts ≤ 256) where
+    product-le : parts * c .window ≤ 256000000
+    product-le = mul-le-mul {n₂ = 256} {m₂ = maxWindow} few (l .window)
 
-    pub share-le : ceilDiv (parts * c .window) (c .n) ≤ 256000063
-    share-le = let a = ceil-div-le (c .n) (limits c e .someCabinet) (parts * c .window) in omega (arith, product-le)
+    share-le : ceilDiv (parts * c .window) (c .n) ≤ 256000000
+    share-le = le-trans (ceil-div-le (c .n) (l .someCabinet) (parts * c .window)) product-le
 
-  module _ (κ : ℕ) (e : firstOf (planChecks c κ 0) ≡ none) where
-    pub granted-settings : firstOf (settingsChecks c) ≡ none
-    granted-settings = limits-pass c (none-may-start c κ 0 e .passes)
+  -- the sizes of what is multiplied and added, where the planner grants the settings and fewer than N-m are bad
+  pub record Sizes (κ t : ℕ) : Type 0 where
+    pub passes : Limits c
+    pub accurate : κ ≤ maxAccuracy
+    pub few : t ≤ maxCabinets
+    pub gap : ceilDiv ((c .n + 2 * t + 2 * c .m) * c .window) (c .n) ≤ 256000000
+    pub growth : ceilDiv ((c .m + t) * c .window) (c .n) ≤ 256000000
+    pub excess : (c .m + t) * c .window ≤ 256000000
 
-    pub granted-passes : Limits c
-    granted-passes = none-may-start c κ 0 e .passes
+  pub granted-sizes : (κ t : ℕ) → firstOf (planChecks c κ 0) ≡ none → t < c .n - c .m → Sizes κ t
+  granted-sizes κ t e h =
+      let start = none-may-start c κ 0 e in
+      let l = start .passes in
+      let cabinets = l .cabinets in
+      let faults = l .faults in
+      record {
+        passes = l;
+        accurate = start .accurate;
+        few = omega arith;
+        gap = share-le l (c .n + 2 * t + 2 * c .m) (omega arith);
+        growth = share-le l (c .m + t) (omega arith);
+        excess = product-le l (c .m + t) (omega arith);
+      }
 
-    pub granted-accuracy : κ ≤ maxAccuracy
-    granted-accuracy = none-may-start c κ 0 e .accurate
-
-    -- the sizes of what is multiplied and added
-    module _ (t : ℕ) (h : t < c .n - c .m) where
-      pub all-parts : c .n + 2 * t + 2 * c .m ≤ 256
-      all-parts = let p = granted-passes in omega (arith, p .cabinets, p .faults)
-
-      pub bad-parts : c .m + t ≤ 256
-      bad-parts = let p = granted-passes in omega (arith, p .cabinets, p .faults)
-
-      pub excess-le : (c .m + t) * c .window ≤ 256000000
-      excess-le = product-le granted-settings (c .m + t) bad-parts
+  pub granted-faults : (κ : ℕ) → firstOf (planChecks c κ 0) ≡ none → 3 * c .m + 1 ≤ c .n
+  granted-faults κ e = none-may-start c κ 0 e .passes .faults
 
   pub bounds-planned : (κ t : ℕ) → t ≤ c .m → planned ≡ bounds c κ t
   unfolding bounds

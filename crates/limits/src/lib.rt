@@ -5,9 +5,10 @@ ghost use mathlib.Core.Option.{none};
 ghost use mathlib.Core.Path.{_≡_};
 ghost use Prim.Native.Nat.{_+_, _*_, _-_, _/_, _≤_, _<_};
 ghost use lib.Dec.{eqb};
-ghost use Rattle.model.specs.Planner.{ceilDiv, maxAccuracy};
-ghost use Rattle.model.specs.Refusals.{firstOf, settingsChecks, planChecks};
 ghost use Rattle.model.specs.Ensemble.{maxCabinets};
+ghost use Rattle.model.specs.RoundSheet.{fca, median};
+ghost use Rattle.model.specs.Planner.{maxAccuracy};
+ghost use Rattle.model.specs.Refusals.{firstOf, planChecks};
 ghost use Rattle.limits.specs.Limits.{stated, bounds, statedOf, reachable, widerAt, widerOf};
 use model::FCA;
 use model::MEDIAN;
@@ -36,16 +37,6 @@ pub enum Limits {
     Refused(Refusal),
 }
 
-// ⌈parts × window / N⌉
-fn share(settings: Settings, parts: u32) -> u32
-    requires { ⌜ (firstOf (settingsChecks settings) ≡ none) × (parts ≤ 256) ⌝ }
-    ensures { λ r. ⌜ (r ≡ ceilDiv (parts * settings .window) (settings .n)) × (r ≤ 256000063) ⌝ }
-{
-    let n = settings.n as u32;
-    let product = parts * settings.window;
-    (product + (n - 1)) / n
-}
-
 // (2 × excess + half) / 2N
 fn nearest(n: u32, excess: u32, half: u32) -> u32
     requires { ⌜ (0 < n) × (n ≤ maxCabinets) × (half ≤ maxCabinets) × (excess ≤ 256000000) ⌝ }
@@ -55,7 +46,7 @@ fn nearest(n: u32, excess: u32, half: u32) -> u32
 }
 
 fn is_fast_median(rule: u8, estimator: u8) -> bool
-    ensures { λ r. ⌜ r ≡ (eqb rule 0 && eqb estimator 1) ⌝ }
+    ensures { λ r. ⌜ r ≡ (eqb rule fca && eqb estimator median) ⌝ }
 {
     (rule == FCA) & (estimator == MEDIAN)
 }
@@ -79,8 +70,8 @@ fn widened(settings: Settings, accuracy: u32, t: u32) -> Wider
     let n = settings.n as u32;
     let m = settings.m as u32;
     let window = settings.window;
-    let gap = share(settings, n + 2 * t + 2 * m);
-    let growth = share(settings, m + t);
+    let gap = shares::share(settings, n + 2 * t + 2 * m) as u32;
+    let growth = shares::share(settings, m + t) as u32;
     let excess = (m + t) * window;
     let above = nearest(n, excess, n);
     let below = nearest(n, excess, n - 1);

@@ -2,7 +2,7 @@
 -- Assumes nothing.
 use borrow.Author.Needs.{needs}
 use native.Mathlib.Omega.{arith}
-use Rattle.limits.proofs.Stating.{granted-passes, bounds-planned, bounds-nothing, bounds-wider}
+use Rattle.limits.proofs.Stating.{granted-faults, bounds-planned, bounds-nothing, bounds-wider}
 use Rattle.limits.proofs.bound.Statement.{statement}
 use Rattle.limits.proofs.bound.Tie as tie
 
@@ -20,7 +20,7 @@ returns c =
 sub-if2 : tie.Need-sub-if2
 sub-if2 c =
     let a = c .before .before .before in
-    omega (arith, granted-passes (a .args .settings) (a .args .accuracy) (a .pre) .faults)
+    omega (arith, granted-faults (a .args .settings) (a .args .accuracy) (a .pre))
 
 returns-2 : tie.Need-returns-2
 returns-2 c =

@@ -34,7 +34,8 @@ returns c =
 returns-2 : tie.Need-returns-2
 returns-2 c =
     let a = c .before .before .before .before .args in
-    stated-bounds (a .settings) (a .accuracy) (a .t) (bound-requires (c .before) (c .bound .lifetimes)) (c .bound .ensures)
+    let passes = bound-requires (c .before) (c .bound .lifetimes) in
+    stated-bounds (a .settings) (a .accuracy) (a .t) passes (c .bound .ensures)
 
 pub limits-for-spec : {M : Type 1} → statement M
 limits-for-spec =

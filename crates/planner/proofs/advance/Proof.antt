@@ -5,7 +5,7 @@ use borrow.Author.Needs.{needs}
 use mathlib.Core.Path.{ap₂}
 use Prim.Native.Nat.{ℕ, _+_}
 use native.Mathlib.Omega.{arith}
-use Rattle.model.specs.Planner.{Plan, advance, withWindow}
+use Rattle.model.specs.Planner.{advance, withWindow}
 use Rattle.refusal_laws.proofs.Limits.{limits}
 use Rattle.planner_laws.proofs.Windows.{next-window-le, growth-le}
 use Rattle.planner.proofs.advance.Statement.{statement}

@@ -1,7 +1,7 @@
 -- `planner::plan_for` meets its contract: the checks decide, and where none refuses the plan some rounds on is granted.
 -- Assumes nothing.
 use borrow.Author.Needs.{needs}
-use mathlib.Core.Path.{_≡_, refl, sym, ap, _∙_}
+use mathlib.Core.Path.{refl, sym, ap, _∙_}
 use Rattle.model.specs.Calls.{granted}
 use Rattle.refusals.specs.Answers.{checkOf}
 use Rattle.planner_laws.proofs.Steps.{plan-by-check}

@@ -19,7 +19,7 @@ use Rattle.arithmetic.proofs.Shift.{down-up, le-down, add-pos-down}
 use Rattle.arithmetic.specs.Naturals.{up}
 use Rattle.model.specs.declared.Settings.{Settings}
 use Rattle.model.specs.Ensemble.{Reading, missing, present, Readings, isPresent, ticks, quorum}
-use Rattle.model.specs.Steps.{inside, within, accepted, acceptedAt, roundOf}
+use Rattle.model.specs.Steps.{inside, within, accepted, acceptedAt, roundOf, spanWidth}
 use Rattle.round_laws.proofs.Represent.{reach, reach-above, raise}
 use Rattle.limit_laws.proofs.Acceptance as A
 use Rattle.limit_laws.proofs.Acceptance.{span-accepted}
@@ -28,7 +28,7 @@ use Rattle.demand_1_2.proofs.Represented.{le-up, pres, accepted-up}
 
 module _ (c : Settings) (v : Readings) where
   abbrev w : ℕ
-  w = c .window
+  w = spanWidth c
 
   -- ---- from the definition to a span
 

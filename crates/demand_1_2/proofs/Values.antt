@@ -17,7 +17,7 @@ use Rattle.arithmetic.proofs.Shift.{down-up, down-ind}
 use Rattle.arithmetic.specs.Words.{twoTo31}
 use Rattle.model.specs.declared.Settings.{Settings}
 use Rattle.model.specs.Ensemble.{Readings, isPresent, ticks}
-use Rattle.model.specs.Steps.{acceptedAt, roundOf}
+use Rattle.model.specs.Steps.{acceptedAt, roundOf, spanWidth}
 use Rattle.round_laws.proofs.Local.{EqualBelow}
 use Rattle.round_laws.proofs.Natural.{acc-of, estimate-of, used-of, value-of, round-count, round-estimate, round-used}
 use Rattle.round_laws.proofs.Natural.{round-value}
@@ -62,7 +62,7 @@ module _ (c : Settings) (v : Readings) (some-acc : 0 < roundOf c v .count) where
 
   accepts : (r : ℕ) → r < c .n → acceptedAt c v r ≡ acc-of c pres (raise k v) r
   unfolding acceptedAt
-  accepts r l = accepted-up v (c .n) k (le-refl k) (c .window) _ r l
+  accepts r l = accepted-up v (c .n) k (le-refl k) (spanWidth c) _ r l
 
   raised : (r : ℕ) → r < c .n → down k (raise k v r) ≡ ticks (v r)
   raised r l = down-up k (ticks (v r)) (reach-above v (c .n) r l)

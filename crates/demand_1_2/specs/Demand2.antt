@@ -39,7 +39,7 @@ use Rattle.model.specs.declared.Settings.{Settings}
 use Rattle.model.specs.declared.Refusal.{Refusal}
 use Rattle.model.specs.Ensemble.{missing, present, Readings, ticks, quorum}
 use Rattle.model.specs.RoundSheet.{fca, cca, average, median, midpoint, byte, word, settingsAt, entryCount, entryAt}
-use Rattle.model.specs.Steps.{same, readingsOf, inside, held, acceptedAt, roundOf, roundAt}
+use Rattle.model.specs.Steps.{same, readingsOf, inside, held, acceptedAt, roundOf, roundAt, spanWidth}
 use Rattle.model.specs.Planner.{Plan, planFrom, withWindow, maxRounds}
 use Rattle.model.specs.Refusals.{refusal, settleChecks, tooManyFaultsNumber}
 use Rattle.model.specs.Calls.{granted, refused, read, write, settle, plan, step}
@@ -52,7 +52,7 @@ use Rattle.planner_laws.specs.Stepping.{steps}
 pub record FullSpan (c : Settings) (v : Readings) : Type 0 where
   pub start : ℤ
   pub end : ℤ
-  pub narrow : end ≤ℤ (start +ℤ pos (c .window))
+  pub narrow : end ≤ℤ (start +ℤ pos (spanWidth c))
   pub enough : quorum c ≤ held start end v (c .n)
 
 -- one that holds r's reading too: "s ≤ v ≤ f"

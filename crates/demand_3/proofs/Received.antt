@@ -13,7 +13,7 @@ use Rattle.arithmetic.specs.Naturals.{down, up}
 use Rattle.arithmetic.specs.Words.{twoTo31}
 use Rattle.model.specs.declared.Settings.{Settings}
 use Rattle.model.specs.Ensemble.{Reading, missing, present, Readings, isPresent, ticks}
-use Rattle.model.specs.Steps.{roundOf}
+use Rattle.model.specs.Steps.{roundOf, spanWidth}
 use Rattle.round_laws.proofs.Local.{EqualBelow}
 use Rattle.round_laws.proofs.Natural.{round-count, round-value}
 use Rattle.round_laws.proofs.Represent.{shift-raise}
@@ -40,12 +40,12 @@ module _ (c : Settings) (v : Readings) (reads : (r : ℕ) → r < c .n → IsRea
 
   pub received-count :
       (k : ℕ) → twoTo31 ≤ k
-      → roundOf c v .count ≡ count (accepts (c .n) (c .m) (c .window) (received k)) (c .n)
+      → roundOf c v .count ≡ count (accepts (c .n) (c .m) (spanWidth c) (received k)) (c .n)
   received-count k h = round-count c (λ r. isPresent (v r)) (λ r. up k (ticks (v r))) v k (represented k h)
 
   pub received-value :
       (k : ℕ) → twoTo31 ≤ k → 0 < c .n → 0 < roundOf c v .count
-      → roundOf c v .value ≡ down k (valueBy (c .n) (c .m) (c .window) (received k))
+      → roundOf c v .value ≡ down k (valueBy (c .n) (c .m) (spanWidth c) (received k))
   received-value k h some-n some-acc =
       round-value c (λ r. isPresent (v r)) (λ r. up k (ticks (v r))) v k (represented k h) some-n
       (subst (λ (a : ℕ). 0 < a) (received-count k h) some-acc)

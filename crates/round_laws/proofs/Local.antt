@@ -17,6 +17,7 @@ use Rattle.model.specs.Ensemble.{Readings, ticks, quorum}
 use Rattle.model.specs.RoundSheet.{average, median}
 use Rattle.model.specs.AnswerSheet.{answerHeader, answerBytes}
 use Rattle.model.specs.Steps.{within, accepted, acceptedAt, numbered, ticksAt, averageOf, medianOf, midpointOf, estimate, mean, usedValue, markOf, Round, roundOf}
+use Rattle.model.specs.Steps.{spanWidth}
 
 -- two functions agree below n
 abbrev pub EqualBelow : {A : Type 0} → ℕ → (ℕ → A) → (ℕ → A) → Type 0
@@ -112,7 +113,7 @@ rounds-trans p q =
 pub round-local : (c : Settings) (v u : Readings) → EqualBelow (c .n) v u → EqualRounds (c .n) (roundOf c v) (roundOf c u)
 unfolding roundOf acceptedAt
 round-local c v u same =
-    let both : EqualBelow (c .n) (λ r. accepted (c .window) (quorum c) (c .n) v r) (λ r. accepted (c .window) (quorum c) (c .n) u r) = λ r l. accepted-local (c .n) v u same (c .window) (quorum c) r l in
+    let both : EqualBelow (c .n) (λ r. accepted (spanWidth c) (quorum c) (c .n) v r) (λ r. accepted (spanWidth c) (quorum c) (c .n) u r) = λ r l. accepted-local (c .n) v u same (spanWidth c) (quorum c) r l in
     let e = estimate-local (c .n) v u _ _ both (λ r l _. same r l) (c .estimator) in
     let used = used-local (c .n) v u _ _ both (λ r l _. same r l) e in
     record {

@@ -11,7 +11,7 @@ use Rattle.arithmetic.specs.Naturals.{down, total}
 use Rattle.arithmetic.proofs.Sums.{sum-ext, sum-down}
 use Rattle.model.specs.declared.Settings.{Settings}
 use Rattle.model.specs.Ensemble.{Readings, quorum}
-use Rattle.model.specs.Steps.{acceptedAt, estimate, mean, roundOf}
+use Rattle.model.specs.Steps.{acceptedAt, estimate, mean, roundOf, spanWidth}
 use Rattle.round_laws.proofs.Local.{EqualBelow, EqualRounds, round-local, estimate-local}
 use Rattle.round_laws.specs.Naturals.{shifted, spans, accepted-nat, estimate-nat, mean-nat, used-nat}
 use Rattle.round_laws.proofs.Shifted.{accepted-shifted, estimate-shifted, mean-down, used-shifted}
@@ -26,7 +26,7 @@ accepted-present w pres x need n r e =
 module _ (c : Settings) (pres : ℕ → Bool) (x : ℕ → ℕ) where
   -- the accepted cabinets
   abbrev pub acc-of : ℕ → Bool
-  acc-of = accepted-nat (c .window) pres x (quorum c) (c .n)
+  acc-of = accepted-nat (spanWidth c) pres x (quorum c) (c .n)
 
   abbrev pub estimate-of : ℕ → ℕ
   estimate-of k = estimate-nat k (c .estimator) acc-of (c .n) x
@@ -40,11 +40,11 @@ module _ (c : Settings) (pres : ℕ → Bool) (x : ℕ → ℕ) where
   value-of k = mean-nat (c .n) (total (used-of k) (c .n))
 
   sub : (r : ℕ) → acc-of r ≡ true → pres r ≡ true
-  sub r = accepted-present (c .window) pres x (quorum c) (c .n) r
+  sub r = accepted-present (spanWidth c) pres x (quorum c) (c .n) r
 
   pub accepted-at : (k r : ℕ) → acceptedAt c (shifted k pres x) r ≡ acc-of r
   unfolding acceptedAt
-  accepted-at k r = accepted-shifted (c .window) pres x k (quorum c) (c .n) r
+  accepted-at k r = accepted-shifted (spanWidth c) pres x k (quorum c) (c .n) r
 
   pub count-shifted : (k : ℕ) → roundOf c (shifted k pres x) .count ≡ count acc-of (c .n)
   unfolding roundOf

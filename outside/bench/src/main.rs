@@ -11,7 +11,7 @@ use std::process::ExitCode;
 use std::time::{Duration, Instant};
 
 const USAGE: &str = "bench [--engines A,B] [--slices COUNT] [--svg PATH]
-  --engines  reference, plain, linked (when built in)
+  --engines  reference, plain, tuned, linked (when built in)
   --slices   short slices of each engine, in turn, for each line (default 41)
   --svg      where the picture goes (default bench.svg)";
 

@@ -15,7 +15,7 @@ use std::time::Instant;
 const USAGE: &str = "compare [--engines A,B] [--sheets COUNT] [--seed SEED] [--sabotage NAME]
 compare --program PATH [--sheets COUNT] [--seed SEED]
 compare --sabotages
-  --engines    reference, plain, linked (when built in)
+  --engines    reference, plain, tuned, linked (when built in)
   --sabotage   makes the first engine wrong in a named way
   --sabotages  lists the ways
   --program    compares the text of a program `settle` with the reference's";
@@ -91,8 +91,8 @@ fn main() -> ExitCode {
     };
     let sheets = options.sheets.unwrap_or(200_000);
     println!("{} / {}: {sheets} sheets, seed {}", a.name(), b.name(), options.seed);
-    if options.engines.contains("plain") {
-        println!("plain settles by itself; its other calls are the reference's.");
+    if options.engines.contains("plain") || options.engines.contains("tuned") {
+        println!("plain and tuned settle and read; their other calls are the reference's.");
     }
     let start = Instant::now();
     let mut comparison = Comparison::new(&*a, &*b);

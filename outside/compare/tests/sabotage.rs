@@ -16,6 +16,15 @@ fn no_difference() {
 }
 
 #[test]
+fn plain_and_tuned_are_the_reference() {
+    for name in ["plain", "tuned"] {
+        let engines = format!("{name},reference");
+        let (status, text) = compare(&["--engines", &engines, "--sheets", "20000"]);
+        assert_eq!(status, Some(0), "{text}");
+    }
+}
+
+#[test]
 fn sabotages_are_found() {
     for (name, _) in SABOTAGES {
         let (status, text) = compare(&["--sheets", "3000", "--sabotage", name]);

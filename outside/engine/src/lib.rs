@@ -6,6 +6,7 @@
 pub mod linked;
 pub mod sabotage;
 
+use plain::{Plain, Steps, Tuned};
 pub use reference::{Plan, Refusal, Settings};
 
 pub trait Engine {
@@ -116,16 +117,16 @@ fn hand_back(given: Result<Plan, Refusal>, plan: &mut Plan) -> u64 {
     }
 }
 
-/// The plain one settles and reads by itself; its other calls are the reference's.
-pub struct Plain;
+/// Settles and reads by the steps of outside/plain; its other calls are the reference's.
+pub struct Own<S>(pub S);
 
-impl Engine for Plain {
+impl<S: Steps> Engine for Own<S> {
     fn name(&self) -> String {
-        "plain".into()
+        S::NAME.into()
     }
 
     fn settle(&self, sheet: &[u8], answer: &mut [u8]) -> u64 {
-        plain::settle(sheet, answer)
+        plain::settle::<S>(sheet, answer)
     }
 
     fn read(
@@ -135,7 +136,7 @@ impl Engine for Plain {
         marks: &mut [u8],
         readings: &mut [i32],
     ) -> u64 {
-        let answer = plain::read(sheet, marks, readings);
+        let answer = plain::read::<S>(sheet, marks, readings);
         if number(answer) == 0 {
             *settings = Settings {
                 n: sheet[0],
@@ -173,7 +174,8 @@ impl Engine for Plain {
 pub fn named(name: &str) -> Option<Box<dyn Engine>> {
     match name {
         "reference" => Some(Box::new(Reference)),
-        "plain" => Some(Box::new(Plain)),
+        "plain" => Some(Box::new(Own(Plain))),
+        "tuned" => Some(Box::new(Own(Tuned))),
         #[cfg(feature = "linked")]
         "linked" => Some(Box::new(linked::Linked)),
         _ => None,

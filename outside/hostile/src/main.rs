@@ -16,7 +16,7 @@ use std::time::Instant;
 
 const USAGE: &str = "hostile [--engine NAME] [--runs COUNT] [--seed SEED] [--sabotage NAME]
 hostile [--engine NAME] [--sabotage NAME] --run SEED
-  --engine    reference, plain, linked (when built in)
+  --engine    reference, plain, tuned, linked (when built in)
   --sabotage  makes the engine wrong in a named way (see compare --sabotages)
   --run       shows one run, whose seed a failure names";
 

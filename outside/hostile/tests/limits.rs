@@ -42,7 +42,7 @@ fn broken(sabotage: &str) -> Vec<String> {
 
 #[test]
 fn no_limit_is_broken() {
-    for engine in ["reference", "plain"] {
+    for engine in ["reference", "plain", "tuned"] {
         let (status, text) = hostile(&["--engine", engine, "--runs", "3000"]);
         assert_eq!(status, Some(0), "{text}");
         assert!(text.contains("PASSED") && !text.contains("BROKEN"), "{text}");

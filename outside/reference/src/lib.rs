@@ -14,4 +14,4 @@ pub use planner::{counts_that_fit, next_accuracy, next_window, plan, step, targe
 pub use round::{accepted, decide, estimate, mean, settle, settle_readings, Round};
 pub use sheet::{entries_of, read, readings_of, row, settings_of, sheet_bytes, write};
 pub use text::{settle_text, INPUT_LIMIT};
-pub use vectors::answers;
+pub use vectors::{answers, settle_answers, Settle};

@@ -75,7 +75,10 @@ fn of_planner(call: &str, bytes: &[u8]) -> String {
     }
 }
 
-fn of_settle(call: &str, bytes: &[u8]) -> String {
+/// A call that settles a sheet into a lent buffer.
+pub type Settle = fn(&[u8], &mut [u8]) -> Result<usize, Refusal>;
+
+fn of_settle(settle: Settle, call: &str, bytes: &[u8]) -> String {
     assert_eq!(call, "settle");
     let mut buffer = vec![165; word(bytes, 0) as usize];
     match settle(&bytes[4..], &mut buffer) {
@@ -130,12 +133,20 @@ fn of_sheet(call: &str, bytes: &[u8]) -> String {
 
 /// What the program of that name writes for these lines.
 pub fn answers(program: &str, lines: &str) -> String {
-    let answer = match program {
-        "planner_vectors" => of_planner,
-        "settle_vectors" => of_settle,
-        "sheet_vectors" => of_sheet,
+    match program {
+        "planner_vectors" => answered(lines, of_planner),
+        "settle_vectors" => settle_answers(settle, lines),
+        "sheet_vectors" => answered(lines, of_sheet),
         _ => panic!("no such program: {program}"),
-    };
+    }
+}
+
+/// What `settle_vectors` would write for these lines if it settled by this call.
+pub fn settle_answers(settle: Settle, lines: &str) -> String {
+    answered(lines, |call, bytes| of_settle(settle, call, bytes))
+}
+
+fn answered(lines: &str, answer: impl Fn(&str, &[u8]) -> String) -> String {
     let mut text = String::new();
     for line in lines.lines() {
         text += line;

@@ -1,28 +1,50 @@
-//! The stored outputs of the programs of vectors are what the reference answers to their inputs.
+//! The stored outputs of the programs of vectors are what the reference answers to their inputs, and
+//! those of settling what both settlings of outside/plain answer.
 
-fn held(program: &str) {
+use plain::{Plain, Steps, Tuned};
+use reference::{answers, settle_answers, Refusal};
+
+fn held(program: &str, answers: impl Fn(&str) -> String) {
     let folder =
         std::path::Path::new(env!("CARGO_MANIFEST_DIR")).join("../../crates").join(program);
     let lines = std::fs::read_to_string(folder.join("stdin")).expect("the file stdin");
     let stored = std::fs::read_to_string(folder.join("stdout")).expect("the file stdout");
-    let wanted = reference::answers(program, &lines);
+    let wanted = answers(&lines);
     for (at, (is, should)) in stored.lines().zip(wanted.lines()).enumerate() {
         assert_eq!(is, should, "{program}: line {} of stdout", at + 1);
     }
     assert_eq!(stored, wanted, "{program}: stdout");
 }
 
+fn settle<S: Steps>(sheet: &[u8], answer: &mut [u8]) -> Result<usize, Refusal> {
+    let given = plain::settle::<S>(sheet, answer);
+    match given >> 32 {
+        0 => Ok(given as usize),
+        number => Err(Refusal { number: number as u8, place: given as u32 }),
+    }
+}
+
 #[test]
 fn planner_vectors() {
-    held("planner_vectors");
+    held("planner_vectors", |lines| answers("planner_vectors", lines));
 }
 
 #[test]
 fn settle_vectors() {
-    held("settle_vectors");
+    held("settle_vectors", |lines| answers("settle_vectors", lines));
+}
+
+#[test]
+fn settle_vectors_by_plain() {
+    held("settle_vectors", |lines| settle_answers(settle::<Plain>, lines));
+}
+
+#[test]
+fn settle_vectors_by_tuned() {
+    held("settle_vectors", |lines| settle_answers(settle::<Tuned>, lines));
 }
 
 #[test]
 fn sheet_vectors() {
-    held("sheet_vectors");
+    held("sheet_vectors", |lines| answers("sheet_vectors", lines));
 }

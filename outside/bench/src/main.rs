@@ -1,4 +1,5 @@
-//! The time two engines take to settle and to read the same sheets, side by side.
+//! The time that engines take to settle and to read the same sheets, side by side: the first beside
+//! each of the others.
 #![forbid(unsafe_code)]
 
 mod picture;
@@ -10,20 +11,43 @@ use std::hint::black_box;
 use std::process::ExitCode;
 use std::time::{Duration, Instant};
 
-const USAGE: &str = "bench [--engines A,B] [--slices COUNT] [--svg PATH]
-  --engines  reference, plain, tuned, linked (when built in)
+const USAGE: &str = "bench [--engines A,B,..] [--slices COUNT] [--svg PATH]
+  --engines  two or more of reference, plain, tuned, linked (when built in)
   --slices   short slices of each engine, in turn, for each line (default 41)
   --svg      where the picture goes (default bench.svg)";
 
 const SLICE: Duration = Duration::from_micros(1000);
 
-/// One line of the table: ns per sheet of both engines.
+/// One line of the table: ns per sheet of each engine.
 pub struct Cell {
     rule: u8,
     kind: Kind,
     n: u8,
-    ns: [f64; 2],
+    ns: Vec<f64>,
 }
+
+impl Cell {
+    /// How many times as long as each other engine the first takes.
+    fn ratios(&self) -> impl Iterator<Item = f64> + '_ {
+        self.ns[1..].iter().map(|other| self.ns[0] / other)
+    }
+
+    /// The power of N by which each engine's time grew since a smaller N.
+    fn growth<'a>(&'a self, before: &'a Cell) -> impl Iterator<Item = f64> + 'a {
+        let larger = (self.n as f64 / before.n as f64).ln();
+        self.ns.iter().zip(&before.ns).map(move |(now, then)| (now / then).ln() / larger)
+    }
+
+    fn start_of_line(&self, what: &str) -> String {
+        let (_, rule) = RULES.iter().find(|(rule, _)| *rule == self.rule).expect("a rule");
+        let mut line = format!("{rule:4} {what:14} {:>3}", self.n);
+        self.ns.iter().for_each(|ns| line += &format!(" {ns:>11.1}"));
+        self.ratios().for_each(|ratio| line += &format!(" {ratio:>7.2}"));
+        line
+    }
+}
+
+type Engines = [Box<dyn Engine>];
 
 struct Options {
     engines: String,
@@ -32,9 +56,9 @@ struct Options {
 }
 
 fn options() -> Option<Options> {
-    let other = if engine::CHECKED == "plain" { "reference" } else { "plain" };
+    let known = ["linked", "plain", "tuned"].iter().filter(|name| engine::named(name).is_some());
     let mut options = Options {
-        engines: format!("{},{other}", engine::CHECKED),
+        engines: known.copied().collect::<Vec<_>>().join(","),
         slices: 41,
         svg: "bench.svg".into(),
     };
@@ -51,9 +75,9 @@ fn options() -> Option<Options> {
     Some(options)
 }
 
-fn engines(names: &str) -> Option<[Box<dyn Engine>; 2]> {
-    let (a, b) = names.split_once(',')?;
-    Some([engine::named(a)?, engine::named(b)?])
+fn engines(names: &str) -> Option<Vec<Box<dyn Engine>>> {
+    let engines: Vec<_> = names.split(',').map(engine::named).collect::<Option<_>>()?;
+    (engines.len() > 1).then_some(engines)
 }
 
 /// What is timed.
@@ -96,51 +120,100 @@ fn times_in_a_slice(engine: &dyn Engine, call: Call, sheets: &[Vec<u8>]) -> u32 
 }
 
 /// In ns per sheet, over slices that alternate between the engines: a quarter of them were faster.
-fn side_by_side(
-    engines: &[Box<dyn Engine>; 2],
-    call: Call,
-    sheets: &[Vec<u8>],
-    slices: usize,
-) -> [f64; 2] {
-    let times = [0, 1].map(|i| times_in_a_slice(&*engines[i], call, sheets));
-    let mut ns = [Vec::new(), Vec::new()];
+fn side_by_side(engines: &Engines, call: Call, sheets: &[Vec<u8>], slices: usize) -> Vec<f64> {
+    let times: Vec<u32> = engines.iter().map(|e| times_in_a_slice(&**e, call, sheets)).collect();
+    let mut ns = vec![Vec::new(); engines.len()];
     for _ in 0..slices {
-        for i in 0..2 {
+        for (i, engine) in engines.iter().enumerate() {
             let settled = times[i] as f64 * sheets.len() as f64;
-            ns[i].push(time(&*engines[i], call, sheets, times[i]).as_nanos() as f64 / settled);
+            ns[i].push(time(&**engine, call, sheets, times[i]).as_nanos() as f64 / settled);
         }
     }
-    ns.map(|mut slices| {
+    let quarter = |mut slices: Vec<f64>| {
         slices.sort_by(f64::total_cmp);
         slices[slices.len() / 4]
+    };
+    ns.into_iter().map(quarter).collect()
+}
+
+/// All engines give the same answers, and sheets of refusal are refused under 10.
+fn agree(engines: &Engines, sheets: &[Vec<u8>], kind: Kind) -> bool {
+    let settled = |engine: &dyn Engine, sheet| {
+        let mut tray = [0; 330];
+        (engine.settle(sheet, &mut tray), tray)
+    };
+    sheets.iter().all(|sheet| {
+        let (answer, tray) = settled(&*engines[0], sheet);
+        let number = if kind == Kind::WorstRefusal { 10 } else { 0 };
+        let all = kind != Kind::AllAccepted || tray[0] == tray[1];
+        let same = engines[1..].iter().all(|engine| settled(&**engine, sheet) == (answer, tray));
+        same && engine::number(answer) == number && all
     })
 }
 
-/// Both engines give the same answers, and sheets of refusal are refused under 10.
-fn agree(engines: &[Box<dyn Engine>; 2], sheets: &[Vec<u8>], kind: Kind) -> bool {
-    sheets.iter().all(|sheet| {
-        let (mut tray_a, mut tray_b) = ([0; 330], [0; 330]);
-        let a = engines[0].settle(sheet, &mut tray_a);
-        let b = engines[1].settle(sheet, &mut tray_b);
-        let number = if kind == Kind::WorstRefusal { 10 } else { 0 };
-        let all = kind != Kind::AllAccepted || tray_a[0] == tray_a[1];
-        a == b && tray_a == tray_b && engine::number(a) == number && all
-    })
+/// The table of settling; nothing where the engines do not agree.
+fn show_settling(engines: &Engines, slices: usize) -> Option<Vec<Cell>> {
+    println!("Settling the same sheets, in ns per sheet, in {slices} slices of 1 ms for each");
+    println!("engine in turn, of which a quarter were faster than what is written.");
+    println!("The answer buffers are not cleared between sheets, for no engine.");
+    println!("/NAME is {}'s time divided by NAME's;", engines[0].name());
+    println!("growth is the power of N by which each time grew since the N before.");
+    println!();
+    print!("{:4} {:14} {:>3}", "rule", "sheets", "N");
+    engines.iter().for_each(|engine| print!(" {:>11}", engine.name()));
+    engines[1..].iter().for_each(|engine| print!(" {:>7}", format!("/{}", engine.name())));
+    engines.iter().for_each(|_| print!(" {:>7}", "growth"));
+    println!();
+    let mut cells: Vec<Cell> = Vec::new();
+    for (rule, rule_name) in RULES {
+        for kind in KINDS {
+            for n in SIZES {
+                let sheets = sheets::sheets(n, rule, kind);
+                if !agree(engines, &sheets, kind) {
+                    let kind = kind.name();
+                    println!(
+                        "FAILED: {rule_name}, {kind}, N {n}: the answers are not as they should be"
+                    );
+                    return None;
+                }
+                let ns = side_by_side(engines, Call::Settle, &sheets, slices);
+                let cell = Cell { rule, kind, n, ns };
+                print!("{}", cell.start_of_line(kind.name()));
+                if n > SIZES[0] {
+                    let before = cells.last().expect("the N before");
+                    cell.growth(before).for_each(|power| print!(" {power:>7.2}"));
+                }
+                println!();
+                cells.push(cell);
+            }
+        }
+    }
+    Some(cells)
+}
+
+fn show_means(engines: &Engines, cells: &[Cell]) {
+    println!();
+    for (i, other) in engines[1..].iter().enumerate() {
+        let logs: f64 = cells.iter().map(|cell| cell.ratios().nth(i).unwrap().ln()).sum();
+        println!(
+            "Geometric mean of the {} ratios: {} takes {:.2} times as long as {}",
+            cells.len(),
+            engines[0].name(),
+            (logs / cells.len() as f64).exp(),
+            other.name()
+        );
+    }
 }
 
 /// Reading sheets whose readings are all present.
-fn show_reading(engines: &[Box<dyn Engine>; 2], slices: usize) {
+fn show_reading(engines: &Engines, slices: usize) {
     println!();
     println!("Reading the same sheets into lent arrays, all readings present:");
-    for (rule, rule_name) in RULES {
+    for (rule, _) in RULES {
         for n in SIZES {
-            let sheets = sheets::sheets(n, rule, Kind::AllAccepted);
-            let ns = side_by_side(engines, Call::Read, &sheets, slices);
-            let ratio = ns[0] / ns[1];
-            println!(
-                "{rule_name:4} read           {n:>3} {:>11.1} {:>11.1} {ratio:>7.2}",
-                ns[0], ns[1]
-            );
+            let kind = Kind::AllAccepted;
+            let ns = side_by_side(engines, Call::Read, &sheets::sheets(n, rule, kind), slices);
+            println!("{}", Cell { rule, kind, n, ns }.start_of_line("read"));
         }
     }
 }
@@ -151,67 +224,16 @@ fn main() -> ExitCode {
         return ExitCode::from(2);
     };
     let Some(engines) = engines(&options.engines) else {
-        eprintln!("no such engine\n{USAGE}");
+        eprintln!("no such engine, or only one\n{USAGE}");
         return ExitCode::from(2);
     };
-    let names = [engines[0].name(), engines[1].name()];
-    println!(
-        "Settling the same sheets, in ns per sheet, in {} slices of 1 ms for each",
-        options.slices
-    );
-    println!("engine in turn, of which a quarter were faster than what is written.");
-    println!("The answer buffers are not cleared between sheets, for neither engine.");
-    println!("growth is the power of N by which the time grew since the N before.");
-    println!();
-    println!(
-        "{:4} {:14} {:>3} {:>11} {:>11} {:>7} {:>8} {:>8}",
-        "rule", "sheets", "N", names[0], names[1], "ratio", "growth", "growth"
-    );
-    let mut cells: Vec<Cell> = Vec::new();
-    for (rule, rule_name) in RULES {
-        for kind in KINDS {
-            let mut before: Option<(u8, [f64; 2])> = None;
-            for n in SIZES {
-                let sheets = sheets::sheets(n, rule, kind);
-                if !agree(&engines, &sheets, kind) {
-                    println!(
-                        "FAILED: {rule_name}, {}, N {n}: the answers are not as they should be",
-                        kind.name()
-                    );
-                    return ExitCode::FAILURE;
-                }
-                let ns = side_by_side(&engines, Call::Settle, &sheets, options.slices);
-                print!(
-                    "{rule_name:4} {:14} {n:>3} {:>11.1} {:>11.1} {:>7.2}",
-                    kind.name(),
-                    ns[0],
-                    ns[1],
-                    ns[0] / ns[1]
-                );
-                match before {
-                    None => println!(),
-                    Some((less, then)) => {
-                        let power =
-                            |i: usize| (ns[i] / then[i]).ln() / (n as f64 / less as f64).ln();
-                        println!(" {:>8.2} {:>8.2}", power(0), power(1));
-                    }
-                }
-                before = Some((n, ns));
-                cells.push(Cell { rule, kind, n, ns });
-            }
-        }
-    }
-    let logs: f64 = cells.iter().map(|cell| (cell.ns[0] / cell.ns[1]).ln()).sum();
-    let mean = (logs / cells.len() as f64).exp();
-    println!();
-    println!(
-        "Geometric mean of the {} ratios: {} takes {mean:.2} times as long as {}",
-        cells.len(),
-        names[0],
-        names[1]
-    );
+    let Some(cells) = show_settling(&engines, options.slices) else {
+        return ExitCode::FAILURE;
+    };
+    show_means(&engines, &cells);
     show_reading(&engines, options.slices);
-    if let Err(error) = std::fs::write(&options.svg, picture::svg([&names[0], &names[1]], &cells)) {
+    let names: Vec<String> = engines.iter().map(|engine| engine.name()).collect();
+    if let Err(error) = std::fs::write(&options.svg, picture::svg(&names, &cells)) {
         println!("FAILED: {}: {error}", options.svg);
         return ExitCode::FAILURE;
     }

@@ -8,10 +8,10 @@ const WIDE: f64 = 300.0;
 const HIGH: f64 = 220.0;
 const LEFT: f64 = 70.0;
 const TOP: f64 = 80.0;
-const COLOURS: [&str; 2] = ["#1f5fa8", "#c05a00"];
+const COLOURS: [&str; 4] = ["#1f5fa8", "#c05a00", "#2f8f4e", "#7a3fa0"];
 
-pub fn svg(names: [&str; 2], cells: &[Cell]) -> String {
-    let times = || cells.iter().flat_map(|cell| cell.ns);
+pub fn svg(names: &[String], cells: &[Cell]) -> String {
+    let times = || cells.iter().flat_map(|cell| cell.ns.iter().copied());
     let lowest = times().fold(f64::MAX, f64::min).log10().floor();
     let highest = times().fold(1.0, f64::max).log10().ceil();
     let (width, height) = (LEFT + 3.0 * (WIDE + 60.0), TOP + 2.0 * (HIGH + 70.0));
@@ -21,8 +21,8 @@ pub fn svg(names: [&str; 2], cells: &[Cell]) -> String {
          <rect width='{width}' height='{height}' fill='white'/>\n\
          <text x='{LEFT}' y='24' font-size='16'>Time to settle a round sheet, ns, by N</text>\n"
     );
-    for (i, name) in names.iter().enumerate() {
-        let (x, colour) = (LEFT + 160.0 * i as f64, COLOURS[i]);
+    for (i, (name, colour)) in names.iter().zip(COLOURS).enumerate() {
+        let x = LEFT + 160.0 * i as f64;
         let end = x + 24.0;
         let after = x + 30.0;
         let _ = writeln!(
@@ -64,7 +64,7 @@ pub fn svg(names: [&str; 2], cells: &[Cell]) -> String {
                 );
             }
             let here = cells.iter().filter(|cell| cell.rule == *rule && cell.kind == *kind);
-            for (i, colour) in COLOURS.iter().enumerate() {
+            for (i, colour) in COLOURS.iter().take(names.len()).enumerate() {
                 let points: Vec<String> = here
                     .clone()
                     .map(|cell| format!("{:.1},{:.1}", x(cell.n), y(cell.ns[i])))

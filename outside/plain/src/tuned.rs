@@ -18,16 +18,15 @@ impl Steps for Tuned {
         if marks.iter().fold(1, |least, &mark| mark.min(least)) == 1 {
             return Ok(());
         }
-        let ghost = |(&mark, &bytes): (&u8, &[u8; 4])| mark == 0 && bytes != [0; 4];
-        match marks.iter().zip(fours(readings)).position(ghost) {
+        match marks.iter().zip(words(readings)).position(|(&mark, word)| mark == 0 && word != 0) {
             Some(entry) => Err(refusal(9, entry)),
             None => Ok(()),
         }
     }
 
     fn copy(bytes: &[u8], readings: &mut [i32]) {
-        for (reading, &four) in readings.iter_mut().zip(fours(bytes)) {
-            *reading = i32::from_le_bytes(four);
+        for (reading, word) in readings.iter_mut().zip(words(bytes)) {
+            *reading = word;
         }
     }
 
@@ -48,21 +47,24 @@ impl Steps for Tuned {
         let chosen = &mut chosen[..count];
         let sum: i64 = chosen.iter().map(|&value| value as i64).sum();
         let estimate = estimate(sheet.estimator, chosen, sum);
-        let used = used.as_chunks_mut().0;
         marks.fill(0);
-        used.fill(estimate.to_le_bytes());
+        for used in used.chunks_exact_mut(4) {
+            used.copy_from_slice(&estimate.to_le_bytes());
+        }
         for ((&cabinet, &value), &accepted) in present.cabinets.iter().zip(values).zip(&accepted) {
             let cabinet = cabinet as usize;
             marks[cabinet] = if accepted { 1 } else { 2 };
-            used[cabinet] = if accepted { value } else { estimate }.to_le_bytes();
+            let value = if accepted { value } else { estimate };
+            used[4 * cabinet..4 * cabinet + 4].copy_from_slice(&value.to_le_bytes());
         }
         let estimate = estimate as i64;
         Some(Settled { count, estimate, sum: sum + estimate * (sheet.n - count) as i64 })
     }
 }
 
-fn fours(bytes: &[u8]) -> &[[u8; 4]] {
-    bytes.as_chunks().0
+/// The number in each four bytes.
+fn words(bytes: &[u8]) -> impl Iterator<Item = i32> + '_ {
+    bytes.chunks_exact(4).map(|word| i32::from_le_bytes([word[0], word[1], word[2], word[3]]))
 }
 
 /// The present readings, decided ones for CCA, and whose they are.
@@ -82,18 +84,18 @@ impl Present {
 
 fn receive(sheet: &Opened) -> Present {
     let mut present = Present { count: 0, cabinets: [0; MOST], values: [0; MOST] };
-    let readings = fours(sheet.readings);
+    let n = sheet.n;
     if sheet.crusaders {
-        let rows = sheet.marks.chunks_exact(sheet.n).zip(readings.chunks_exact(sheet.n));
+        let rows = sheet.marks.chunks_exact(n).zip(sheet.readings.chunks_exact(4 * n));
         for (cabinet, (marks, copies)) in rows.enumerate() {
             if let Some(value) = decide(marks, copies, sheet.m) {
                 present.push(cabinet, value);
             }
         }
     } else {
-        for (cabinet, (&mark, &reading)) in sheet.marks.iter().zip(readings).enumerate() {
+        for (cabinet, (&mark, value)) in sheet.marks.iter().zip(words(sheet.readings)).enumerate() {
             if mark == 1 {
-                present.push(cabinet, i32::from_le_bytes(reading));
+                present.push(cabinet, value);
             }
         }
     }
@@ -102,25 +104,26 @@ fn receive(sheet: &Opened) -> Present {
 
 /// The value that N-m present copies of a row equal, as one of the first m + 1 copies must. Where
 /// another value has more than m copies there is none.
-fn decide(marks: &[u8], copies: &[[u8; 4]], m: usize) -> Option<i32> {
-    for (_, &copy) in marks.iter().zip(copies).take(m + 1).filter(|(&mark, _)| mark == 1) {
-        let value = i32::from_le_bytes(copy);
-        let count = copies_of(value, marks, copies);
-        if count >= marks.len() - m {
-            return Some(value);
-        }
-        if count > m {
-            return None;
+fn decide(marks: &[u8], copies: &[u8], m: usize) -> Option<i32> {
+    for (&mark, value) in marks.iter().zip(words(copies)).take(m + 1) {
+        if mark == 1 {
+            let count = copies_of(value, marks, copies);
+            if count >= marks.len() - m {
+                return Some(value);
+            }
+            if count > m {
+                return None;
+            }
         }
     }
     None
 }
 
 /// How many present copies equal a value. The bytes of missing ones are zero.
-fn copies_of(value: i32, marks: &[u8], copies: &[[u8; 4]]) -> usize {
-    let equal = copies.iter().map(|&copy| (i32::from_le_bytes(copy) == value) as u32);
+fn copies_of(value: i32, marks: &[u8], copies: &[u8]) -> usize {
+    let equal: u32 = words(copies).map(|copy| (copy == value) as u32).sum();
     let missing = if value == 0 { marks.iter().filter(|&&mark| mark == 0).count() } else { 0 };
-    equal.sum::<u32>() as usize - missing
+    equal as usize - missing
 }
 
 /// What is known of the span from a start.

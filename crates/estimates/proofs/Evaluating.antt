@@ -1,132 +1,167 @@
--- What each `return` of the estimate and of the evaluation answers, by the tests that led there and by what one pass gathered.
+-- What each `return` of the estimate and of the evaluation answers, by the tests that led there and by what one pass
+-- gathered.
 -- Assumes nothing.
 use mathlib.Core.Bool.{Bool, true, false, not, cond}
 use mathlib.Core.List.{List}
-use mathlib.Core.Path.{_≡_, refl, sym, ap, _∙_}
-use Prim.Native.Nat.{ℕ, zero, suc, _+_, _*_, _-_, _/_, _≤_, _<_, zero-le}
+use mathlib.Core.Path.{_≡_, sym, ap, _∙_}
+use Prim.Native.Nat.{ℕ, _+_, _*_, _-_, _/_, _≤_, _<_}
 use native.Mathlib.Nat.{mul-le-mul-left, mul-comm, pos-of-ne-zero}
 use native.Mathlib.Omega.{arith}
-use borrow.Author.Tests.{lt-ltb, le-ltb, eq-eqb, ne-eqb, ltb-true}
-use lib.ListN.{length, getD}
+use borrow.Author.Tests.{eq-eqb, ne-eqb}
+use lib.ListN.{length}
 use Rattle.arithmetic.specs.Counting.{bit, count, sum}
 use Rattle.arithmetic.proofs.Counting.{count-le, count-not}
 use Rattle.arithmetic.specs.Naturals.{down, up, total}
 use Rattle.arithmetic.proofs.Shift.{up-down}
 use Rattle.arithmetic.proofs.Sums.{total-ext, total-add, total-scale, count-total}
 use Rattle.arithmetic.specs.Words.{twoTo31, twoTo32}
-use Rattle.model.specs.Steps.{mean, usedValue}
 use Rattle.model.specs.Ensemble.{maxCabinets}
+use Rattle.model.specs.Steps.{mean, usedValue}
 use Rattle.round_laws.specs.Naturals.{average-nat, median-nat, midpoint-nat, estimate-nat, mean-nat}
-use Rattle.round_laws.specs.Held.{readingsIn}
 use Rattle.round_laws.proofs.Shifted.{estimate-shifted, value-shifted}
-use Rattle.estimates.specs.Values.{valueAt, presentIn, usedAt, presentCount, numberedAt, Summarizes, estimateOfHeld, meanIn, estimateAt, nothing, evaluatedOf}
-use Rattle.estimates.proofs.Dividing.{div-less}
+use Rattle.held.specs.Held.{presentIn, valueAt, readingsIn, unfit}
+use Rattle.held.proofs.Held.{fit-few, fit-even, fit-intro}
+use Rattle.means.specs.Means.{floorMean, nearestMean}
+use Rattle.means.proofs.Means.{summable-intro, floor-is, nearest-is}
+use Rattle.selection.specs.Order.{numberedAt, numberedOf}
+use Rattle.estimates.specs.Values.{usedAt, presentCount, Summarizes, Fitting, estimateOfHeld, meanIn, estimateAt}
+use Rattle.estimates.specs.Values.{nothing, evaluatedOf}
 use Rattle.estimates.specs.declared.Estimated.{Estimated}
 use Rattle.estimates.specs.declared.Summary.{Summary}
 
-module _ (s : List ℕ) where
-  -- the sum of the present readings is below 2^32 for each
-  present-small : (t : ℕ) → total (usedAt s 0) t ≤ 4294967295 * count (presentIn s) t
-  unfolding total count
-  present-small zero = zero-le
-  present-small (suc t) =
-      let ih = present-small t in
-      let one = go (presentIn s t) refl in
-      omega arith
-    where
-      go : (b : Bool) → presentIn s t ≡ b → cond b (getD s t 0) 0 ≤ 4294967295 * bit b
-      go true e = omega (arith, ltb-true (getD s t 0) twoTo32 e)
-      go false e = zero-le
+module _ (marks values : List ℕ) where
+  pub fitting : {b : Bool} → b ≡ unfit (length marks) (length values) → b ≡ false → Fitting marks values
+  fitting e f =
+      record {
+        few = fit-few (length marks) (length values) (sym e ∙ f);
+        even = fit-even (length marks) (length values) (sym e ∙ f);
+      }
+
+  fits : Fitting marks values → unfit (length marks) (length values) ≡ false
+  fits f = fit-intro (length marks) (length values) (f .few) (f .even)
+
+  pub evaluate-unfit :
+      (kind : ℕ)
+      → {b : Bool}
+      → b ≡ unfit (length marks) (length values)
+      → b ≡ true
+      → nothing ≡ evaluatedOf kind marks values
+  unfolding evaluatedOf
+  evaluate-unfit kind e f = rw (sym e ∙ f)
 
   -- what replaces each missing reading is added once for each
-  pub total-used : (e : ℕ) → total (usedAt s e) (length s) ≡ total (usedAt s 0) (length s) + (length s - presentCount s) * e
+  total-used :
+      (e : ℕ)
+      → total (usedAt marks values e) (length marks)
+      ≡ total (usedAt marks values 0) (length marks) + (length marks - presentCount marks) * e
   total-used e =
-      let n = length s in
-      let absent : ℕ → Bool = λ i. not (presentIn s i) in
-      let some : count absent n ≡ n - presentCount s = omega (arith, count-not (presentIn s) n) in
-      total-ext (usedAt s e) (λ i. usedAt s 0 i + bit (absent i) * e) n (λ i _. one (presentIn s i) (getD s i 0))
-      ∙ total-add (usedAt s 0) (λ i. bit (absent i) * e) n
-      ∙ ap (λ (x : ℕ). total (usedAt s 0) n + x) (total-scale (λ i. bit (absent i)) e n ∙ ap (λ (x : ℕ). x * e) (sym (count-total absent n) ∙ some))
+      let n = length marks in
+      let absent : ℕ → Bool = λ i. not (presentIn marks i) in
+      let some : count absent n ≡ n - presentCount marks = omega (arith, count-not (presentIn marks) n) in
+      total-ext (usedAt marks values e) (λ i. usedAt marks values 0 i + bit (absent i) * e) n
+      (λ i _. one (presentIn marks i) (valueAt values i))
+      ∙ total-add (usedAt marks values 0) (λ i. bit (absent i) * e) n
+      ∙ ap (λ (x : ℕ). total (usedAt marks values 0) n + x)
+      (total-scale (λ i. bit (absent i)) e n ∙ ap (λ (x : ℕ). x * e) (sym (count-total absent n) ∙ some))
     where
       one : (b : Bool) (v : ℕ) → cond b v e ≡ cond b v 0 + bit (not b) * e
       one true v = omega arith
       one false v = omega arith
 
   -- document 01's estimate and mean, moved up, are those of the naturals
-  module _ (kind : ℕ) (some : 0 < presentCount s) where
-    estimate-down : estimateOfHeld kind s ≡ down twoTo31 (estimateAt kind s)
+  module _ (kind : ℕ) (some : 0 < presentCount marks) where
+    estimate-down : estimateOfHeld kind marks values ≡ down twoTo31 (estimateAt kind marks values)
     unfolding estimateOfHeld estimateAt
-    estimate-down = estimate-shifted twoTo31 (presentIn s) (valueAt s) (presentIn s) (length s) (λ r e. e) some kind
+    estimate-down =
+        let acc = presentIn marks in
+        estimate-shifted twoTo31 acc (valueAt values) acc (length marks) (λ r e. e) some kind
 
-    estimate-moved : up twoTo31 (estimateOfHeld kind s) ≡ estimateAt kind s
-    estimate-moved = ap (up twoTo31) estimate-down ∙ up-down twoTo31 (estimateAt kind s)
+    estimate-moved : up twoTo31 (estimateOfHeld kind marks values) ≡ estimateAt kind marks values
+    estimate-moved = ap (up twoTo31) estimate-down ∙ up-down twoTo31 (estimateAt kind marks values)
 
-    value-moved : up twoTo31 (meanIn s (estimateOfHeld kind s)) ≡ mean-nat (length s) (total (usedAt s (estimateAt kind s)) (length s))
+    value-moved :
+        up twoTo31 (meanIn marks values (estimateOfHeld kind marks values))
+        ≡ mean-nat (length marks) (total (usedAt marks values (estimateAt kind marks values)) (length marks))
     unfolding meanIn
     value-moved =
-        ap (λ z. up twoTo31 (mean (length s) (sum (usedValue (presentIn s) (readingsIn s) z) (length s)))) estimate-down
-        ∙ ap (up twoTo31) (value-shifted twoTo31 (presentIn s) (valueAt s) (presentIn s) (length s) (λ r e. e) (estimateAt kind s) (omega (arith, count-le (presentIn s) (length s))))
-        ∙ up-down twoTo31 (mean-nat (length s) (total (usedAt s (estimateAt kind s)) (length s)))
+        let e = estimateAt kind marks values in
+        let n = length marks in
+        ap (λ z. up twoTo31 (mean n (sum (usedValue (presentIn marks) (readingsIn marks values) z) n))) estimate-down
+        ∙ ap (up twoTo31)
+        (value-shifted twoTo31 (presentIn marks) (valueAt values) (presentIn marks) n (λ r p. p) e
+        (omega (arith, count-le (presentIn marks) n)))
+        ∙ up-down twoTo31 (mean-nat n (total (usedAt marks values e) n))
 
-  module _ (r : Summary) (gathered : Summarizes r s) where
-    pub count-few : r .count ≤ length s
-    count-few = omega (arith, gathered .counted, count-le (presentIn s) (length s))
-
-    pub sum-small : r .sum ≤ 4294967295 * r .count
-    sum-small = omega (arith, gathered .counted, gathered .added, present-small (length s))
+  module _ (fit : Fitting marks values) (r : Summary) (gathered : Summarizes r marks values) where
+    pub count-few : r .count ≤ length marks
+    count-few = omega (arith, gathered .counted, count-le (presentIn marks) (length marks))
 
     -- what replaces the missing readings
-    pub replaced-small : (e : ℕ) → e < twoTo32 → (length s - r .count) * e ≤ 4294967295 * (length s - r .count)
+    pub replaced-small :
+        (e : ℕ) → e < twoTo32 → (length marks - r .count) * e ≤ 4294967295 * (length marks - r .count)
     replaced-small e l =
         let m : e ≤ 4294967295 = omega arith in
-        omega (arith, mul-comm (length s - r .count) 4294967295, mul-le-mul-left (length s - r .count) m)
+        let missing = length marks - r .count in
+        omega (arith, mul-comm missing 4294967295, mul-le-mul-left missing m)
 
-    pub used-small : (e : ℕ) → e < twoTo32 → r .sum + (length s - r .count) * e ≤ 4294967295 * length s
-    used-small e l = omega (arith, count-few, sum-small, replaced-small e l)
+    pub used-small : (e : ℕ) → e < twoTo32 → r .sum + (length marks - r .count) * e ≤ 4294967295 * length marks
+    used-small e l = omega (arith, count-few, gathered .small, replaced-small e l)
 
-    module _ (some : 0 < r .count) where
-      some-present : 0 < presentCount s
+    module _ (kind : ℕ) (some : 0 < r .count) where
+      some-present : 0 < presentCount marks
       some-present = omega (arith, gathered .counted)
 
-      pub average-small : r .sum / r .count < twoTo32
-      average-small = div-less (r .sum) twoTo32 (r .count) some (omega (arith, sum-small))
-
-      pub low-small : r .low < twoTo32
-      low-small = gathered .lowest some-present .1
-
-      pub high-small : r .high < twoTo32
-      high-small = gathered .highest some-present .1
-
-    module _ (kind : ℕ) where
-      pub estimate-average : kind ≡ 0 → (a : ℕ) → a ≡ r .sum / r .count → a ≡ estimateAt kind s
+      pub estimate-average : kind ≡ 0 → (a : ℕ) → a ≡ floorMean (r .count) (r .sum) → a ≡ estimateAt kind marks values
       unfolding estimateAt estimate-nat average-nat
-      estimate-average e a q = rw (eq-eqb kind 0 e, ← gathered .counted, ← gathered .added) q
+      estimate-average e a q =
+          let few : r .count ≤ maxCabinets = omega (arith, count-few, fit .few) in
+          rw (eq-eqb kind 0 e, ← gathered .counted, ← gathered .added)
+          (q ∙ floor-is (r .count) (r .sum) (summable-intro (r .count) (r .sum) some few (gathered .small)))
 
-      pub estimate-median : (kind ≡ 0 → ⊥) → kind ≡ 1 → (a : ℕ) → a ≡ numberedAt s ((r .count + 1) / 2) → a ≡ estimateAt kind s
-      unfolding estimateAt estimate-nat median-nat
-      estimate-median d e a q = rw (ne-eqb kind 0 d, eq-eqb kind 1 e, ← gathered .counted) q
+      pub estimate-median :
+          (kind ≡ 0 → ⊥)
+          → kind ≡ 1
+          → (a : ℕ)
+          → a ≡ numberedOf marks values ((r .count + 1) / 2)
+          → a ≡ estimateAt kind marks values
+      unfolding estimateAt estimate-nat median-nat numberedOf
+      estimate-median d e a q =
+          rw (ne-eqb kind 0 d, eq-eqb kind 1 e, ← gathered .counted) (rw (fits fit) at q)
 
-      pub estimate-midpoint : 0 < r .count → (kind ≡ 0 → ⊥) → (kind ≡ 1 → ⊥) → (r .low + r .high) / 2 ≡ estimateAt kind s
+      pub estimate-midpoint :
+          (kind ≡ 0 → ⊥) → (kind ≡ 1 → ⊥) → (r .low + r .high) / 2 ≡ estimateAt kind marks values
       unfolding estimateAt estimate-nat midpoint-nat
-      estimate-midpoint some d e =
-          rw (ne-eqb kind 0 d, ne-eqb kind 1 e, ← gathered .lowest (some-present some) .0, ← gathered .highest (some-present some) .0)
+      estimate-midpoint d e =
+          rw (ne-eqb kind 0 d, ne-eqb kind 1 e, ← gathered .lowest some-present, ← gathered .highest some-present)
 
-      module _ (few : length s ≤ maxCabinets) where
-        pub evaluate-none : r .count ≡ 0 → nothing ≡ evaluatedOf kind s
-        unfolding evaluatedOf
-        evaluate-none e = rw (le-ltb maxCabinets (length s) few, eq-eqb (presentCount s) 0 (sym (gathered .counted) ∙ e))
+    pub evaluate-none : (kind : ℕ) → r .count ≡ 0 → nothing ≡ evaluatedOf kind marks values
+    unfolding evaluatedOf
+    evaluate-none kind e = rw (fits fit, eq-eqb (presentCount marks) 0 (sym (gathered .counted) ∙ e))
 
-        pub evaluate-some : (r .count ≡ 0 → ⊥) → (e v : ℕ) → e ≡ estimateAt kind s → v ≡ mean-nat (length s) (r .sum + (length s - r .count) * e) → _≡_ {A = Estimated} (record { count = r .count; estimate = e; value = v }) (evaluatedOf kind s)
-        unfolding evaluatedOf
-        evaluate-some d e v p q =
-            let some : 0 < presentCount s = pos-of-ne-zero (λ z. d (gathered .counted ∙ z)) in
-            rw (le-ltb maxCabinets (length s) few, ne-eqb (presentCount s) 0 (λ z. d (gathered .counted ∙ z)), estimate-moved kind some, value-moved kind some, total-used (estimateAt kind s), q, p, gathered .counted, gathered .added)
-
-  pub evaluate-long : (kind : ℕ) → 64 < length s → nothing ≡ evaluatedOf kind s
-  unfolding evaluatedOf
-  evaluate-long kind h = rw (lt-ltb maxCabinets (length s) h)
-
--- a mean of numbers below 2^32 is below 2^32
-pub mean-small : (n s : ℕ) → 0 < n → s ≤ 4294967295 * n → mean-nat n s < twoTo32
-unfolding mean-nat
-mean-small n s h l = div-less (s + s + n) twoTo32 (2 * n) (omega arith) (omega arith)
+    pub evaluate-some :
+        (kind : ℕ)
+        → (r .count ≡ 0 → ⊥)
+        → (e v : ℕ)
+        → e < twoTo32
+        → e ≡ estimateAt kind marks values
+        → v ≡ nearestMean (length marks) (r .sum + (length marks - r .count) * e)
+        → _≡_ {A = Estimated} (record { count = r .count; estimate = e; value = v }) (evaluatedOf kind marks values)
+    unfolding evaluatedOf
+    evaluate-some kind d e v small p q =
+        let n = length marks in
+        let used = r .sum + (n - r .count) * e in
+        let some : 0 < presentCount marks = pos-of-ne-zero (λ z. d (gathered .counted ∙ z)) in
+        let has : 0 < n = omega (arith, count-le (presentIn marks) n) in
+        let due : v ≡ mean-nat n used =
+        q ∙ nearest-is n used (summable-intro n used has (fit .few) (used-small e small)) in
+        rw (
+          fits fit,
+          ne-eqb (presentCount marks) 0 (λ z. d (gathered .counted ∙ z)),
+          estimate-moved kind some,
+          value-moved kind some,
+          total-used (estimateAt kind marks values),
+          due,
+          p,
+          gathered .counted,
+          gathered .added,
+        )

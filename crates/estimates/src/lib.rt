@@ -1,74 +1,57 @@
-// The estimate of readings and the mean of used values, on naturals: readings moved up by 2^31.
+// The estimate of readings and the mean of used values. Readings are held by their marks and by their ticks moved up
+// by 2^31.
 ghost use mathlib.Core.Path.{_≡_};
-ghost use mathlib.Core.Bool.{_&&_};
-ghost use Prim.Native.Nat.{_*_, _/_, min, max, _≤_, _<_};
-ghost use lib.Dec.{leb, ltb};
+ghost use Prim.Native.Nat.{min, max, _≤_, _<_};
 ghost use lib.ListN.{length};
-ghost use Rattle.arithmetic.specs.Words.{twoTo32};
 ghost use Rattle.model.specs.Ensemble.{maxCabinets};
-ghost use Rattle.round_laws.specs.Naturals.{mean-nat};
-ghost use Rattle.estimates.specs.Values.{countBelow, countUpTo, numberedAt, Summarizes, estimateAt, evaluatedOf};
+ghost use Rattle.estimates.specs.Values.{Fitting, Summarizes, estimateAt, evaluatedOf};
+use held::PRESENT;
+use model::AVERAGE;
+use model::MEDIAN;
 
-// The first number that is no reading.
-pub const LIMIT: u64 = 4_294_967_296;
-
-// The reading 0.
-const BIAS: u64 = 2_147_483_648;
-
-// The estimators; the third is the midpoint.
-const AVERAGE: u8 = 0;
-
-const MEDIAN: u8 = 1;
-
-// The count of the present readings, their estimate and the new value; all 0 where none is present or there are more
-// than 64.
+// The count of the present readings, their estimate and the new value; all 0 where none is present, there are more
+// than 64, or there are not as many numbers as marks.
 pub struct Estimated {
     pub count: u32,
-    pub estimate: u64,
-    pub value: u64,
+    pub estimate: u32,
+    pub value: u32,
 }
 
 // What one pass over the readings gathers of the present ones.
 struct Summary {
     count: u32,
     sum: u64,
-    low: u64,
-    high: u64,
+    low: u32,
+    high: u32,
 }
 
-// How many numbers of a list are below a number, and at or below it.
-struct Ranks {
-    below: u32,
-    up_to: u32,
-}
-
-fn lower(a: u64, b: u64) -> u64
+fn lower(a: u32, b: u32) -> u32
     ensures { λ r. ⌜ r ≡ min a b ⌝ }
 {
     if a < b { a } else { b }
 }
 
-fn higher(a: u64, b: u64) -> u64
+fn higher(a: u32, b: u32) -> u32
     ensures { λ r. ⌜ r ≡ max a b ⌝ }
 {
     if a < b { b } else { a }
 }
 
-// The lowest is LIMIT and the highest 0 where no reading is present.
-fn summarize(values: &[u64]) -> Summary
-    requires { ⌜ length (now values) ≤ maxCabinets ⌝ }
-    ensures { λ r. ⌜ Summarizes r (now (values .entry)) ⌝ }
+// Where no reading is present, the lowest is the highest number and the highest is 0.
+fn summarize(marks: &[u8], values: &[u32]) -> Summary
+    requires { ⌜ Fitting (now marks) (now values) ⌝ }
+    ensures { λ r. ⌜ Summarizes r (now (marks .entry)) (now (values .entry)) ⌝ }
 {
     let mut count: u32 = 0;
     let mut sum: u64 = 0;
-    let mut low = LIMIT;
-    let mut high: u64 = 0;
+    let mut low: u32 = 4_294_967_295;
+    let mut high: u32 = 0;
     let mut t = 0;
-    'readings: while t < values.len() {
+    'readings: while t < marks.len() {
         let v = values[t];
-        if v < LIMIT {
+        if marks[t] == PRESENT {
             count += 1;
-            sum += v;
+            sum += v as u64;
             low = lower(v, low);
             high = higher(high, v);
         }
@@ -82,103 +65,34 @@ fn summarize(values: &[u64]) -> Summary
     }
 }
 
-fn rank(values: &[u64], v: u64) -> Ranks
-    requires { ⌜ length (now values) ≤ maxCabinets ⌝ }
-    ensures { λ r. ⌜ (r .below ≡ countBelow (now (values .entry)) v) × (r .«up_to» ≡ countUpTo (now (values .entry)) v) ⌝ }
-{
-    let mut below: u32 = 0;
-    let mut up_to: u32 = 0;
-    let mut t = 0;
-    'readings: while t < values.len() {
-        let value = values[t];
-        below += (value < v) as u32;
-        up_to += (value <= v) as u32;
-        t += 1;
-    }
-    Ranks { below, up_to }
-}
-
-fn between(low: u64, v: u64, high: u64) -> bool
-    ensures { λ r. ⌜ r ≡ (leb low v && ltb v high) ⌝ }
-{
-    (low <= v) & (v < high)
-}
-
-// The present reading numbered h from below, counting from 1, or the reading 0 where there is none. A number that is
-// too low or too high rules out all beyond it.
-fn numbered(values: &[u64], h: u32) -> u64
-    requires { ⌜ length (now values) ≤ maxCabinets ⌝ }
-    ensures { λ r. ⌜ r ≡ numberedAt (now (values .entry)) h ⌝ }
-    ensures { λ r. ⌜ r < twoTo32 ⌝ }
-{
-    let mut low: u64 = 0;
-    let mut high = LIMIT;
-    let mut t = 0;
-    'candidates: while t < values.len() {
-        let v = values[t];
-        if between(low, v, high) {
-            let ranks = rank(values, v);
-            if h <= ranks.below {
-                high = v;
-            } else if ranks.up_to < h {
-                low = v + 1;
-            } else {
-                return v;
-            }
-        }
-        t += 1;
-    }
-    BIAS
-}
-
-// sum / by. Where the numbers summed are near the reading 0, what is divided is small.
-fn divide(sum: u64, by: u64) -> u64
-    requires { ⌜ (0 < by) × (by ≤ 128) × (sum < 1099511627776) ⌝ }
-    ensures { λ r. ⌜ r ≡ sum / by ⌝ }
-{
-    let middle = by * BIAS;
-    if middle <= sum {
-        BIAS + (sum - middle) / by
-    } else {
-        BIAS - (middle - sum + by - 1) / by
-    }
-}
-
-// The mean of n numbers with this sum, to the nearest, a half going up.
-fn mean(n: u64, sum: u64) -> u64
-    requires { ⌜ (0 < n) × (n ≤ maxCabinets) × (sum ≤ 4294967295 * n) ⌝ }
-    ensures { λ r. ⌜ (r ≡ mean-nat n sum) × (r < twoTo32) ⌝ }
-{
-    divide(sum + sum + n, 2 * n)
-}
-
 // Document 01's estimate of the present readings: average, median or midpoint.
-fn estimate(kind: u8, values: &[u64], summary: Summary) -> u64
-    requires { ⌜ (length (now values) ≤ maxCabinets) × (0 < summary .count) × Summarizes summary (now values) ⌝ }
-    ensures { λ r. ⌜ (r ≡ estimateAt kind (now (values .entry))) × (r < twoTo32) ⌝ }
+fn estimate(kind: u8, marks: &[u8], values: &[u32], summary: Summary) -> u32
+    requires { ⌜ Fitting (now marks) (now values) × (0 < summary .count) ⌝ }
+    requires { ⌜ Summarizes summary (now marks) (now values) ⌝ }
+    ensures { λ r. ⌜ r ≡ estimateAt kind (now (marks .entry)) (now (values .entry)) ⌝ }
 {
     if kind == AVERAGE {
-        return divide(summary.sum, summary.count as u64);
+        return means::floor_mean(summary.count, summary.sum);
     }
     if kind == MEDIAN {
-        return numbered(values, (summary.count + 1) / 2);
+        return selection::numbered(marks, values, (summary.count + 1) / 2);
     }
-    (summary.low + summary.high) / 2
+    (((summary.low as u64) + (summary.high as u64)) / 2) as u32
 }
 
 // The estimate of the present readings, and the mean of all with the missing ones replaced by it.
-pub fn evaluate(kind: u8, values: &[u64]) -> Estimated
-    ensures { λ r. ⌜ r ≡ evaluatedOf kind (now (values .entry)) ⌝ }
-    ensures { λ r. ⌜ (r .count ≤ maxCabinets) × (r .estimate < twoTo32) × (r .value < twoTo32) ⌝ }
+pub fn evaluate(kind: u8, marks: &[u8], values: &[u32]) -> Estimated
+    ensures { λ r. ⌜ r ≡ evaluatedOf kind (now (marks .entry)) (now (values .entry)) ⌝ }
+    ensures { λ r. ⌜ r .count ≤ maxCabinets ⌝ }
 {
-    if 64 < values.len() {
+    if held::unfit(marks.len(), values.len()) {
         return Estimated {
             count: 0,
             estimate: 0,
             value: 0,
         };
     }
-    let summary = summarize(values);
+    let summary = summarize(marks, values);
     if summary.count == 0 {
         return Estimated {
             count: 0,
@@ -186,10 +100,10 @@ pub fn evaluate(kind: u8, values: &[u64]) -> Estimated
             value: 0,
         };
     }
-    let n = values.len() as u64;
-    let missing = n - (summary.count as u64);
-    let estimate = estimate(kind, values, summary);
-    let value = mean(n, summary.sum + missing * estimate);
+    let n = marks.len() as u32;
+    let missing = (n - summary.count) as u64;
+    let estimate = estimate(kind, marks, values, summary);
+    let value = means::nearest_mean(n, summary.sum + missing * (estimate as u64));
     Estimated {
         count: summary.count,
         estimate,

@@ -1,15 +1,17 @@
--- A reading that is held is read back: by its mark and its number.
+-- A reading that is held is read back: by its mark and its number. What lists that fit are.
 -- Assumes nothing.
+use mathlib.Core.Bool.{Bool, true, false, not}
 use mathlib.Core.Path.{_≡_, refl, ap}
-use Prim.Native.Nat.{ℕ}
-use lib.Dec.{eqb}
-use lib.IntN.{ℤ}
+use Prim.Native.Nat.{ℕ, _≤_}
+use borrow.Author.Tests.{le-ltb, ltb-false, eq-eqb, eqb-true}
+use lib.Dec.{ltb, eqb}
+use Rattle.arithmetic.proofs.Bools.{clash, or-false, or-left, or-right}
 use Rattle.arithmetic.specs.Words.{twoTo31}
 use Rattle.arithmetic.specs.Naturals.{down}
 use Rattle.arithmetic.proofs.Shift.{up-down}
-use Rattle.model.specs.Ensemble.{Reading, missing, present}
+use Rattle.model.specs.Ensemble.{missing, present, maxCabinets}
 use Rattle.round_laws.specs.Naturals.{shift}
-use Rattle.held.specs.Held.{heldMark, heldValue}
+use Rattle.held.specs.Held.{heldMark, heldValue, unfit}
 
 pub missing-held : shift twoTo31 (eqb (heldMark missing) 1) (heldValue missing) ≡ missing
 missing-held = refl
@@ -19,3 +21,18 @@ pub reading-held :
     → shift twoTo31 (eqb (heldMark (present (down twoTo31 x))) 1) (heldValue (present (down twoTo31 x)))
     ≡ present (down twoTo31 x)
 reading-held x = ap (λ (v : ℕ). present (down twoTo31 v)) (up-down twoTo31 x)
+
+-- lists that fit are of at most 64 cabinets, and equally long
+module _ (marks values : ℕ) where
+  pub fit-few : unfit marks values ≡ false → marks ≤ maxCabinets
+  fit-few e = ltb-false maxCabinets marks (or-left (ltb maxCabinets marks) _ e)
+
+  pub fit-even : unfit marks values ≡ false → values ≡ marks
+  fit-even e = go (eqb values marks) refl (or-right (ltb maxCabinets marks) _ e)
+    where
+      go : (b : Bool) → eqb values marks ≡ b → not b ≡ false → values ≡ marks
+      go true p q = eqb-true values marks p
+      go false p q = clash refl q
+
+  pub fit-intro : marks ≤ maxCabinets → values ≡ marks → unfit marks values ≡ false
+  fit-intro l e = or-false (le-ltb maxCabinets marks l) (ap not (eq-eqb values marks e))

@@ -1,21 +1,22 @@
--- INNER: no reader needs this page to believe a public promise. How the code holds readings while it settles: a list of
--- marks, and a list of numbers below 2^32. A mark of 1 is a present reading, whose number is its ticks moved up by 2^31;
--- any other mark is none, and its number says nothing. The law `reading-held` (proofs/Held) says that no reading of 32
--- bits is lost by it.
+-- INNER: no reader needs this page to believe a public promise. How the code holds readings while it settles: a list
+-- of marks, and a list of numbers below 2^32. A mark of 1 is a present reading, whose number is its ticks moved up by
+-- 2^31; any other mark is none, and its number says nothing. The law `reading-held` (proofs/Held) says that no reading
+-- of 32 bits is lost by it.
 --   entryReading           the reading that an entry's mark and bits are
 --   heldMark, heldValue    the mark and the number that a reading is held as
 --   presentIn, valueAt     whether a cabinet's reading is present; its number
 --   readingsIn             the readings that the two lists hold, one for each cabinet
-use mathlib.Core.Bool.{Bool, cond}
+--   unfit                  whether two lists of these lengths are not those of at most 64 cabinets
+use mathlib.Core.Bool.{Bool, not, cond, _||_}
 use mathlib.Core.List.{List}
 use Prim.Native.Nat.{ℕ}
-use lib.Dec.{eqb}
+use lib.Dec.{ltb, eqb}
 use lib.ListN.{getD}
 use mir.Syntax.{w32}
 use mir.Val.{toZ}
 use Rattle.arithmetic.specs.Words.{twoTo31}
 use Rattle.arithmetic.specs.Naturals.{up}
-use Rattle.model.specs.Ensemble.{Reading, missing, present, Readings}
+use Rattle.model.specs.Ensemble.{Reading, missing, present, Readings, maxCabinets}
 use Rattle.round_laws.specs.Naturals.{shift}
 
 -- "E marks of one byte (1 present, 0 missing)": any other mark is held as missing too
@@ -38,3 +39,6 @@ valueAt values r = getD values r 0
 
 abbrev pub readingsIn : List ℕ → List ℕ → Readings
 readingsIn marks values r = shift twoTo31 (presentIn marks r) (valueAt values r)
+
+abbrev pub unfit : ℕ → ℕ → Bool
+unfit marks values = ltb maxCabinets marks || not (eqb values marks)

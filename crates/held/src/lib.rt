@@ -5,7 +5,8 @@ ghost use mir.Syntax.{w32};
 ghost use mir.Val.{toZ, ofZ};
 ghost use Rattle.arithmetic.specs.Naturals.{down, up};
 ghost use Rattle.arithmetic.specs.Words.{twoTo31};
-ghost use Rattle.held.specs.Held.{entryReading, heldMark, heldValue};
+ghost use Rattle.held.specs.Held.{entryReading, heldMark, heldValue, unfit};
+use model::MAX_CABINETS;
 
 // The marks: no reading, a present one, and one that is present and not accepted.
 pub const MISSING: u8 = 0;
@@ -43,4 +44,11 @@ pub fn entry_value(mark: u8, bits: u32) -> u32
     ensures { λ r. ⌜ r ≡ heldValue (entryReading mark bits) ⌝ }
 {
     if mark == PRESENT { bias(bits) } else { 0 }
+}
+
+// Whether lists of these lengths are not those of the readings of at most 64 cabinets.
+pub fn unfit(marks: usize, values: usize) -> bool
+    ensures { λ r. ⌜ r ≡ unfit marks values ⌝ }
+{
+    ((MAX_CABINETS as usize) < marks) | (values != marks)
 }

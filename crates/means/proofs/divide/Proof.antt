@@ -1,13 +1,13 @@
--- `estimates::divide` meets its contract: on either side of the middle the quotient is that of the whole sum.
+-- `means::divide` meets its contract: on either side of the middle the quotient is that of the whole sum.
 -- Assumes nothing.
 use native.Mathlib.Nat.{div-le-self}
 use native.Mathlib.Omega.{arith}
 use borrow.Author.Needs.{needs}
 use Prim.Native.Nat.{_-_, _*_}
 use Rattle.arithmetic.specs.Words.{twoTo31}
-use Rattle.estimates.proofs.Dividing.{div-at-most, div-above, div-below}
-use Rattle.estimates.proofs.divide.Statement.{statement}
-use Rattle.estimates.proofs.divide.Tie as tie
+use Rattle.means.proofs.Dividing.{div-at-most, div-above, div-below}
+use Rattle.means.proofs.divide.Statement.{statement}
+use Rattle.means.proofs.divide.Tie as tie
 
 mul-middle : tie.Need-mul-middle
 mul-middle c = search needs

@@ -1,5 +1,5 @@
--- The number h from below among those that a test admits, found by counting. What fits is one number, whichever index has it; the
--- lowest number is the first, and the highest the last.
+-- The number h from below among those that a test admits, found by counting. What fits is one number, whichever index
+-- has it; the lowest number is the first, and the highest the last.
 -- Assumes nothing.
 use mathlib.Core.Bool.{Bool, true, false, _&&_}
 use mathlib.Core.Logic.{_⊎_, ⊎-elim}
@@ -10,13 +10,19 @@ use native.Mathlib.Omega.{arith}
 use borrow.Author.Tests.{lt-ltb, le-ltb, le-leb, lt-leb, ltb-true, leb-true, leb-false}
 use lib.Dec.{leb, ltb}
 use Rattle.arithmetic.specs.Counting.{bit, count}
-use Rattle.arithmetic.proofs.Bools.{clash, and-left, and-right, and-intro}
-use Rattle.arithmetic.proofs.Counting.{initial, last, split-last, bit-le, count-mono, count-pos, count-some, lowest-none, lowest-cases}
-use Rattle.arithmetic.proofs.Bools.{and-false}
+use Rattle.arithmetic.proofs.Bools.{clash, and-left, and-right, and-intro, and-false}
+use Rattle.arithmetic.proofs.Counting.{initial, last, split-last, bit-le, count-mono, count-pos, count-some}
+use Rattle.arithmetic.proofs.Counting.{lowest-none, lowest-cases}
 use Rattle.round_laws.specs.Naturals.{nat-at, is-numbered, numbered-nat}
 
 -- a test that passes wherever another does, and once more, is counted more often
-count-less : (p q : ℕ → Bool) (n i : ℕ) → i < n → p i ≡ false → q i ≡ true → ((j : ℕ) → j < n → p j ≡ true → q j ≡ true) → count p n < count q n
+count-less :
+    (p q : ℕ → Bool) (n i : ℕ)
+    → i < n
+    → p i ≡ false
+    → q i ≡ true
+    → ((j : ℕ) → j < n → p j ≡ true → q j ≡ true)
+    → count p n < count q n
 unfolding count
 count-less p q zero i h a b f = absurd (not-suc-le-zero h)
 count-less p q (suc n) i h a b f =
@@ -105,7 +111,12 @@ module _ (acc : ℕ → Bool) (n : ℕ) (x : ℕ → ℕ) where
     numbered-none k f = ap (nat-at k x) (lowest-none (is-numbered acc n x h) n f)
 
   -- where r has the lowest number, it is the first
-  pub lowest-first : (k r : ℕ) → r < n → acc r ≡ true → ((j : ℕ) → j < n → acc j ≡ true → x r ≤ x j) → numbered-nat k acc n x 1 ≡ x r
+  pub lowest-first :
+      (k r : ℕ)
+      → r < n
+      → acc r ≡ true
+      → ((j : ℕ) → j < n → acc j ≡ true → x r ≤ x j)
+      → numbered-nat k acc n x 1 ≡ x r
   lowest-first k r l a f =
       numbered-value 1 k r l
       (numbered-intro 1 r a
@@ -124,7 +135,12 @@ module _ (acc : ℕ → Bool) (n : ℕ) (x : ℕ → ℕ) where
           z
 
   -- where r has the highest number, it is the last
-  pub highest-last : (k r : ℕ) → r < n → acc r ≡ true → ((j : ℕ) → j < n → acc j ≡ true → x j ≤ x r) → numbered-nat k acc n x (count acc n) ≡ x r
+  pub highest-last :
+      (k r : ℕ)
+      → r < n
+      → acc r ≡ true
+      → ((j : ℕ) → j < n → acc j ≡ true → x j ≤ x r)
+      → numbered-nat k acc n x (count acc n) ≡ x r
   highest-last k r l a f =
       numbered-value (count acc n) k r l
       (numbered-intro (count acc n) r a

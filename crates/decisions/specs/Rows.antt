@@ -38,10 +38,12 @@ decisionOf (Bits b) = decided (toZ w32 b)
 decisionOf KnownFaulty = knownFaulty
 
 abbrev pub rowMisfit : ℕ → List ℕ → List ℕ → Bool
-rowMisfit need marks row = ltb maxCabinets (length marks) || (not (eqb (length row) (4 * length marks)) || leb need (length marks / 2))
+rowMisfit need marks row =
+    ltb maxCabinets (length marks) || (not (eqb (length row) (4 * length marks)) || leb need (length marks / 2))
 
 unfoldable pub rowDecision : ℕ → List ℕ → List ℕ → Decision
-rowDecision need marks row = cond (rowMisfit need marks row) knownFaulty (decideRow need (length marks) (copyAt marks row))
+rowDecision need marks row =
+    cond (rowMisfit need marks row) knownFaulty (decideRow need (length marks) (copyAt marks row))
 
 -- ---- the functions below it
 

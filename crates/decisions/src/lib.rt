@@ -60,7 +60,10 @@ fn vote(marks: &[u8], row: &[u8]) -> u32
 // How many present copies hold a value.
 fn count_copies(marks: &[u8], row: &[u8], value: u32) -> u32
     requires { ⌜ (length (now marks) ≤ maxCabinets) × (length (now row) ≡ 4 * length (now marks)) ⌝ }
-    ensures { λ r. ⌜ r ≡ count (holds-bits (markedAt (now (marks .entry))) (copyBits (now (row .entry))) value) (length (now (marks .entry))) ⌝ }
+    ensures { λ r.
+        ⌜ r
+        ≡ count (holds-bits (markedAt (now (marks .entry))) (copyBits (now (row .entry))) value)
+        (length (now (marks .entry))) ⌝ }
 {
     let mut copies: u32 = 0;
     let mut t = 0;

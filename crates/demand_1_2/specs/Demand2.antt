@@ -157,7 +157,8 @@ pub record Shown (s answer : List ℕ) : Type 0 where
   pub estimate : toZ w32 (word answer 2) ≡ roundAt s .estimate
   pub value : toZ w32 (word answer 6) ≡ roundAt s .value
   pub mark : (r : ℕ) → r < settingsAt s .n → byte answer (answerHeaderSize + r) ≡ roundAt s .mark r
-  pub used : (r : ℕ) → r < settingsAt s .n → toZ w32 (word answer (answerHeaderSize + settingsAt s .n + 4 * r)) ≡ roundAt s .used r
+  pub used : (r : ℕ) → r < settingsAt s .n
+      → toZ w32 (word answer (answerHeaderSize + settingsAt s .n + 4 * r)) ≡ roundAt s .used r
 
 -- ---- The planner
 

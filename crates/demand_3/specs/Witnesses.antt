@@ -246,7 +246,8 @@ pub record MixedRefused : Type 0 where
   -- no more than m are faulty
   pub faulty : faultyCount mixedStation ≡ m mixedStation
   -- "too many faults"
-  pub refuses : settled mixedStation (start mixedStation) mixedSends 0 .verdict ≡ refused (refusal tooManyFaultsNumber 0)
+  pub refuses :
+      settled mixedStation (start mixedStation) mixedSends 0 .verdict ≡ refused (refusal tooManyFaultsNumber 0)
 
 -- ---- Two rounds
 

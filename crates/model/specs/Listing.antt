@@ -56,7 +56,8 @@ cabinetLines round (suc r) =
 -- "First line: `round`, N, count, estimate, new value"
 unfoldable pub roundText : ℕ → Round → List ℕ
 roundText n round =
-    line roundWord (decimal n ∷ decimal (round .count) ∷ signedDecimal (round .estimate) ∷ signedDecimal (round .value) ∷ [])
+    line roundWord
+    (decimal n ∷ decimal (round .count) ∷ signedDecimal (round .estimate) ∷ signedDecimal (round .value) ∷ [])
     ++ cabinetLines round n
 
 -- "A refusal is `refused`, number, place"

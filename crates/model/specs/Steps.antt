@@ -96,7 +96,9 @@ midpointOf acc n v = floorDiv (numbered acc n v 1 +ℤ numbered acc n v (count a
 
 -- "Estimate, over accepted readings only"
 unfoldable pub estimate : ℕ → (ℕ → Bool) → ℕ → Readings → ℤ
-estimate kind acc n v = cond (eqb kind average) (averageOf acc n v) (cond (eqb kind median) (medianOf acc n v) (midpointOf acc n v))
+estimate kind acc n v =
+    cond (eqb kind average) (averageOf acc n v)
+    (cond (eqb kind median) (medianOf acc n v) (midpointOf acc n v))
 
 -- "the mean of N used values to the nearest whole number, a half going up": the whole part of (2S + N) / 2N
 unfoldable pub mean : ℕ → ℤ → ℤ

@@ -64,7 +64,8 @@ midpoint-nat k acc n x = (numbered-nat k acc n x 1 + numbered-nat k acc n x (cou
 
 unfoldable pub estimate-nat : ℕ → ℕ → (ℕ → Bool) → ℕ → (ℕ → ℕ) → ℕ
 estimate-nat k kind acc n x =
-    cond (eqb kind average) (average-nat acc n x) (cond (eqb kind median) (median-nat k acc n x) (midpoint-nat k acc n x))
+    cond (eqb kind average) (average-nat acc n x)
+    (cond (eqb kind median) (median-nat k acc n x) (midpoint-nat k acc n x))
 
 -- ---- the new value
 

@@ -34,8 +34,11 @@ cast-copies c = search needs
 
 add-copies : tie.Need-add-copies Inv-copies μ-copies
 add-copies c =
-    let a = c .before .before .before .before .before .before .before .args in
-    omega (arith, count-small (holds-copy (a .marks .now) (a .row .now) (a .value)) (length (a .marks .now)) (c .before .before .before .before .copies .inv), flag-small (c .holds .result))
+    let test = c .before .before .before in
+    let turn = test .before in
+    let a = turn .before .before .before .args in
+    let holds = holds-copy (a .marks .now) (a .row .now) (a .value) in
+    omega (arith, count-small holds (length (a .marks .now)) (turn .copies .inv), flag-small (c .holds .result))
 
 add-t : tie.Need-add-t Inv-copies μ-copies
 add-t c = search needs
@@ -45,15 +48,22 @@ copies-less c = search needs
 
 copies-again : tie.Need-copies-again Inv-copies μ-copies
 copies-again c =
-    let a = c .before .before .before .before .before .before .before .args in
-    let r = c .before .before .before .before .copies in
-    rw (holds-test (a .marks .now) (a .row .now) (a .value) (c .before .copy-bits .result) (r .t) (c .before .copy-bits .ensures) (c .holds .ensures))
-    (count-one (holds-copy (a .marks .now) (a .row .now) (a .value)) (length (a .marks .now)) (r .inv) (c .before .before .before .copies-test .taken))
+    let read = c .before in
+    let test = read .before .before in
+    let turn = test .before in
+    let a = turn .before .before .before .args in
+    let r = turn .copies in
+    let bits = read .copy-bits in
+    rw (holds-test (a .marks .now) (a .row .now) (a .value) (bits .result) (r .t) (bits .ensures) (c .holds .ensures))
+    (count-one (holds-copy (a .marks .now) (a .row .now) (a .value)) (length (a .marks .now)) (r .inv)
+    (test .copies-test .taken))
 
 returns : tie.Need-returns Inv-copies μ-copies
 returns c =
-    let a = c .before .before .before .before .args in
-    count-all (holds-copy (a .marks .now) (a .row .now) (a .value)) (length (a .marks .now)) (c .before .copies .inv) (c .copies-test .left)
+    let turn = c .before in
+    let a = turn .before .before .before .args in
+    count-all (holds-copy (a .marks .now) (a .row .now) (a .value)) (length (a .marks .now)) (turn .copies .inv)
+    (c .copies-test .left)
 
 pub count-copies-spec : {M : Type 1} → statement M
 count-copies-spec =

@@ -28,7 +28,10 @@ holds-requires : tie.Need-holds-requires Inv-copies μ-copies
 holds-requires c κs = search needs
 
 add-lead : tie.Need-add-lead Inv-copies μ-copies
-add-lead c = omega (arith, c .before .before .before .before .before .copies .inv .vote .bounded, c .before .before .before .before .before .copies .inv .upTo)
+add-lead c =
+    let marked = c .before .before in
+    let turn = marked .before .before .before .copies in
+    omega (arith, turn .inv .vote .bounded, turn .inv .upTo)
 
 sub-lead : tie.Need-sub-lead Inv-copies μ-copies
 sub-lead c = search needs
@@ -41,25 +44,40 @@ copies-less c = search needs
 
 copies-again : tie.Need-copies-again Inv-copies μ-copies
 copies-again c =
-    let a = c .before .before .before .before .before .before .before .before .args in
-    let r = c .before .before .before .before .before .copies in
+    let read = c .before .before in
+    let test = read .before .before in
+    let turn = test .before in
+    let a = turn .before .before .before .args in
+    let r = turn .copies in
+    let bits = read .copy-bits in
+    let more = test .copies-test .taken in
+    let same = c .before .holds .ensures in
+    let agree =
+    vote-agree (a .marks .now) (a .row .now) (r .candidate) (r .lead) (r .t) (r .inv) more (bits .result) (bits .ensures) same in
+    let differ =
+    vote-differ (a .marks .now) (a .row .now) (r .candidate) (r .lead) (r .t) (r .inv) more (bits .result) (bits .ensures) same in
+    let replace =
+    vote-replace (a .marks .now) (a .row .now) (r .candidate) (r .lead) (r .t) (r .inv) more (bits .result) (bits .ensures) same in
+    let missing =
+    vote-missing (a .marks .now) (a .row .now) (r .candidate) (r .lead) (r .t) (r .inv) more (bits .result) (bits .ensures) same in
     ⊎-elim
-    (λ w. rw (w .1, w .2) (vote-agree (a .marks .now) (a .row .now) (r .candidate) (r .lead) (r .t) (r .inv) (c .before .before .before .before .copies-test .taken) (c .before .before .copy-bits .result) (c .before .before .copy-bits .ensures) (c .before .holds .ensures) (w .0 .taken)))
+    (λ w. rw (w .1, w .2) (agree (w .0 .taken)))
     (λ u.
     ⊎-elim
-    (λ w. rw (w .2, w .3) (vote-differ (a .marks .now) (a .row .now) (r .candidate) (r .lead) (r .t) (r .inv) (c .before .before .before .before .copies-test .taken) (c .before .before .copy-bits .result) (c .before .before .copy-bits .ensures) (c .before .holds .ensures) (w .0 .left) (w .1 .taken)))
+    (λ w. rw (w .2, w .3) (differ (w .0 .left) (w .1 .taken)))
     (λ v.
     ⊎-elim
-    (λ w. rw (w .3, w .4) (vote-replace (a .marks .now) (a .row .now) (r .candidate) (r .lead) (r .t) (r .inv) (c .before .before .before .before .copies-test .taken) (c .before .before .copy-bits .result) (c .before .before .copy-bits .ensures) (c .before .holds .ensures) (w .1 .left) (w .2 .taken)))
-    (λ w. rw (w .3, w .4) (vote-missing (a .marks .now) (a .row .now) (r .candidate) (r .lead) (r .t) (r .inv) (c .before .before .before .before .copies-test .taken) (c .before .before .copy-bits .result) (c .before .before .copy-bits .ensures) (c .before .holds .ensures) (w .1 .left) (w .2 .left)))
+    (λ w. rw (w .3, w .4) (replace (w .1 .left) (w .2 .taken)))
+    (λ w. rw (w .3, w .4) (missing (w .1 .left) (w .2 .left)))
     v)
     u)
     (c .if1 .came)
 
 returns : tie.Need-returns Inv-copies μ-copies
 returns c =
-    let a = c .before .before .before .before .args in
-    let r = c .before .copies in
+    let turn = c .before in
+    let a = turn .before .before .before .args in
+    let r = turn .copies in
     vote-all (a .marks .now) (a .row .now) (r .candidate) (r .lead) (r .t) (r .inv) (c .copies-test .left)
 
 pub vote-spec : {M : Type 1} → statement M

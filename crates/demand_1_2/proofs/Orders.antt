@@ -21,9 +21,9 @@ use Rattle.model.specs.Refusals.{refusal, Check, refuseIf, atEntry, orNext, fir
 use Rattle.model.specs.Refusals.{badMethod, badWindow, badLength, noRoom, badMark, badMissing, tooManyFaults, badPlan}
 use Rattle.model.specs.Refusals.{targetMissed, settingsChecks, sheetChecks, badMarkNumber, badMissingNumber}
 use Rattle.model.specs.Ensemble.{maxCabinets, maxWindow}
-use Rattle.model.specs.RoundSheet.{cca, midpoint, headerSize, settingsAt, sheetLength}
+use Rattle.model.specs.RoundSheet.{headerSize, settingsAt, sheetLength}
 use Rattle.model.specs.Refusals.{noRoomNumber, tooManyFaultsNumber, badCabinetsNumber, badFaultsNumber, badPlanNumber}
-use Rattle.model.specs.Refusals.{badLengthNumber, badMethodNumber, badWindowNumber, targetMissedNumber}
+use Rattle.model.specs.Refusals.{badLengthNumber, badMethodNumber, badWindowNumber, targetMissedNumber, unknownMethod}
 use Rattle.model.specs.Refusals.{tooShortNumber}
 use Rattle.sheet_laws.proofs.Checks.{marks-passed}
 use Rattle.demand_1_2.specs.Demand1.{FirstThatApplies, InOrder, LowestAtFault, Placed}
@@ -184,7 +184,7 @@ unfolding settingsChecks badCabinets badFaults badMethod badWindow
 plain-settings c =
     check-more (says-if (eqb (c .n) 0 || ltb maxCabinets (c .n)) badCabinetsNumber)
     (check-more (says-if (ltb (c .n) (3 * c .m + 1)) badFaultsNumber)
-    (check-more (says-if (ltb cca (c .rule) || ltb midpoint (c .estimator)) badMethodNumber)
+    (check-more (says-if (unknownMethod (c .rule) (c .estimator)) badMethodNumber)
     (check-more (says-if (ltb maxWindow (c .window)) badWindowNumber) no-checks)))
 
 pub plain-one : {number : ℕ} {x : Check} → Says number x → Plain (number ∷ []) (x ∷ [])

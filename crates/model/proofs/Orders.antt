@@ -37,9 +37,9 @@ fourth window = with 4 1 fca window
 unfoldable pub settleFirsts : List Check
 settleFirsts =
     firstOf (settleChecks [] 0)
-    ∷ firstOf (settleChecks (sheetBytes (with 0 1 2 0) [] []) 0)
-    ∷ firstOf (settleChecks (sheetBytes (with 3 1 2 0) [] []) 0)
-    ∷ firstOf (settleChecks (sheetBytes (with 4 1 2 1_000_001) [] []) 0)
+    ∷ firstOf (settleChecks (sheetBytes (with 0 1 255 0) [] []) 0)
+    ∷ firstOf (settleChecks (sheetBytes (with 3 1 255 0) [] []) 0)
+    ∷ firstOf (settleChecks (sheetBytes (with 4 1 255 1_000_001) [] []) 0)
     ∷ firstOf (settleChecks (sheetBytes (with 4 1 fca 1_000_001) [] []) 0)
     ∷ firstOf (settleChecks (sheetBytes (with 4 1 fca 0) [] []) 0)
     ∷ firstOf (settleChecks (one 2 0) 14)

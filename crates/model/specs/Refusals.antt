@@ -101,8 +101,11 @@ unfoldable pub badFaults : Settings → Check
 badFaults c = refuseIf (ltb (c .n) (3 * c .m + 1)) badFaultsNumber
 
 -- 4 (rule): "unknown rule or estimator"
+abbrev pub unknownMethod : ℕ → ℕ → Bool
+unknownMethod rule estimator = ltb cca rule || ltb midpoint estimator
+
 unfoldable pub badMethod : Settings → Check
-badMethod c = refuseIf (ltb cca (c .rule) || ltb midpoint (c .estimator)) badMethodNumber
+badMethod c = refuseIf (unknownMethod (c .rule) (c .estimator)) badMethodNumber
 
 -- 5 (window): "δ above 1,000,000"
 unfoldable pub badWindow : Settings → Check

@@ -50,8 +50,7 @@ passes-window c w s l =
       someCabinet = s .someCabinet;
       cabinets = s .cabinets;
       faults = s .faults;
-      rule = s .rule;
-      estimator = s .estimator;
+      method = s .method;
       window = l;
     }
 

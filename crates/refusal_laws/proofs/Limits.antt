@@ -8,10 +8,10 @@ use native.Mathlib.Nat.{mul-le-mul}
 use native.Mathlib.Omega.{arith}
 use borrow.Author.Tests.{ltb-false, le-ltb, ne-eqb}
 use lib.Dec.{ltb, eqb}
-use Rattle.arithmetic.proofs.Bools.{or-left, or-right}
+use Rattle.arithmetic.proofs.Bools.{or-right}
 use Rattle.model.specs.declared.Settings.{Settings}
-use Rattle.model.specs.RoundSheet.{entryCount, cca, midpoint}
-use Rattle.model.specs.Refusals.{firstOf, settingsChecks, badCabinets, badFaults, badMethod, badWindow}
+use Rattle.model.specs.RoundSheet.{entryCount, cca}
+use Rattle.model.specs.Refusals.{firstOf, settingsChecks, badCabinets, badFaults, badMethod, badWindow, unknownMethod}
 use Rattle.model.specs.Refusals.{badCabinetsNumber, badFaultsNumber, badMethodNumber, badWindowNumber}
 use Rattle.model.specs.Ensemble.{maxCabinets, maxWindow}
 use Rattle.refusal_laws.proofs.Checks.{none-at, when-none}
@@ -21,8 +21,7 @@ pub record Limits (c : Settings) : Type 0 where
   pub someCabinet : 1 ≤ c .n
   pub cabinets : c .n ≤ maxCabinets
   pub faults : 3 * c .m + 1 ≤ c .n
-  pub rule : c .rule ≤ 1
-  pub estimator : c .estimator ≤ 2
+  pub method : unknownMethod (c .rule) (c .estimator) ≡ false
   pub window : c .window ≤ maxWindow
 
 module _ (c : Settings) where
@@ -31,7 +30,7 @@ module _ (c : Settings) where
   limits h =
       let cabinets = when-none (eqb (c .n) 0 || ltb maxCabinets (c .n)) badCabinetsNumber (none-at (settingsChecks c) h 0) in
       let faults = when-none (ltb (c .n) (3 * c .m + 1)) badFaultsNumber (none-at (settingsChecks c) h 1) in
-      let unknown = ltb cca (c .rule) || ltb midpoint (c .estimator) in
+      let unknown = unknownMethod (c .rule) (c .estimator) in
       let method = when-none unknown badMethodNumber (none-at (settingsChecks c) h 2) in
       let window = when-none (ltb maxWindow (c .window)) badWindowNumber (none-at (settingsChecks c) h 3) in
       let three : 3 * c .m + 1 ≤ c .n = ltb-false (c .n) (3 * c .m + 1) faults in
@@ -39,8 +38,7 @@ module _ (c : Settings) where
         someCabinet = omega arith;
         cabinets = ltb-false maxCabinets (c .n) (or-right (eqb (c .n) 0) (ltb maxCabinets (c .n)) cabinets);
         faults = three;
-        rule = ltb-false cca (c .rule) (or-left (ltb cca (c .rule)) (ltb midpoint (c .estimator)) method);
-        estimator = ltb-false midpoint (c .estimator) (or-right (ltb cca (c .rule)) (ltb midpoint (c .estimator)) method);
+        method = method;
         window = ltb-false maxWindow (c .window) window;
       }
 
@@ -50,10 +48,8 @@ module _ (c : Settings) where
       let some-cabinet : eqb (c .n) 0 ≡ false = ne-eqb (c .n) 0 (λ e. let s = l .someCabinet in omega arith) in
       let cabinets : ltb maxCabinets (c .n) ≡ false = le-ltb maxCabinets (c .n) (l .cabinets) in
       let faults : ltb (c .n) (3 * c .m + 1) ≡ false = le-ltb (c .n) (3 * c .m + 1) (l .faults) in
-      let rule : ltb cca (c .rule) ≡ false = le-ltb cca (c .rule) (l .rule) in
-      let estimator : ltb midpoint (c .estimator) ≡ false = le-ltb midpoint (c .estimator) (l .estimator) in
       let window : ltb maxWindow (c .window) ≡ false = le-ltb maxWindow (c .window) (l .window) in
-      rw (some-cabinet, cabinets, faults, rule, estimator, window)
+      rw (some-cabinet, cabinets, faults, l .method, window)
 
   -- at most 64 × 64 entries
   pub entries-most : c .n ≤ maxCabinets → entryCount c ≤ 4096

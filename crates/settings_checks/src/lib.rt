@@ -3,9 +3,8 @@ ghost use mathlib.Core.Path.{_≡_};
 ghost use mathlib.Core.Bool.{_||_};
 ghost use Prim.Native.Nat.{_+_, _*_};
 ghost use lib.Dec.{eqb, ltb};
-ghost use Rattle.model.specs.Refusals.{firstOf, settingsChecks};
+ghost use Rattle.model.specs.Refusals.{firstOf, settingsChecks, unknownMethod};
 ghost use Rattle.model.specs.Ensemble.{maxCabinets, maxWindow};
-ghost use Rattle.model.specs.RoundSheet.{cca, midpoint};
 ghost use Rattle.refusals.specs.Answers.{checkOf};
 use model::BAD_CABINETS;
 use model::BAD_FAULTS;
@@ -31,7 +30,7 @@ fn bad_faults(n: u8, m: u8) -> bool
 }
 
 fn bad_method(rule: u8, estimator: u8) -> bool
-    ensures { λ r. ⌜ r ≡ (ltb cca rule || ltb midpoint estimator) ⌝ }
+    ensures { λ r. ⌜ r ≡ unknownMethod rule estimator ⌝ }
 {
     (CCA < rule) | (MIDPOINT < estimator)
 }

@@ -34,8 +34,7 @@ seven-covered t δ κ more fewer window inexact accuracy =
                   someCabinet = lit≤ tt;
                   cabinets = lit≤ tt;
                   faults = lit≤ tt;
-                  rule = lit≤ tt;
-                  estimator = lit≤ tt;
+                  method = refl;
                   window = window;
                 };
             accurate = accuracy;

@@ -1,7 +1,7 @@
 -- The regulator's question to the tick: `seven-reached` is the corollary that specs/Sharpness.antt states. Where t of
 -- seven are bad the exact gap is δ and twice the nearest whole number to (2+t)δ/7, at every window.
 -- Assumes nothing.
-use mathlib.Core.Path.{_≡_, sym, ap, _∙_}
+use mathlib.Core.Path.{_≡_, sym, ap, _∙_, refl}
 use Prim.Native.Nat.{ℕ, _+_, _*_, _-_, _≤_, _<_}
 use native.Mathlib.Omega.{arith}
 use lib.Dec.{lit<, lit≤}

@@ -4,13 +4,16 @@
 use mathlib.Core.List.{List, [], _∷_}
 use mathlib.Core.Option.{some}
 use mathlib.Core.Path.{_≡_, refl}
-use Prim.Native.Nat.{ℕ}
+use Prim.Native.Nat.{ℕ, _+_, _-_}
 use lib.IntN.{ℤ, pos}
 use Rattle.arithmetic.specs.Counting.{count, anyBelow, lowest}
 use Rattle.model.specs.declared.Settings.{Settings}
-use Rattle.model.specs.RoundSheet.{fca, median, word, entryCount, entryAt, bytes4, readingBytes, sizeBytes, sheetBytes}
+use Rattle.model.specs.Ensemble.{maxWindow}
+use Rattle.model.specs.RoundSheet.{fca, median, word, entryCount, sheetLength, entryAt, bytes4, readingBytes}
+use Rattle.model.specs.RoundSheet.{sizeBytes, sheetBytes}
+use Rattle.model.specs.AnswerSheet.{answerLength}
 use Rattle.model.specs.Steps.{readingsOf, accepted, acceptedAt, roundOf, roundAt}
-use Rattle.model.specs.Planner.{ceilDiv, windowFactor, nextWindow, growth, advance, after}
+use Rattle.model.specs.Planner.{maxAccuracy, maxRounds, ceilDiv, windowFactor, nextWindow, growth, advance, after}
 use Rattle.model.specs.Refusals.{Check, refusal, firstOf, tooShort, badCabinets, badFaults, badMethod, badWindow, badLength, noRoom, badMark}
 use Rattle.model.specs.Refusals.{badMissing, tooManyFaults, badPlan, targetMissed, settingsChecks, sheetChecks, entryChecks}
 use Rattle.model.specs.Refusals.{readChecks, writeChecks, rowChecks, settleChecks, planChecks, stepChecks, targetChecks}
@@ -39,13 +42,13 @@ settleFirsts =
     firstOf (settleChecks [] 0)
     ∷ firstOf (settleChecks (sheetBytes (with 0 1 255 0) [] []) 0)
     ∷ firstOf (settleChecks (sheetBytes (with 3 1 255 0) [] []) 0)
-    ∷ firstOf (settleChecks (sheetBytes (with 4 1 255 1_000_001) [] []) 0)
-    ∷ firstOf (settleChecks (sheetBytes (with 4 1 fca 1_000_001) [] []) 0)
+    ∷ firstOf (settleChecks (sheetBytes (with 4 1 255 (maxWindow + 1)) [] []) 0)
+    ∷ firstOf (settleChecks (sheetBytes (with 4 1 fca (maxWindow + 1)) [] []) 0)
     ∷ firstOf (settleChecks (sheetBytes (with 4 1 fca 0) [] []) 0)
-    ∷ firstOf (settleChecks (one 2 0) 14)
-    ∷ firstOf (settleChecks (two 0 2 5 0) 20)
-    ∷ firstOf (settleChecks (two 0 0 0 5) 20)
-    ∷ firstOf (settleChecks (one 0 0) 15)
+    ∷ firstOf (settleChecks (one 2 0) (answerLength 1 - 1))
+    ∷ firstOf (settleChecks (two 0 2 5 0) (answerLength 2))
+    ∷ firstOf (settleChecks (two 0 0 0 5) (answerLength 2))
+    ∷ firstOf (settleChecks (one 0 0) (answerLength 1))
     ∷ []
 
 unfoldable pub settleWanted : List Check
@@ -73,10 +76,10 @@ carryFirsts =
     ∷ firstOf (readChecks (one 2 0) 1 0)
     ∷ firstOf (readChecks (two 0 2 5 0) 2 2)
     ∷ firstOf (rowChecks (two 0 2 5 0))
-    ∷ firstOf (writeChecks (with 1 0 fca 1_000_001) [] [] 0)
+    ∷ firstOf (writeChecks (with 1 0 fca (maxWindow + 1)) [] [] 0)
     ∷ firstOf (writeChecks (with 1 0 fca 0) (1 ∷ []) [] 0)
-    ∷ firstOf (writeChecks (with 1 0 fca 0) (2 ∷ []) (pos 0 ∷ []) 12)
-    ∷ firstOf (writeChecks (with 2 0 fca 0) (0 ∷ 2 ∷ []) (pos 5 ∷ pos 0 ∷ []) 18)
+    ∷ firstOf (writeChecks (with 1 0 fca 0) (2 ∷ []) (pos 0 ∷ []) (sheetLength (with 1 0 fca 0) - 1))
+    ∷ firstOf (writeChecks (with 2 0 fca 0) (0 ∷ 2 ∷ []) (pos 5 ∷ pos 0 ∷ []) (sheetLength (with 2 0 fca 0)))
     ∷ []
 
 unfoldable pub carryWanted : List Check
@@ -98,9 +101,9 @@ carry-order = refl
 -- the planner and a step: 5 before 11; the count for a target: 11 before 12
 unfoldable pub planFirsts : List Check
 planFirsts =
-    firstOf (planChecks (fourth 1_000_001) 1_000_000_001 0)
-    ∷ firstOf (stepChecks (record { settings = fourth 1_000_001; accuracy = 0; rounds = 32 }))
-    ∷ firstOf (targetChecks (fourth 100) 1_000_000_001 0)
+    firstOf (planChecks (fourth (maxWindow + 1)) (maxAccuracy + 1) 0)
+    ∷ firstOf (stepChecks (record { settings = fourth (maxWindow + 1); accuracy = 0; rounds = maxRounds }))
+    ∷ firstOf (targetChecks (fourth 100) (maxAccuracy + 1) 0)
     ∷ []
 
 unfoldable pub planWanted : List Check

@@ -1,5 +1,5 @@
--- Spans on lists of marks and values: the tests that the code makes are those of document 01's acceptance, and a count
--- that has reached what is needed stays there.
+-- Spans on lists of marks and values: the tests that the code makes are those of document 01's acceptance, and a
+-- count that has reached what is needed stays there.
 -- Assumes nothing.
 use mathlib.Core.Bool.{Bool, true, false, not, _&&_}
 use mathlib.Core.List.{List}
@@ -111,7 +111,10 @@ module _ (w : ℕ) (marks values : List ℕ) where
       → spansAt w marks values s r ≡ true
       → valueAt values t < twoTo32
       → far ≡ min w (twoTo32 - 1 - valueAt values s)
-      → h ≡ bit (presentIn marks t && (leb (valueAt values s) (valueAt values t) && leb (valueAt values t) (valueAt values s + far)))
+      → h
+      ≡ bit
+      (presentIn marks t
+      && (leb (valueAt values s) (valueAt values t) && leb (valueAt values t) (valueAt values s + far)))
       → h ≡ bit (spansAt w marks values s t)
   unfolding spansAt
   held-spans s t r far h opened small e q =
@@ -119,7 +122,8 @@ module _ (w : ℕ) (marks values : List ℕ) where
       let b = valueAt values t in
       q
       ∙ ap (λ (c : Bool). bit (presentIn marks t && c)) (cut-within w a b far small e)
-      ∙ ap (λ (p : Bool). bit (p && (presentIn marks t && (leb a b && leb b (a + w))))) (sym (start-present s r opened))
+      ∙ ap (λ (p : Bool). bit (p && (presentIn marks t && (leb a b && leb b (a + w)))))
+      (sym (start-present s r opened))
 
 module _ (w need : ℕ) (marks values : List ℕ) where
   -- the start a accepts r
@@ -195,7 +199,8 @@ module _ (w need : ℕ) (marks values : List ℕ) where
   untried r known f l m =
       record { upTo = zero-le; few = f; long = l; yet = refl; none = λ a h. absurd (not-suc-le-zero h); memory = m }
 
-  module _ (r : ℕ) (known : List ℕ) (found : Bool) (s : ℕ) (below : s < length marks) (tried : Tried r known found s) where
+  module _ (r : ℕ) (known : List ℕ) (found : Bool) (s : ℕ) (below : s < length marks)
+      (tried : Tried r known found s) where
     -- a start that does not accept r is passed
     pass :
         (known′ : List ℕ)

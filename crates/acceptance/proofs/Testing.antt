@@ -16,7 +16,8 @@ use Rattle.arithmetic.proofs.Bools.{or-left, or-right}
 use Rattle.arithmetic.proofs.Counting.{count-le}
 use Rattle.arithmetic.proofs.Writing.{length-table, length-overwrite}
 use Rattle.model.specs.Ensemble.{maxCabinets}
-use Rattle.acceptance.specs.Values.{acceptedIn, acceptedCount, listsMisfit, countGiven, flagsOf, Alike, Remembered}
+use Rattle.acceptance.specs.Values.{acceptedIn, acceptedCount, listsMisfit, countGiven, flagsOf}
+use Rattle.acceptance.specs.Values.{Alike, Remembered}
 use Rattle.loop_laws.proofs.Loops.{flag, count-next, store-none, store-next, store-ended}
 
 module _ (w need : ℕ) (marks values : List ℕ) (flags₀ : List Bool) where
@@ -98,7 +99,8 @@ remember-none w need marks values few a l = inl (getD-replicate 64 a 0 0 (omega 
 
 -- ---- the answers
 
-module _ (w need : ℕ) (marks values : List ℕ) (old : List Bool) {b : Bool} (test : b ≡ listsMisfit marks values old) where
+module _ (w need : ℕ) (marks values : List ℕ) (old : List Bool) {b : Bool}
+    (test : b ≡ listsMisfit marks values old) where
   pub count-unfit : b ≡ true → 0 ≡ countGiven w need marks values old
   unfolding countGiven
   count-unfit t = rw (sym test ∙ t)

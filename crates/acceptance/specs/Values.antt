@@ -1,5 +1,5 @@
--- INNER: no reader needs this page to believe a public promise. Document 01's acceptance of the readings that a list of
--- marks and a list of values hold (Rattle.held.specs.Held).
+-- INNER: no reader needs this page to believe a public promise. Document 01's acceptance of the readings that a list
+-- of marks and a list of values hold (Rattle.held.specs.Held).
 --   acceptedIn             document 01's test of a reading
 --   acceptedCount          how many readings are accepted
 --   countGiven, flagsOf    what `accept` counts, and what it leaves in the lent list: at most 64 marks, as many values

@@ -23,8 +23,8 @@ const ENOUGH: u8 = 2;
 // The highest value.
 const LAST: u32 = 4_294_967_295;
 
-// Whether a span is to be tried for a reading: it starts at a present reading, holds this one, which is present too, and
-// was not found short.
+// Whether a span is to be tried for a reading: it starts at a present reading, holds this one, which is present
+// too, and was not found short.
 fn tries(known: u8, from: u8, start: u32, mark: u8, value: u32, span: u32) -> bool
     ensures { λ r. ⌜ r ≡ (not (eqb known 1) && within-nat span (eqb from 1) start (eqb mark 1) value) ⌝ }
 {

@@ -1,3 +1,4 @@
 pub mod Squares
+pub mod Storing
 pub mod Sheets
 pub mod Holding

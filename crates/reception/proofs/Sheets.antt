@@ -1,6 +1,7 @@
--- The entries of a sheet in the parts that the code reads: the marks and the readings as sent, and each cabinet's row of copies.
+-- The entries of a sheet in the parts that the code reads: the marks and the readings as sent, and each cabinet's
+-- row of copies.
 -- Assumes nothing.
-use mathlib.Core.Bool.{true, false, cond, _&&_}
+use mathlib.Core.Bool.{Bool, true, false, cond, _&&_}
 use mathlib.Core.List.{List}
 use mathlib.Core.Path.{_≡_, refl, sym, ap, ap₂, _∙_}
 use Prim.Native.Nat.{ℕ, _+_, _*_, _-_, _/_, _≤_, _<_}
@@ -18,14 +19,14 @@ use Rattle.arithmetic.proofs.Writing.{length-table, overwrite-whole, table-ext}
 use Rattle.decision_laws.proofs.Decision.{decide-ext}
 use Rattle.decision_laws.proofs.Rows.{read-direct, read-decided}
 use Rattle.model.specs.declared.Settings.{Settings}
-use Rattle.model.specs.Ensemble.{missing, present, maxCabinets}
-use Rattle.model.specs.RoundSheet.{cca, byte, word, entryCount, entryAt, rowEntries, rowPart, headerSize}
-use Rattle.model.specs.Steps.{decidedReading, decideRow, readingsOf}
+use Rattle.model.specs.Ensemble.{Reading, Readings, missing, present, maxCabinets}
+use Rattle.model.specs.RoundSheet.{cca, byte, word, entryCount, entryAt, rowEntries, rowPart, sheetLength, headerSize}
+use Rattle.model.specs.Steps.{decidedReading, decideRow}
 use Rattle.sheet_laws.proofs.Words.{word-ext}
-use Rattle.round_laws.specs.Held.{heldOf}
+use Rattle.held.specs.Held.{heldMark, heldValue}
 use Rattle.decisions.specs.Rows.{copyAt, rowDecision}
 use Rattle.rows.specs.Parts.{partAt}
-use Rattle.reception.specs.Receiving.{rowReading, heldAt, fitting, receivedOf}
+use Rattle.reception.specs.Receiving.{readingAt, rowReading, fitting, marksReceived, valuesReceived, Stored}
 use Rattle.reception.proofs.Squares.{row-room}
 
 -- ---- bytes and words of a part
@@ -48,15 +49,30 @@ length-part s j k h = length-take-le k (drop j s) (rw (length-drop j s) (omega a
 cut : (a k : ℕ) → a + k - a ≡ k
 cut a k = omega arith
 
-pub marks-long : (s : List ℕ) (n : ℕ) → headerSize + n ≤ length s → length (take (headerSize + n - 8) (drop 8 s)) ≡ n
-marks-long s n h = rw (cut 8 n) (length-part s 8 n h)
+-- the marks and the readings of n entries, as the code cuts them
+abbrev pub sentMarks : List ℕ → ℕ → List ℕ
+sentMarks s n = take (headerSize + n - headerSize) (drop headerSize s)
+
+abbrev pub sentBytes : List ℕ → ℕ → List ℕ
+sentBytes s n = take (headerSize + n + 4 * n - (headerSize + n)) (drop (headerSize + n) s)
+
+pub marks-long : (s : List ℕ) (n : ℕ) → headerSize + n ≤ length s → length (sentMarks s n) ≡ n
+marks-long s n h = rw (cut headerSize n) (length-part s headerSize n h)
 
 -- four bytes for each mark
-pub row-long : (s : List ℕ) (n : ℕ) → headerSize + n + 4 * n ≤ length s → length (take (headerSize + n + 4 * n - (headerSize + n)) (drop (headerSize + n) s)) ≡ 4 * length (take (headerSize + n - 8) (drop 8 s))
-row-long s n h = rw (cut (headerSize + n) (4 * n), marks-long s n (omega arith)) (length-part s (headerSize + n) (4 * n) h)
+pub row-long :
+    (s : List ℕ) (n : ℕ) → headerSize + n + 4 * n ≤ length s → length (sentBytes s n) ≡ 4 * length (sentMarks s n)
+row-long s n h =
+    rw (cut (headerSize + n) (4 * n), marks-long s n (omega arith)) (length-part s (headerSize + n) (4 * n) h)
 
 -- entry e of a sheet, from a part of the marks and a part of the readings
-entry-part : (s : List ℕ) (E j k i l e t : ℕ) → t < k → 4 * t + 4 ≤ l → headerSize + e ≡ j + t → headerSize + E + 4 * e ≡ i + 4 * t → entryAt s E e ≡ copyAt (take k (drop j s)) (take l (drop i s)) t
+entry-part :
+    (s : List ℕ) (E j k i l e t : ℕ)
+    → t < k
+    → 4 * t + 4 ≤ l
+    → headerSize + e ≡ j + t
+    → headerSize + E + 4 * e ≡ i + 4 * t
+    → entryAt s E e ≡ copyAt (take k (drop j s)) (take l (drop i s)) t
 unfolding entryAt
 entry-part s E j k i l e t ht hl a b =
     ap₂ (λ (mark bits : ℕ). cond (eqb mark 1) (present (toZ w32 bits)) missing)
@@ -64,110 +80,183 @@ entry-part s E j k i l e t ht hl a b =
     (ap (word s) b ∙ sym (word-part s i l (4 * t) hl))
 
 -- a row that fits is decided
-row-fit : (need n : ℕ) (marks row : List ℕ) → length marks ≡ n → length row ≡ 4 * n → n ≤ maxCabinets → n / 2 < need → rowDecision need marks row ≡ decideRow need n (copyAt marks row)
+row-fit :
+    (need n : ℕ) (marks row : List ℕ)
+    → length marks ≡ n
+    → length row ≡ 4 * n
+    → n ≤ maxCabinets
+    → n / 2 < need
+    → rowDecision need marks row ≡ decideRow need n (copyAt marks row)
 unfolding rowDecision
 row-fit need n marks row a b h most =
     rw (a, b, le-ltb maxCabinets n h, eq-eqb (4 * n) (4 * n) refl, lt-leb need (n / 2) most)
 
+-- ---- the lists that hold readings which are the sheet's
+
 -- a list as long as the table that is stored in it
-stored-whole : (f g : ℕ → ℕ) (n : ℕ) (old : List ℕ) → length old ≡ n → ((r : ℕ) → r < n → f r ≡ g r) → overwrite (table f n) old ≡ table g n
-stored-whole f g n old long e = overwrite-whole (table f n) old (le-of-eq (long ∙ sym (length-table f n))) ∙ table-ext f g n e
+stored-whole :
+    (f g : ℕ → ℕ) (n : ℕ) (old : List ℕ)
+    → length old ≡ n
+    → ((r : ℕ) → r < n → f r ≡ g r)
+    → overwrite (table f n) old ≡ table g n
+stored-whole f g n old long e =
+    overwrite-whole (table f n) old (le-of-eq (long ∙ sym (length-table f n))) ∙ table-ext f g n e
 
-module _ (s : List ℕ) (c : Settings) (values old : List ℕ) (room : length old ≡ c .n) where
-  -- FCA: the marks and the readings as they stand
-  direct-received : eqb (c .rule) cca ≡ false → values ≡ overwrite (table (λ t. heldOf (copyAt (take (c .n) (drop 8 s)) (take (4 * c .n) (drop (headerSize + c .n) s)) t)) (c .n)) old → values ≡ table (heldAt s c) (c .n)
-  unfolding entryCount
-  direct-received b st =
-      st
-      ∙ stored-whole (λ t. heldOf (copyAt (take (c .n) (drop 8 s)) (take (4 * c .n) (drop (headerSize + c .n) s)) t)) (heldAt s c) (c .n) old room
-      (λ r l. ap heldOf (sym (copied r l)))
+-- lists that are filled with the sheet's readings
+pub record Filled (s : List ℕ) (c : Settings) (marks values : List ℕ) : Type 0 where
+  pub marked : marks ≡ table (λ r. heldMark (readingAt s c r)) (c .n)
+  pub valued : values ≡ table (λ r. heldValue (readingAt s c r)) (c .n)
+
+module _ (s : List ℕ) (c : Settings) (marks₀ values₀ marks values : List ℕ)
+    (markRoom : length marks₀ ≡ c .n) (valueRoom : length values₀ ≡ c .n) where
+  filled :
+      (v : Readings)
+      → ((r : ℕ) → r < c .n → readingAt s c r ≡ v r)
+      → Stored v (c .n) marks₀ values₀ marks values
+      → Filled s c marks values
+  filled v same st =
+      record {
+        marked = st .marked ∙ here heldMark marks₀ markRoom;
+        valued = st .valued ∙ here heldValue values₀ valueRoom;
+      }
     where
-      copied : (r : ℕ) → r < c .n → readingsOf c (entryAt s (entryCount c)) r ≡ copyAt (take (c .n) (drop 8 s)) (take (4 * c .n) (drop (headerSize + c .n) s)) r
-      copied r l =
-          read-direct c (entryAt s (entryCount c)) r b
-          ∙ rw b (entry-part s (c .n) 8 (c .n) (headerSize + c .n) (4 * c .n) r r l (omega arith) refl refl)
+      here :
+          (hold : Reading → ℕ) (old : List ℕ)
+          → length old ≡ c .n
+          → overwrite (table (λ r. hold (v r)) (c .n)) old ≡ table (λ r. hold (readingAt s c r)) (c .n)
+      here hold old room =
+          stored-whole (λ r. hold (v r)) (λ r. hold (readingAt s c r)) (c .n) old room
+          (λ r l. ap hold (sym (same r l)))
 
-  -- the same, of the parts as the code cuts them
-  pub direct-cut : eqb (c .rule) cca ≡ false → headerSize + c .n ≤ length s → values ≡ overwrite (table (λ t. heldOf (copyAt (take (headerSize + c .n - 8) (drop 8 s)) (take (headerSize + c .n + 4 * c .n - (headerSize + c .n)) (drop (headerSize + c .n) s)) t)) (length (take (headerSize + c .n - 8) (drop 8 s)))) old → values ≡ table (heldAt s c) (c .n)
-  direct-cut b h st =
-      direct-received b (rw (cut 8 (c .n), cut (headerSize + c .n) (4 * c .n), length-part s 8 (c .n) h) at st)
+  -- FCA: the marks and the readings as they stand
+  module _ (b : eqb (c .rule) cca ≡ false) (long : headerSize + c .n ≤ length s) where
+    direct-copies :
+        (r : ℕ)
+        → r < c .n
+        → readingAt s c r
+        ≡ copyAt (take (c .n) (drop headerSize s)) (take (4 * c .n) (drop (headerSize + c .n) s)) r
+    unfolding entryCount
+    direct-copies r l =
+        read-direct c (entryAt s (entryCount c)) r b
+        ∙ rw b
+        (entry-part s (c .n) headerSize (c .n) (headerSize + c .n) (4 * c .n) r r l (omega arith) refl refl)
+
+    pub direct-filled :
+        Stored (copyAt (sentMarks s (c .n)) (sentBytes s (c .n)))
+        (length (sentMarks s (c .n))) marks₀ values₀ marks values
+        → Filled s c marks values
+    direct-filled st =
+        filled (copyAt (take (c .n) (drop headerSize s)) (take (4 * c .n) (drop (headerSize + c .n) s))) direct-copies
+        (rw (cut headerSize (c .n), cut (headerSize + c .n) (4 * c .n), length-part s headerSize (c .n) long) at st)
 
   -- CCA: the row of each cabinet
-  module _ (b : eqb (c .rule) cca ≡ true) (few : 2 * c .m < c .n) (small : c .n ≤ maxCabinets) (long : length s ≡ headerSize + 5 * (c .n * c .n)) where
-    row-of : (r : ℕ) → r < c .n → partAt s c r ≡ take (4 * c .n) (drop (headerSize + c .n * c .n + 4 * (r * c .n)) s)
-    unfolding partAt rowPart rowEntries entryCount
+  module _ (b : eqb (c .rule) cca ≡ true) (few : 2 * c .m < c .n) (small : c .n ≤ maxCabinets)
+      (long : length s ≡ headerSize + 5 * (c .n * c .n)) where
+    rowMarks : ℕ → List ℕ
+    rowMarks r = take (c .n) (drop (headerSize + r * c .n) s)
+
+    rowBytes : ℕ → List ℕ
+    rowBytes r = take (4 * c .n) (drop (headerSize + c .n * c .n + 4 * (r * c .n)) s)
+
+    row-of : (r : ℕ) → r < c .n → partAt s c r ≡ rowBytes r
+    unfolding partAt rowPart rowEntries entryCount rowBytes
     row-of r l =
         let room = row-room r (c .n) l in
-        rw (lt-ltb r (c .n) l, b, le-leb (headerSize + c .n * c .n + 4 * (r * c .n) + 4 * c .n) (length s) (omega arith))
+        let end : headerSize + c .n * c .n + 4 * (r * c .n) + 4 * c .n ≤ length s = omega arith in
+        rw (lt-ltb r (c .n) l, b, le-leb (headerSize + c .n * c .n + 4 * (r * c .n) + 4 * c .n) (length s) end)
 
-    row-decided : (r : ℕ) → r < c .n → readingsOf c (entryAt s (entryCount c)) r ≡ rowReading s c (c .n - c .m) r
-    unfolding entryCount
-    row-decided r l =
-        let room = row-room r (c .n) l in
-        read-decided c (entryAt s (entryCount c)) r b
-        ∙ ap decidedReading
-        (ap (λ (E : ℕ). decideRow (c .n - c .m) (c .n) (λ t. entryAt s E (r * c .n + t))) square
-        ∙ decide-ext (c .n - c .m) (c .n) (λ t. entryAt s (c .n * c .n) (r * c .n + t)) (copyAt (marks r) (readings r)) (λ t h. copy r t l h)
-        ∙ sym (row-fit (c .n - c .m) (c .n) (marks r) (readings r) (length-part s (headerSize + r * c .n) (c .n) (omega arith)) (length-part s (headerSize + c .n * c .n + 4 * (r * c .n)) (4 * c .n) (omega arith)) small (half (c .n) (c .m) few))
-        ∙ ap (rowDecision (c .n - c .m) (marks r)) (sym (row-of r l)))
+    copies :
+        (r t : ℕ)
+        → r < c .n
+        → t < c .n
+        → entryAt s (c .n * c .n) (r * c .n + t) ≡ copyAt (rowMarks r) (rowBytes r) t
+    unfolding rowMarks rowBytes
+    copies r t l h =
+        entry-part s (c .n * c .n) (headerSize + r * c .n) (c .n) (headerSize + c .n * c .n + 4 * (r * c .n))
+        (4 * c .n)
+        (r * c .n + t)
+        t
+        h
+        (omega arith)
+        (there (r * c .n) t)
+        (behind (r * c .n) (c .n * c .n) t)
       where
-        square : entryCount c ≡ c .n * c .n
-        square = rw b
-
-        marks : ℕ → List ℕ
-        marks r = take (c .n) (drop (headerSize + r * c .n) s)
-
-        readings : ℕ → List ℕ
-        readings r = take (4 * c .n) (drop (headerSize + c .n * c .n + 4 * (r * c .n)) s)
-
-        half : (n m : ℕ) → 2 * m < n → n / 2 < n - m
-        half n m h = omega arith
-
-        there : (a b t : ℕ) → headerSize + (a + t) ≡ headerSize + a + t
-        there a b t = omega arith
+        there : (a t : ℕ) → headerSize + (a + t) ≡ headerSize + a + t
+        there a t = omega arith
 
         behind : (a b t : ℕ) → headerSize + b + 4 * (a + t) ≡ headerSize + b + 4 * a + 4 * t
         behind a b t = omega arith
 
-        copy : (r t : ℕ) → r < c .n → t < c .n → entryAt s (c .n * c .n) (r * c .n + t) ≡ copyAt (marks r) (readings r) t
-        copy r t l h =
-            entry-part s (c .n * c .n) (headerSize + r * c .n) (c .n) (headerSize + c .n * c .n + 4 * (r * c .n)) (4 * c .n) (r * c .n + t) t h (omega arith)
-            (there (r * c .n) (c .n * c .n) t)
-            (behind (r * c .n) (c .n * c .n) t)
+    row-decided : (r : ℕ) → r < c .n → readingAt s c r ≡ rowReading s c (c .n - c .m) r
+    unfolding entryCount rowMarks rowBytes
+    row-decided r l =
+        let room = row-room r (c .n) l in
+        let long-marks = length-part s (headerSize + r * c .n) (c .n) (omega arith) in
+        let long-bytes = length-part s (headerSize + c .n * c .n + 4 * (r * c .n)) (4 * c .n) (omega arith) in
+        read-decided c (entryAt s (entryCount c)) r b
+        ∙ ap decidedReading
+        (ap (λ (E : ℕ). decideRow need (c .n) (λ t. entryAt s E (r * c .n + t))) square
+        ∙ decide-ext need (c .n) (λ t. entryAt s (c .n * c .n) (r * c .n + t)) (copyAt (rowMarks r) (rowBytes r))
+        (λ t h. copies r t l h)
+        ∙ sym (row-fit need (c .n) (rowMarks r) (rowBytes r) long-marks long-bytes small (half (c .n) (c .m) few))
+        ∙ ap (rowDecision need (rowMarks r)) (sym (row-of r l)))
+      where
+        need : ℕ
+        need = c .n - c .m
 
-    pub relayed-received : values ≡ overwrite (table (λ r. heldOf (rowReading s c (c .n - c .m) r)) (c .n)) old → values ≡ table (heldAt s c) (c .n)
-    relayed-received st =
-        st
-        ∙ stored-whole (λ r. heldOf (rowReading s c (c .n - c .m) r)) (heldAt s c) (c .n) old room (λ r l. ap heldOf (sym (row-decided r l)))
+        square : entryCount c ≡ c .n * c .n
+        square = rw b
+
+        half : (n m : ℕ) → 2 * m < n → n / 2 < n - m
+        half n m h = omega arith
+
+    pub relayed-filled :
+        Stored (rowReading s c (c .n - c .m)) (c .n) marks₀ values₀ marks values → Filled s c marks values
+    relayed-filled = filled (rowReading s c (c .n - c .m)) row-decided
 
 -- ---- sizes that fit
 
-pub record Fit (c : Settings) (sheet values : ℕ) : Type 0 where
+pub record Fit (c : Settings) (sheet marks values : ℕ) : Type 0 where
   pub small : c .n ≤ maxCabinets
   pub few : 2 * c .m < c .n
-  pub long : sheet ≡ headerSize + 5 * entryCount c
-  pub room : values ≡ c .n
+  pub long : sheet ≡ sheetLength c
+  pub markRoom : marks ≡ c .n
+  pub valueRoom : values ≡ c .n
 
-pub fit : (c : Settings) (sheet values : ℕ) → fitting c sheet values ≡ true → Fit c sheet values
+pub fit : (c : Settings) (sheet marks values : ℕ) → fitting c sheet marks values ≡ true → Fit c sheet marks values
 unfolding fitting
-fit c sheet values e =
-    let a = and-left (leb (c .n) 64 && ltb (2 * c .m) (c .n)) _ e in
-    let b = and-right (leb (c .n) 64 && ltb (2 * c .m) (c .n)) (eqb sheet (headerSize + 5 * entryCount c) && eqb values (c .n)) e in
+fit c sheet marks values e =
+    let a = and-left (leb (c .n) maxCabinets && ltb (2 * c .m) (c .n)) _ e in
+    let b = and-right (leb (c .n) maxCabinets && ltb (2 * c .m) (c .n)) _ e in
+    let lists = and-right (eqb sheet (sheetLength c)) (eqb marks (c .n) && eqb values (c .n)) b in
     record {
-      small = leb-true (c .n) 64 (and-left (leb (c .n) 64) _ a);
-      few = ltb-true (2 * c .m) (c .n) (and-right (leb (c .n) 64) (ltb (2 * c .m) (c .n)) a);
-      long = eqb-true sheet (headerSize + 5 * entryCount c) (and-left (eqb sheet (headerSize + 5 * entryCount c)) _ b);
-      room = eqb-true values (c .n) (and-right (eqb sheet (headerSize + 5 * entryCount c)) (eqb values (c .n)) b);
+      small = leb-true (c .n) maxCabinets (and-left (leb (c .n) maxCabinets) _ a);
+      few = ltb-true (2 * c .m) (c .n) (and-right (leb (c .n) maxCabinets) (ltb (2 * c .m) (c .n)) a);
+      long = eqb-true sheet (sheetLength c) (and-left (eqb sheet (sheetLength c)) _ b);
+      markRoom = eqb-true marks (c .n) (and-left (eqb marks (c .n)) _ lists);
+      valueRoom = eqb-true values (c .n) (and-right (eqb marks (c .n)) (eqb values (c .n)) lists);
     }
 
--- what is left in the list, by what the sizes are
-pub received-fit : (s : List ℕ) (c : Settings) (old values : List ℕ) → fitting c (length s) (length old) ≡ true → values ≡ table (heldAt s c) (c .n) → values ≡ receivedOf s c old
-unfolding receivedOf
-received-fit s c old values e filled = filled ∙ rw e
+-- what is left in the lists, by what the sizes are
+module _ (s : List ℕ) (c : Settings) (marks₀ values₀ : List ℕ) where
+  module _ (e : fitting c (length s) (length marks₀) (length values₀) ≡ true) (marks values : List ℕ)
+      (f : Filled s c marks values) where
+    pub marks-fit : marks ≡ marksReceived s c marks₀ values₀
+    unfolding marksReceived
+    marks-fit = f .marked ∙ rw e
 
-pub received-not : (s : List ℕ) (c : Settings) (old : List ℕ) → fitting c (length s) (length old) ≡ false → old ≡ receivedOf s c old
-unfolding receivedOf
-received-not s c old e = rw e
+    pub values-fit : values ≡ valuesReceived s c marks₀ values₀
+    unfolding valuesReceived
+    values-fit = f .valued ∙ rw e
+
+  module _ (e : fitting c (length s) (length marks₀) (length values₀) ≡ false) where
+    pub marks-not : marks₀ ≡ marksReceived s c marks₀ values₀
+    unfolding marksReceived
+    marks-not = rw e
+
+    pub values-not : values₀ ≡ valuesReceived s c marks₀ values₀
+    unfolding valuesReceived
+    values-not = rw e
 
 pub entries-relayed : (c : Settings) → eqb (c .rule) cca ≡ true → entryCount c ≡ c .n * c .n
 unfolding entryCount

@@ -1,34 +1,50 @@
--- INNER: no reader needs this page to believe a public promise. What a cabinet reads of the others, held as naturals:
--- a present reading moved up by 2^31, a missing one as 2^32.
---   heldAt        what is held of a cabinet: document 01's reading of it, as sent for FCA, as decided for CCA
---   fitting       sizes that fit
---   receivedOf    the list that `receive` leaves
---   rowReading    what is decided of one cabinet, from the bytes of its copies
+-- INNER: no reader needs this page to believe a public promise. What a cabinet reads of the others, held as marks and
+-- values (Rattle.held.specs.Held).
+--   readingAt         document 01's reading of a cabinet: as sent for FCA, as decided for CCA
+--   fitting           sizes that fit
+--   marksReceived, valuesReceived    the lists that `receive` leaves
+-- What the functions below it give:
+--   rowReading        what is decided of one cabinet, from the bytes of its copies
+--   Stored            lent lists whose first entries hold the first readings; the others are as they were
 use mathlib.Core.Bool.{Bool, cond, _&&_}
 use mathlib.Core.List.{List}
+use mathlib.Core.Path.{_≡_}
 use Prim.Native.Nat.{ℕ, _+_, _*_}
 use lib.Dec.{leb, ltb, eqb}
 use lib.ListN.{length, take, drop}
-use Rattle.arithmetic.specs.Writing.{table}
+use Rattle.arithmetic.specs.Writing.{table, overwrite}
 use Rattle.model.specs.declared.Settings.{Settings}
-use Rattle.model.specs.Ensemble.{Reading}
+use Rattle.model.specs.Ensemble.{Reading, Readings, maxCabinets}
 use Rattle.model.specs.RoundSheet.{entryCount, entryAt, sheetLength, headerSize}
 use Rattle.model.specs.Steps.{decidedReading, readingsOf}
-use Rattle.round_laws.specs.Held.{heldOf}
+use Rattle.held.specs.Held.{heldMark, heldValue}
 use Rattle.decisions.specs.Rows.{rowDecision}
 use Rattle.rows.specs.Parts.{partAt}
 
-abbrev pub heldAt : List ℕ → Settings → ℕ → ℕ
-heldAt s c r = heldOf (readingsOf c (entryAt s (entryCount c)) r)
+abbrev pub readingAt : List ℕ → Settings → ℕ → Reading
+readingAt s c r = readingsOf c (entryAt s (entryCount c)) r
 
--- at most 64 cabinets, of which more than half are planned to be sound, a sheet of their length and a list as long as
+-- at most 64 cabinets, of which more than half are planned to be sound, a sheet of their length and lists as long as
 -- they are many
-unfoldable pub fitting : Settings → ℕ → ℕ → Bool
-fitting c sheet values = (leb (c .n) 64 && ltb (2 * c .m) (c .n)) && (eqb sheet (sheetLength c) && eqb values (c .n))
+unfoldable pub fitting : Settings → ℕ → ℕ → ℕ → Bool
+fitting c sheet marks values =
+    (leb (c .n) maxCabinets && ltb (2 * c .m) (c .n))
+    && (eqb sheet (sheetLength c) && (eqb marks (c .n) && eqb values (c .n)))
 
--- the list is filled where the sizes fit, and else is as it was
-unfoldable pub receivedOf : List ℕ → Settings → List ℕ → List ℕ
-receivedOf s c old = cond (fitting c (length s) (length old)) (table (heldAt s c) (c .n)) old
+-- the lists are filled where the sizes fit, and else are as they were
+unfoldable pub marksReceived : List ℕ → Settings → List ℕ → List ℕ → List ℕ
+marksReceived s c marks values =
+    cond (fitting c (length s) (length marks) (length values)) (table (λ r. heldMark (readingAt s c r)) (c .n)) marks
+
+unfoldable pub valuesReceived : List ℕ → Settings → List ℕ → List ℕ → List ℕ
+valuesReceived s c marks values =
+    cond (fitting c (length s) (length marks) (length values)) (table (λ r. heldValue (readingAt s c r)) (c .n)) values
+
+-- ---- the functions below it
 
 abbrev pub rowReading : List ℕ → Settings → ℕ → ℕ → Reading
 rowReading s c need r = decidedReading (rowDecision need (take (c .n) (drop (headerSize + r * c .n) s)) (partAt s c r))
+
+pub record Stored (v : Readings) (n : ℕ) (marks₀ values₀ marks values : List ℕ) : Type 0 where
+  pub marked : marks ≡ overwrite (table (λ r. heldMark (v r)) n) marks₀
+  pub valued : values ≡ overwrite (table (λ r. heldValue (v r)) n) values₀

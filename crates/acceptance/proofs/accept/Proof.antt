@@ -2,8 +2,8 @@
 -- Assumes nothing.
 use borrow.Author.Needs.{needs}
 use mathlib.Core.Path.{refl}
-use Rattle.acceptance.proofs.Testing.{count-unfit, flags-unfit, fit-few, fit-alike, fit-room, count-fit, flags-fit}
-use Rattle.acceptance.proofs.Testing.{remember-none}
+use Rattle.acceptance.proofs.Testing.{remember-none, fit-few, fit-alike, fit-room}
+use Rattle.acceptance.proofs.Testing.{count-unfit, flags-unfit, count-fit, flags-fit}
 use Rattle.acceptance.proofs.accept.Statement.{statement}
 use Rattle.acceptance.proofs.accept.Tie as tie
 
@@ -46,7 +46,8 @@ returns-2 c =
     let m = fits .before .misfit .ensures in
     let f = fits .if1 .left in
     let n = each .accept-each in (
-      count-fit (a .span) (a .need) (a .marks .now) (a .values .now) (a .accepted .now) m f (n .result) (n .ensures .0),
+      count-fit (a .span) (a .need) (a .marks .now) (a .values .now) (a .accepted .now) m f (n .result)
+          (n .ensures .0),
       flags-fit (a .span) (a .need) (a .marks .now) (a .values .now) (a .accepted .now) m f (n .last .1 .1 .1 .1 .1 .0)
           (n .ensures .1),
     )

@@ -1,12 +1,13 @@
--- `acceptance::accept_each` meets its contract: the readings passed are tested and counted, and the memory is sound; the
--- measure is the readings left.
+-- `acceptance::accept_each` meets its contract: the readings passed are tested and counted, and the memory is sound;
+-- the measure is the readings left.
 -- Assumes nothing.
 use borrow.Author.Needs.{needs}
 use native.Mathlib.Omega.{arith}
 use Prim.Native.Nat.{_-_}
 use lib.ListN.{length}
 use Rattle.loop_laws.proofs.Loops.{flag-small}
-use Rattle.acceptance.proofs.Testing.{Testing, test-none, test-one, test-small, all-counted, all-tested, flags-long}
+use Rattle.acceptance.proofs.Testing.{Testing, test-none, test-one, test-small, flags-long}
+use Rattle.acceptance.proofs.Testing.{all-counted, all-tested}
 use Rattle.acceptance.proofs.accept_each.Statement.{statement}
 use Rattle.acceptance.proofs.accept_each.Tie as tie
 
@@ -43,7 +44,8 @@ slice-write-accepted c =
     omega (
       arith,
       l .inv .room,
-      flags-long (a .span) (a .need) (a .marks .now) (a .values .now) (a .accepted .now) (l .known) (l .accepted) (l .count)
+      flags-long (a .span) (a .need) (a .marks .now) (a .values .now) (a .accepted .now) (l .known) (l .accepted)
+          (l .count)
           (l .r)
           (l .inv),
     )
@@ -59,7 +61,8 @@ add-count c =
     omega (
       arith,
       flag-small (c .before .before .accepts .result),
-      test-small (a .span) (a .need) (a .marks .now) (a .values .now) (a .accepted .now) (l .known) (l .accepted) (l .count)
+      test-small (a .span) (a .need) (a .marks .now) (a .values .now) (a .accepted .now) (l .known) (l .accepted)
+          (l .count)
           (l .r)
           (l .inv),
     )
@@ -76,7 +79,8 @@ readings-again c =
     let a = call (m .before) .args in
     let l = m .before .readings in
     let b = c .before .before .accepts in
-    test-one (a .span) (a .need) (a .marks .now) (a .values .now) (a .accepted .now) (l .known) (l .accepted) (l .count)
+    test-one (a .span) (a .need) (a .marks .now) (a .values .now) (a .accepted .now) (l .known) (l .accepted)
+    (l .count)
     (l .r)
     (l .inv)
     (m .readings-test .taken)
@@ -93,7 +97,8 @@ same-length-2 : tie.Need-same-length-2 Inv-readings μ-readings
 same-length-2 c =
     let a = call (c .before) .args in
     let l = c .before .readings in
-    flags-long (a .span) (a .need) (a .marks .now) (a .values .now) (a .accepted .now) (l .known) (l .accepted) (l .count)
+    flags-long (a .span) (a .need) (a .marks .now) (a .values .now) (a .accepted .now) (l .known) (l .accepted)
+    (l .count)
     (l .r)
     (l .inv)
 
@@ -107,7 +112,8 @@ returns c =
           (l .r)
           (l .inv)
           ended,
-      all-tested (a .span) (a .need) (a .marks .now) (a .values .now) (a .accepted .now) (l .known) (l .accepted) (l .count)
+      all-tested (a .span) (a .need) (a .marks .now) (a .values .now) (a .accepted .now) (l .known) (l .accepted)
+          (l .count)
           (l .r)
           (l .inv)
           ended,

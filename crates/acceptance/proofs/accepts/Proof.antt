@@ -1,6 +1,6 @@
--- `acceptance::accepts` meets its contract. Over starts: those tried do not accept the reading, and the memory is sound.
--- Over readings: the count is that of the readings passed, and is short so far. The measures are the starts and the
--- readings left.
+-- `acceptance::accepts` meets its contract. Over starts: those tried do not accept the reading, and the memory is
+-- sound. Over readings: the count is that of the readings passed, and is short so far. The measures are the starts
+-- and the readings left.
 -- Assumes nothing.
 use borrow.Author.Needs.{needs}
 use mathlib.Core.Bool.{Bool, true}
@@ -29,27 +29,38 @@ abbrev μ-readings : tie.MeasureT-readings
     length marks - t
 
 abbrev Inv-starts : tie.InvT-starts
-Inv-starts marks values span need known₀ r mark value found₀ s₀ known found s = Tried span need marks values r known found s
+Inv-starts marks values span need known₀ r mark value found₀ s₀ known found s =
+    Tried span need marks values r known found s
 
 abbrev μ-starts : tie.MeasureT-starts
 μ-starts marks values span need known₀ r mark value found₀ s₀ known found s = length marks - s
 
 -- ---- places: the call, a turn over starts, one over readings
 
-abbrev call : tie.At-starts Inv-readings μ-readings Inv-starts μ-starts → tie.Start Inv-readings μ-readings Inv-starts μ-starts
+abbrev call :
+    tie.At-starts Inv-readings μ-readings Inv-starts μ-starts
+    → tie.Start Inv-readings μ-readings Inv-starts μ-starts
 call c = c .before .before .before .before .before .before
 
-abbrev turn : tie.After-tries Inv-readings μ-readings Inv-starts μ-starts → tie.In-starts Inv-readings μ-readings Inv-starts μ-starts
+abbrev turn :
+    tie.After-tries Inv-readings μ-readings Inv-starts μ-starts
+    → tie.In-starts Inv-readings μ-readings Inv-starts μ-starts
 turn c = c .before .before .before .before
 
-abbrev inner : tie.After-held Inv-readings μ-readings Inv-starts μ-starts → tie.In-readings Inv-readings μ-readings Inv-starts μ-starts
+abbrev inner :
+    tie.After-held Inv-readings μ-readings Inv-starts μ-starts
+    → tie.In-readings Inv-readings μ-readings Inv-starts μ-starts
 inner c = c .before .before .before
 
-abbrev outer : tie.In-readings Inv-readings μ-readings Inv-starts μ-starts → tie.After-tries Inv-readings μ-readings Inv-starts μ-starts
+abbrev outer :
+    tie.In-readings Inv-readings μ-readings Inv-starts μ-starts
+    → tie.After-tries Inv-readings μ-readings Inv-starts μ-starts
 outer c = c .before .before .before .before .before
 
 -- a value has 32 bits
-small : (c : tie.At-starts Inv-readings μ-readings Inv-starts μ-starts) (j : ℕ) → getD (call c .args .values .now) j 0 < twoTo32
+small :
+    (c : tie.At-starts Inv-readings μ-readings Inv-starts μ-starts) (j : ℕ)
+    → getD (call c .args .values .now) j 0 < twoTo32
 small c j = c .before .before .before .before .shared-slice-known2 .given j .fits
 
 -- a start that is tried holds r's reading
@@ -80,7 +91,8 @@ starts-holds : tie.Need-starts-holds Inv-readings μ-readings Inv-starts μ-star
 starts-holds c =
     let s = c .before .before .before .before .before in
     let a = s .args in
-    untried (a .span) (a .need) (a .marks .now) (a .values .now) (a .r) (a .known .now) (s .pre .0 .0 .1) (s .pre .0 .0 .2)
+    untried (a .span) (a .need) (a .marks .now) (a .values .now) (a .r) (a .known .now) (s .pre .0 .0 .1)
+    (s .pre .0 .0 .2)
     (s .pre .1)
 
 mul-start : tie.Need-mul-start Inv-readings μ-readings Inv-starts μ-starts
@@ -133,7 +145,8 @@ one :
     (c : tie.After-held Inv-readings μ-readings Inv-starts μ-starts)
     → let o = turn (outer (inner c)) .before in
     let a = call o .args in
-    c .held .result ≡ bit (spansAt (a .span) (a .marks .now) (a .values .now) (o .starts .s) (inner c .before .readings .t))
+    c .held .result ≡ bit
+    (spansAt (a .span) (a .marks .now) (a .values .now) (o .starts .s) (inner c .before .readings .t))
 one c =
     let reached = inner c .before .before in
     let tried = reached .before .before in
@@ -154,7 +167,8 @@ add-count c =
     let i = inner c .before .readings in
     omega (
       arith,
-      count-small (a .span) (a .need) (a .marks .now) (a .values .now) (a .r) (i .known) (i .found) (o .before .starts .s)
+      count-small (a .span) (a .need) (a .marks .now) (a .values .now) (a .r) (i .known) (i .found)
+          (o .before .starts .s)
           (o .starts-test .taken)
           (i .inv .tried)
           (i .count)
@@ -218,7 +232,8 @@ starts-again c =
     (u .4 .left)))
     (λ u.
     rw (u .1, u .2)
-    (pass-untried (a .span) (a .need) (a .marks .now) (a .values .now) (a .r) (s .known) (s .found) (s .s) below (s .inv)
+    (pass-untried (a .span) (a .need) (a .marks .now) (a .values .now) (a .r) (s .known) (s .found) (s .s) below
+    (s .inv)
     (c .before .tries .ensures)
     (u .0 .left)))
     (c .if1 .came)
@@ -248,7 +263,8 @@ returns-2 c =
     let s = o .before .starts in
     let below = o .starts-test .taken in
     let enough =
-    known-enough (a .span) (a .need) (a .marks .now) (a .values .now) (a .r) (s .known) (s .found) (s .s) below (s .inv)
+    known-enough (a .span) (a .need) (a .marks .now) (a .values .now) (a .r) (s .known) (s .found) (s .s) below
+    (s .inv)
     (c .if2 .taken) in (
       sym
           (admitted (a .span) (a .need) (a .marks .now) (a .values .now) (a .r) (s .s) below
@@ -269,7 +285,8 @@ returns-3 c =
     let below = o .starts-test .taken in
     let i = now .before .readings in
     let enough =
-    count-enough (a .span) (a .need) (a .marks .now) (a .values .now) (a .r) (i .known) (i .found) s below (i .inv .tried)
+    count-enough (a .span) (a .need) (a .marks .now) (a .values .now) (a .r) (i .known) (i .found) s below
+    (i .inv .tried)
     (i .count)
     (i .t)
     (i .inv)

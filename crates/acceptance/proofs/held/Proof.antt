@@ -1,4 +1,5 @@
--- `acceptance::held` meets its contract: a difference that wraps is within reach just where the reading lies in the span.
+-- `acceptance::held` meets its contract: a difference that wraps is within reach just where the reading lies in the
+-- span.
 -- Assumes nothing.
 use borrow.Author.Needs.{needs}
 use mathlib.Core.Bool.{Bool, _&&_}

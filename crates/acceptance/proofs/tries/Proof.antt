@@ -1,5 +1,5 @@
--- `acceptance::tries` meets its contract: a difference that wraps is within the span's width just where the reading lies
--- in the span.
+-- `acceptance::tries` meets its contract: a difference that wraps is within the span's width just where the reading
+-- lies in the span.
 -- Assumes nothing.
 use borrow.Author.Needs.{needs}
 use mathlib.Core.Bool.{Bool, not, _&&_}

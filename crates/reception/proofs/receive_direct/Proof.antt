@@ -1,37 +1,42 @@
--- `reception::receive_direct` meets its contract. The loop's invariant: the first t copies are held, and the other values are as they were. The
--- measure is what is left of the copies.
+-- `reception::receive_direct` meets its contract. The loop's invariant: the first t copies are held, and the others
+-- are as they were. The measure is what is left of the copies.
 -- Assumes nothing.
 use borrow.Author.Needs.{needs}
-use mathlib.Core.Path.{_≡_, refl, ap, _∙_}
-use native.Mathlib.Omega.{arith}
-use Prim.Native.Nat.{_*_, _-_, _≤_}
-use lib.ListN.{length, getD, length-set}
-use Rattle.arithmetic.specs.Writing.{table, overwrite}
+use mathlib.Core.Path.{_≡_, ap, _∙_}
+use Prim.Native.Nat.{ℕ, _*_, _-_}
+use lib.ListN.{length, getD}
 use Rattle.model.specs.RoundSheet.{word}
+use Rattle.held.specs.Held.{entryReading, heldMark, heldValue}
 use Rattle.decisions.specs.Rows.{copyAt}
-use Rattle.round_laws.specs.Held.{heldOf}
-use Rattle.agreement.specs.Values.{entryHeld}
-use Rattle.loop_laws.proofs.Loops.{store-none, store-next, store-ended}
+use Rattle.reception.proofs.Storing.{Storing, begin, store, ended}
 use Rattle.reception.proofs.receive_direct.Statement.{statement}
 use Rattle.reception.proofs.receive_direct.Tie as tie
 
 abbrev Inv-readings : tie.InvT-readings
-Inv-readings marks row values₀ t₀ values t = (t ≤ length marks) × (values ≡ overwrite (table (λ i. heldOf (copyAt marks row i)) t) values₀) × (length values ≡ length values₀)
+Inv-readings sent row marks₀ values₀ t₀ marks values t =
+    Storing (copyAt sent row) (length sent) marks₀ values₀ marks values t
 
 abbrev μ-readings : tie.MeasureT-readings
-μ-readings marks row values₀ t₀ values t = length marks - t
+μ-readings sent row marks₀ values₀ t₀ marks values t = length sent - t
+
+abbrev call : tie.At-readings Inv-readings μ-readings → tie.Start Inv-readings μ-readings
+call c = c .before .before .before .before .before
+
+-- the turn that a reading is read in
+abbrev turn : tie.After-join Inv-readings μ-readings → tie.In-readings Inv-readings μ-readings
+turn c = c .before .before .before .before .before
 
 -- the four bytes read are the copy's number
 read :
     (c : tie.After-join Inv-readings μ-readings)
-    → c .join .result ≡ word (c .before .before .before .before .before .before .before .before .before .before .args .row .now) (4 * c .before .before .before .before .before .before .readings .t)
+    → c .join .result ≡ word (call (turn c .before) .args .row .now) (4 * turn c .before .readings .t)
 unfolding word
 read c = c .join .ensures
 
 readings-holds : tie.Need-readings-holds Inv-readings μ-readings
 readings-holds c =
-    let a = c .before .before .before .args in
-    (search needs, store-none (λ i. heldOf (copyAt (a .marks .now) (a .row .now) i)) (a .values .now), refl)
+    let a = c .before .before .before .before .args in
+    begin (copyAt (a .sent .now) (a .row .now)) (length (a .sent .now)) (a .marks .now) (a .values .now)
 
 mul-at : tie.Need-mul-at Inv-readings μ-readings
 mul-at c = search needs
@@ -60,8 +65,14 @@ shared-slice-read-join-4 c = search needs
 join-requires : tie.Need-join-requires Inv-readings μ-readings
 join-requires c κs = search needs
 
-shared-slice-read-entry-value : tie.Need-shared-slice-read-entry-value Inv-readings μ-readings
-shared-slice-read-entry-value c = search needs
+shared-slice-read-mark : tie.Need-shared-slice-read-mark Inv-readings μ-readings
+shared-slice-read-mark c = search needs
+
+entry-mark-requires : tie.Need-entry-mark-requires Inv-readings μ-readings
+entry-mark-requires c κs = search needs
+
+slice-write-marks : tie.Need-slice-write-marks Inv-readings μ-readings
+slice-write-marks c = search needs
 
 entry-value-requires : tie.Need-entry-value-requires Inv-readings μ-readings
 entry-value-requires c κs = search needs
@@ -80,24 +91,41 @@ readings-less c = search needs
 
 readings-again : tie.Need-readings-again Inv-readings μ-readings
 readings-again c =
-    let a = c .before .before .before .before .before .before .before .before .before .before .before .before .args in
-    let readings = c .before .before .before .before .before .before .before .before .readings in (
-      search needs,
-      store-next (λ i. heldOf (copyAt (a .marks .now) (a .row .now) i)) (readings .t) (a .values .now) (readings .values) (c .entry-value .result)
-          (readings .inv .1)
-          (c .entry-value .ensures ∙ ap (entryHeld (getD (a .marks .now) (readings .t) 0)) (read (c .before .before)))
-          (omega (arith, c .before .before .before .before .before .before .before .readings-test .taken, c .before .before .before .before .before .before .before .before .before .before .before .before .pre .0)),
-      length-set (readings .values) (readings .t) (c .entry-value .result) ∙ readings .inv .2,
-    )
+    let joined = c .before .before .before in
+    let m = turn joined in
+    let s = call (m .before) in
+    let a = s .args in
+    let readings = m .before .readings in
+    let mark = getD (a .sent .now) (readings .t) 0 in
+    store (copyAt (a .sent .now) (a .row .now)) (length (a .sent .now)) (a .marks .now) (a .values .now)
+    (readings .marks)
+    (readings .values)
+    (readings .t)
+    (readings .inv)
+    (m .readings-test .taken)
+    (s .pre .1 .0)
+    (s .pre .1 .1)
+    (c .before .entry-mark .result)
+    (c .entry-value .result)
+    (c .before .entry-mark .ensures ∙ ap (λ (bits : ℕ). heldMark (entryReading mark bits)) (read joined))
+    (c .entry-value .ensures ∙ ap (λ (bits : ℕ). heldValue (entryReading mark bits)) (read joined))
 
 same-length : tie.Need-same-length Inv-readings μ-readings
 same-length c = search needs
 
+same-length-2 : tie.Need-same-length-2 Inv-readings μ-readings
+same-length-2 c = search needs
+
 returns : tie.Need-returns Inv-readings μ-readings
 returns c =
-    let a = c .before .before .before .before .before .args in
+    let a = call (c .before) .args in
     let readings = c .before .readings in
-    store-ended (λ i. heldOf (copyAt (a .marks .now) (a .row .now) i)) (length (a .marks .now)) (readings .t) (a .values .now) (readings .values) (readings .inv .0) (c .readings-test .left) (readings .inv .1)
+    ended (copyAt (a .sent .now) (a .row .now)) (length (a .sent .now)) (a .marks .now) (a .values .now)
+    (readings .marks)
+    (readings .values)
+    (readings .t)
+    (readings .inv)
+    (c .readings-test .left)
 
 pub receive-direct-spec : {M : Type 1} → statement M
 receive-direct-spec =
@@ -115,7 +143,9 @@ receive-direct-spec =
     add-join-3
     shared-slice-read-join-4
     join-requires
-    shared-slice-read-entry-value
+    shared-slice-read-mark
+    entry-mark-requires
+    slice-write-marks
     entry-value-requires
     mul-values
     slice-write-values
@@ -123,4 +153,5 @@ receive-direct-spec =
     readings-less
     readings-again
     same-length
+    same-length-2
     returns)

@@ -1,43 +1,76 @@
--- `reception::receive_relayed` meets its contract. The loop's invariant: the first r decisions are held, and the other values are as they were. The
--- measure is what is left of the rows.
+-- `reception::receive_relayed` meets its contract. The loop's invariant: the first r decisions are held, and the
+-- others are as they were. The measure is what is left of the rows.
 -- Assumes nothing.
 use borrow.Author.Needs.{needs}
 use mathlib.Core.List.{List}
-use mathlib.Core.Path.{_≡_, refl, ap₂, _∙_}
+use mathlib.Core.Path.{_≡_, refl, ap, ap₂, _∙_}
 use native.Mathlib.Omega.{arith}
 use Prim.Native.Nat.{ℕ, _+_, _*_, _-_, _≤_}
-use lib.ListN.{length, take, drop, length-set}
-use Rattle.arithmetic.specs.Writing.{table, overwrite}
+use lib.ListN.{length, take, drop}
 use Rattle.model.specs.Steps.{decidedReading}
 use Rattle.model.specs.RoundSheet.{headerSize}
-use Rattle.round_laws.specs.Held.{heldOf}
+use Rattle.held.specs.Held.{heldMark, heldValue}
 use Rattle.decisions.specs.Rows.{rowDecision}
-use Rattle.loop_laws.proofs.Loops.{store-none, store-next, store-ended}
+use Rattle.rows.specs.Parts.{partAt}
 use Rattle.reception.specs.Receiving.{rowReading}
 use Rattle.reception.proofs.Squares.{row-room, square-most}
+use Rattle.reception.proofs.Storing.{Storing, begin, store, ended}
 use Rattle.reception.proofs.receive_relayed.Statement.{statement}
 use Rattle.reception.proofs.receive_relayed.Tie as tie
 
 abbrev Inv-rows : tie.InvT-rows
-Inv-rows sheet settings need values₀ n r₀ values r = (n ≡ settings .n) × (r ≤ n) × (values ≡ overwrite (table (λ i. heldOf (rowReading sheet settings need i)) r) values₀) × (length values ≡ length values₀)
+Inv-rows sheet settings need marks₀ values₀ n r₀ marks values r =
+    (n ≡ settings .n) × Storing (rowReading sheet settings need) (settings .n) marks₀ values₀ marks values r
 
 abbrev μ-rows : tie.MeasureT-rows
-μ-rows sheet settings need values₀ n r₀ values r = n - r
+μ-rows sheet settings need marks₀ values₀ n r₀ marks values r = n - r
+
+abbrev call : tie.At-rows Inv-rows μ-rows → tie.Start Inv-rows μ-rows
+call c = c .before .before .before .before .before
+
+-- the row lies within the marks
+within :
+    (c : tie.In-rows Inv-rows μ-rows)
+    → let s = call (c .before) in
+    let n = s .args .settings .n in
+    let end = c .before .rows .r * n + n in
+    (end ≤ 4096) × (headerSize + end ≤ length (s .args .sheet .now))
+within c =
+    let s = call (c .before) in
+    let n = s .args .settings .n in
+    let room = row-room (c .before .rows .r) n (c .rows-test .taken) in
+    let most = square-most n (s .pre .0 .0) in
+    (omega arith, omega (arith, s .pre .0 .1))
+
+-- the row's part of the marks and of the bytes make its decision
+read :
+    (c : tie.After-receive-row Inv-rows μ-rows)
+    → let o = c .before .before .before .before in
+    let a = call o .args in
+    let start = headerSize + o .rows .r * a .settings .n in
+    let cut = take (start + a .settings .n - start) (drop start (a .sheet .now)) in
+    let marks = take (a .settings .n) (drop start (a .sheet .now)) in
+    rowDecision (a .need) cut (c .before .row-part .result .now)
+    ≡ rowDecision (a .need) marks (partAt (a .sheet .now) (a .settings) (o .rows .r))
+read c =
+    let o = c .before .before .before .before in
+    let a = call o .args in
+    let start = headerSize + o .rows .r * a .settings .n in
+    ap₂ (λ (k : ℕ) (part : List ℕ). rowDecision (a .need) (take k (drop start (a .sheet .now))) part)
+    (width-back start (a .settings .n))
+    (c .before .row-part .ensures)
+  where
+    width-back : (a w : ℕ) → a + w - a ≡ w
+    width-back a w = omega arith
 
 cast-n : tie.Need-cast-n Inv-rows μ-rows
 cast-n c = search needs
 
 rows-holds : tie.Need-rows-holds Inv-rows μ-rows
 rows-holds c =
-    let a = c .before .before .before .args in
-    (refl, search needs, store-none (λ i. heldOf (rowReading (a .sheet .now) (a .settings) (a .need) i)) (a .values .now), refl)
-
--- the row lies within the marks
-within : (c : tie.In-rows Inv-rows μ-rows) → (c .before .rows .r * c .before .before .before .before .before .args .settings .n + c .before .before .before .before .before .args .settings .n ≤ 4096) × (headerSize + (c .before .rows .r * c .before .before .before .before .before .args .settings .n + c .before .before .before .before .before .args .settings .n) ≤ length (c .before .before .before .before .before .args .sheet .now))
-within c =
-    let room = row-room (c .before .rows .r) (c .before .before .before .before .before .args .settings .n) (c .rows-test .taken) in
-    let most = square-most (c .before .before .before .before .before .args .settings .n) (c .before .before .before .before .before .pre .0) in
-    (omega arith, omega (arith, c .before .before .before .before .before .pre .1))
+    let a = c .before .before .before .before .args in
+    let v = rowReading (a .sheet .now) (a .settings) (a .need) in
+    (refl, begin v (a .settings .n) (a .marks .now) (a .values .now))
 
 mul-start : tie.Need-mul-start Inv-rows μ-rows
 mul-start c = let w = within c in omega arith
@@ -63,6 +96,9 @@ row-part-requires c κs = search needs
 receive-row-requires : tie.Need-receive-row-requires Inv-rows μ-rows
 receive-row-requires c κs = search needs
 
+slice-write-marks : tie.Need-slice-write-marks Inv-rows μ-rows
+slice-write-marks c = search needs
+
 mul-values : tie.Need-mul-values Inv-rows μ-rows
 mul-values c = search needs
 
@@ -77,32 +113,43 @@ rows-less c = search needs
 
 rows-again : tie.Need-rows-again Inv-rows μ-rows
 rows-again c =
-    let start = c .before .before .before .before .before .before .before .before in
-    let a = start .args in
-    let rows = c .before .before .before .before .rows in (
+    let row = c .before .before .before in
+    let s = call (row .before) in
+    let a = s .args in
+    let rows = row .before .rows in
+    let r = c .receive-row in
+    let decided = read c in (
       refl,
-      search needs,
-      store-next (λ i. heldOf (rowReading (a .sheet .now) (a .settings) (a .need) i)) (rows .r) (a .values .now) (rows .values) (c .receive-row .result)
-          (rows .inv .2)
-          (c .receive-row .ensures
-          ∙ ap₂ (λ (k : ℕ) (part : List ℕ). heldOf (decidedReading (rowDecision (a .need) (take k (drop (headerSize + rows .r * a .settings .n) (a .sheet .now))) part)))
-          (width-back (headerSize + rows .r * a .settings .n) (a .settings .n))
-          (c .before .row-part .ensures))
-          (omega (arith, c .before .before .before .rows-test .taken, start .pre .2)),
-      length-set (rows .values) (rows .r) (c .receive-row .result) ∙ rows .inv .3,
+      store (rowReading (a .sheet .now) (a .settings) (a .need)) (a .settings .n) (a .marks .now) (a .values .now)
+          (rows .marks)
+          (rows .values)
+          (rows .r)
+          (rows .inv .1)
+          (row .rows-test .taken)
+          (s .pre .1 .0)
+          (s .pre .1 .1)
+          (r .result .mark)
+          (r .result .value)
+          (r .ensures .0 ∙ ap (λ d. heldMark (decidedReading d)) decided)
+          (r .ensures .1 ∙ ap (λ d. heldValue (decidedReading d)) decided),
     )
-  where
-    width-back : (a w : ℕ) → a + w - a ≡ w
-    width-back a w = omega arith
 
 same-length : tie.Need-same-length Inv-rows μ-rows
 same-length c = search needs
 
+same-length-2 : tie.Need-same-length-2 Inv-rows μ-rows
+same-length-2 c = search needs
+
 returns : tie.Need-returns Inv-rows μ-rows
 returns c =
-    let a = c .before .before .before .before .before .args in
+    let a = call (c .before) .args in
     let rows = c .before .rows in
-    store-ended (λ i. heldOf (rowReading (a .sheet .now) (a .settings) (a .need) i)) (a .settings .n) (rows .r) (a .values .now) (rows .values) (rows .inv .1) (c .rows-test .left) (rows .inv .2)
+    ended (rowReading (a .sheet .now) (a .settings) (a .need)) (a .settings .n) (a .marks .now) (a .values .now)
+    (rows .marks)
+    (rows .values)
+    (rows .r)
+    (rows .inv .1)
+    (c .rows-test .left)
 
 pub receive-relayed-spec : {M : Type 1} → statement M
 receive-relayed-spec =
@@ -120,10 +167,12 @@ receive-relayed-spec =
     part-receive-row-end
     row-part-requires
     receive-row-requires
+    slice-write-marks
     mul-values
     slice-write-values
     add-r
     rows-less
     rows-again
     same-length
+    same-length-2
     returns)

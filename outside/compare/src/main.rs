@@ -12,12 +12,13 @@ use random::Random;
 use std::process::ExitCode;
 use std::time::Instant;
 
-const USAGE: &str = "compare [--engines A,B] [--sheets COUNT] [--seed SEED] [--sabotage NAME]
+const USAGE: &str = "compare [--engines A,B] [--sheets COUNT] [--seed SEED] [--sabotage NAME] [--digest COUNT]
 compare --program PATH [--sheets COUNT] [--seed SEED]
 compare --sabotages
-  --engines    reference, plain, tuned, linked (when built in)
+  --engines    reference, plain, tuned; when built in linked, and recorded, which is linked with a digest
   --sabotage   makes the first engine wrong in a named way
   --sabotages  lists the ways
+  --digest     prints the digest of the first engine, recorded, after every so many sheets
   --program    compares the text of a program `settle` with the reference's";
 
 /// The numbers under which each call can refuse. Rows refuse nothing.
@@ -37,6 +38,7 @@ struct Options {
     seed: u64,
     sabotage: Option<String>,
     program: Option<String>,
+    digest: u64,
 }
 
 fn options() -> Option<Options> {
@@ -46,6 +48,7 @@ fn options() -> Option<Options> {
         seed: 1,
         sabotage: None,
         program: None,
+        digest: u64::MAX,
     };
     let mut words = std::env::args().skip(1);
     while let Some(word) = words.next() {
@@ -56,6 +59,7 @@ fn options() -> Option<Options> {
             "--seed" => options.seed = value?.parse().ok()?,
             "--sabotage" => options.sabotage = Some(value?),
             "--program" => options.program = Some(value?),
+            "--digest" => options.digest = value?.parse().ok().filter(|&count| count > 0)?,
             _ => return None,
         }
     }
@@ -102,6 +106,9 @@ fn main() -> ExitCode {
         if comparison.differences >= 10 {
             println!("FAILED: {} differences in {} sheets", comparison.differences, now + 1);
             return ExitCode::FAILURE;
+        }
+        if let Some(digest) = a.digest().filter(|_| (now + 1) % options.digest == 0) {
+            println!("{} sheets: digest {digest:016x}", now + 1);
         }
     }
     let unmet = report(&comparison, sheets);

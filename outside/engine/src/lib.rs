@@ -1,10 +1,15 @@
 //! The calls of an agreement engine, in the manner of the C interface: an answer below 2^32 is
 //! a grant, any other is number × 2^32 + place of a refusal.
-#![forbid(unsafe_code)]
+#![deny(unsafe_code)]
 
 #[cfg(feature = "linked")]
-pub mod linked;
+mod linked;
+#[cfg(feature = "linked")]
+mod recorded;
 pub mod sabotage;
+#[cfg(feature = "linked")]
+#[allow(unsafe_code)]
+mod whole;
 
 use plain::{Plain, Steps, Tuned};
 pub use reference::{Plan, Refusal, Settings};
@@ -38,6 +43,11 @@ pub trait Engine {
 
     /// A count of rounds that fits.
     fn target(&self, settings: &Settings, accuracy: u32, target: u32) -> u64;
+
+    /// A digest of all answers so far, where the engine keeps one.
+    fn digest(&self) -> Option<u64> {
+        None
+    }
 }
 
 pub fn packed(refusal: Refusal) -> u64 {
@@ -170,7 +180,7 @@ impl<S: Steps> Engine for Own<S> {
     }
 }
 
-/// The engine of that name. `linked` is known when it was built in.
+/// The engine of that name. `linked` and `recorded` are known when the library was built in.
 pub fn named(name: &str) -> Option<Box<dyn Engine>> {
     match name {
         "reference" => Some(Box::new(Reference)),
@@ -178,6 +188,8 @@ pub fn named(name: &str) -> Option<Box<dyn Engine>> {
         "tuned" => Some(Box::new(Own(Tuned))),
         #[cfg(feature = "linked")]
         "linked" => Some(Box::new(linked::Linked)),
+        #[cfg(feature = "linked")]
+        "recorded" => Some(Box::new(recorded::Recorded::new())),
         _ => None,
     }
 }

@@ -7,23 +7,29 @@ fn packed<A>(given: Result<A, tohiranga::Refusal>, granted: impl FnOnce(A) -> u6
     given.map_or_else(|refusal| ((refusal.number as u64) << 32) + refusal.place as u64, granted)
 }
 
-fn settings_to(settings: &Settings) -> tohiranga::Settings {
+pub fn settings_to(settings: &Settings) -> tohiranga::Settings {
     let Settings { n, m, rule, estimator, window } = *settings;
     tohiranga::Settings { n, m, rule, estimator, window }
 }
 
-fn settings_from(settings: tohiranga::Settings) -> Settings {
+pub fn settings_from(settings: tohiranga::Settings) -> Settings {
     let tohiranga::Settings { n, m, rule, estimator, window } = settings;
     Settings { n, m, rule, estimator, window }
 }
 
+pub fn plan_to(plan: &Plan) -> tohiranga::Plan {
+    let Plan { settings, accuracy, rounds } = plan;
+    tohiranga::Plan { settings: settings_to(settings), accuracy: *accuracy, rounds: *rounds }
+}
+
+pub fn plan_from(plan: tohiranga::Plan) -> Plan {
+    let tohiranga::Plan { settings, accuracy, rounds } = plan;
+    Plan { settings: settings_from(settings), accuracy, rounds }
+}
+
 fn hand_back(given: Result<tohiranga::Plan, tohiranga::Refusal>, plan: &mut Plan) -> u64 {
     packed(given, |given| {
-        *plan = Plan {
-            settings: settings_from(given.settings),
-            accuracy: given.accuracy,
-            rounds: given.rounds,
-        };
+        *plan = plan_from(given);
         given.rounds as u64
     })
 }
@@ -67,12 +73,7 @@ impl Engine for Linked {
     }
 
     fn step(&self, plan: &Plan, next: &mut Plan) -> u64 {
-        let plan = tohiranga::Plan {
-            settings: settings_to(&plan.settings),
-            accuracy: plan.accuracy,
-            rounds: plan.rounds,
-        };
-        hand_back(plan.step(), next)
+        hand_back(plan_to(plan).step(), next)
     }
 
     fn target(&self, settings: &Settings, accuracy: u32, target: u32) -> u64 {

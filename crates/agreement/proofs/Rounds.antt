@@ -1,5 +1,7 @@
--- The estimate and the new value of an agreed round are naturals moved down by 2^31: moved up and down again they are what they were.
+-- The estimate and the new value of an agreed round are naturals moved down by 2^31: moved up and down again they are
+-- what they were.
 -- Assumes nothing.
+use mathlib.Core.Bool.{Bool}
 use mathlib.Core.Path.{_≡_, sym, ap, _∙_}
 use mathlib.Core.List.{List}
 use Prim.Native.Nat.{ℕ, _<_}
@@ -12,10 +14,9 @@ use Rattle.arithmetic.proofs.Counting.{count-le}
 use Rattle.arithmetic.proofs.Shift.{up-down}
 use Rattle.arithmetic.specs.Words.{twoTo31}
 use Rattle.model.specs.Steps.{mean, usedValue}
-use Rattle.round_laws.specs.Held.{readingsIn}
 use Rattle.round_laws.specs.Naturals.{estimate-nat, mean-nat, used-nat}
 use Rattle.round_laws.proofs.Shifted.{estimate-shifted, value-shifted}
-use Rattle.estimates.specs.Values.{valueAt, presentIn}
+use Rattle.held.specs.Held.{presentIn, valueAt, readingsIn}
 use Rattle.acceptance.specs.Values.{acceptedIn, acceptedCount}
 use Rattle.acceptance.proofs.Spans.{held-present}
 use Rattle.agreement.specs.Values.{agreedRound}
@@ -23,24 +24,39 @@ use Rattle.agreement.specs.Values.{agreedRound}
 moved-back : (z : ℤ) (x : ℕ) → z ≡ down twoTo31 x → down twoTo31 (up twoTo31 z) ≡ z
 moved-back z x e = ap (λ y. down twoTo31 (up twoTo31 y)) e ∙ ap (down twoTo31) (up-down twoTo31 x) ∙ sym e
 
-module _ (w need kind : ℕ) (s : List ℕ) (some : 0 < acceptedCount w need s) where
+module _ (w need kind : ℕ) (marks values : List ℕ) (some : 0 < acceptedCount w need marks values) where
+  abbrev acc : ℕ → Bool
+  acc = acceptedIn w need marks values
+
+  abbrev round-estimate : ℤ
+  round-estimate = agreedRound w need kind marks values .estimate
+
+  abbrev round-value : ℤ
+  round-value = agreedRound w need kind marks values .value
+
   -- the estimate over naturals
   est : ℕ
-  est = estimate-nat twoTo31 kind (acceptedIn w need s) (length s) (valueAt s)
+  est = estimate-nat twoTo31 kind acc (length marks) (valueAt values)
 
-  estimate-down : agreedRound w need kind s .estimate ≡ down twoTo31 est
+  estimate-down : round-estimate ≡ down twoTo31 est
   unfolding acceptedCount est
-  estimate-down = estimate-shifted twoTo31 (presentIn s) (valueAt s) (acceptedIn w need s) (length s) (held-present w need s) some kind
+  estimate-down =
+      estimate-shifted twoTo31 (presentIn marks) (valueAt values) acc (length marks)
+      (held-present w need marks values)
+      some
+      kind
 
-  pub estimate-back : down twoTo31 (up twoTo31 (agreedRound w need kind s .estimate)) ≡ agreedRound w need kind s .estimate
-  estimate-back = moved-back (agreedRound w need kind s .estimate) est estimate-down
+  pub estimate-back : down twoTo31 (up twoTo31 round-estimate) ≡ round-estimate
+  estimate-back = moved-back round-estimate est estimate-down
 
-  some-reading : 0 < length s
+  some-reading : 0 < length marks
   unfolding acceptedCount
-  some-reading = omega (arith, some, count-le (acceptedIn w need s) (length s))
+  some-reading = omega (arith, some, count-le acc (length marks))
 
-  pub value-back : down twoTo31 (up twoTo31 (agreedRound w need kind s .value)) ≡ agreedRound w need kind s .value
+  pub value-back : down twoTo31 (up twoTo31 round-value) ≡ round-value
   value-back =
-      moved-back (agreedRound w need kind s .value) (mean-nat (length s) (total (used-nat (acceptedIn w need s) (valueAt s) est) (length s)))
-      (ap (λ z. mean (length s) (sum (usedValue (acceptedIn w need s) (readingsIn s) z) (length s))) estimate-down
-      ∙ value-shifted twoTo31 (presentIn s) (valueAt s) (acceptedIn w need s) (length s) (held-present w need s) est some-reading)
+      let n = length marks in
+      let there = held-present w need marks values in
+      moved-back round-value (mean-nat n (total (used-nat acc (valueAt values) est) n))
+      (ap (λ z. mean n (sum (usedValue acc (readingsIn marks values) z) n)) estimate-down
+      ∙ value-shifted twoTo31 (presentIn marks) (valueAt values) acc n there est some-reading)

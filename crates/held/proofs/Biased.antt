@@ -1,5 +1,5 @@
--- The 32 bits of a signed number in two's complement, and the same number moved up by 2^31, which is a natural below 2^32 with the
--- order, the sums and the distances of the signed one.
+-- The 32 bits of a signed number in two's complement, and the same number moved up by 2^31, which is a natural below
+-- 2^32 with the order, the sums and the distances of the signed one.
 -- Assumes nothing.
 use mathlib.Core.Path.{_≡_, sym, ap, _∙_}
 use Prim.Native.Nat.{ℕ, suc, _+_, _-_, _≤_, _<_}

@@ -5,6 +5,7 @@
 --   entryReading           the reading that an entry's mark and bits are
 --   heldMark, heldValue    the mark and the number that a reading is held as
 --   presentIn, valueAt     whether a cabinet's reading is present; its number
+--   keptMark               the mark of a reading on the answer sheet, by the mark that it was held with
 --   readingsIn             the readings that the two lists hold, one for each cabinet
 --   unfit                  whether two lists of these lengths are not those of at most 64 cabinets
 use mathlib.Core.Bool.{Bool, not, cond, _||_}
@@ -36,6 +37,11 @@ presentIn marks r = eqb (getD marks r 0) 1
 
 abbrev pub valueAt : List ℕ → ℕ → ℕ
 valueAt values r = getD values r 0
+
+-- document 01's marks of the answer sheet (`markOf` of model/specs/Steps): "0 missing or known faulty, 1 accepted, 2
+-- present and not accepted"
+abbrev pub keptMark : Bool → ℕ → ℕ
+keptMark accepted mark = cond (eqb mark 1) (cond accepted 1 2) 0
 
 abbrev pub readingsIn : List ℕ → List ℕ → Readings
 readingsIn marks values r = shift twoTo31 (presentIn marks r) (valueAt values r)

@@ -5,7 +5,7 @@ ghost use mir.Syntax.{w32};
 ghost use mir.Val.{toZ, ofZ};
 ghost use Rattle.arithmetic.specs.Naturals.{down, up};
 ghost use Rattle.arithmetic.specs.Words.{twoTo31};
-ghost use Rattle.held.specs.Held.{entryReading, heldMark, heldValue, unfit};
+ghost use Rattle.held.specs.Held.{entryReading, heldMark, heldValue, keptMark, unfit};
 use model::MAX_CABINETS;
 
 // The marks: no reading, a present one, and one that is present and not accepted.
@@ -44,6 +44,17 @@ pub fn entry_value(mark: u8, bits: u32) -> u32
     ensures { λ r. ⌜ r ≡ heldValue (entryReading mark bits) ⌝ }
 {
     if mark == PRESENT { bias(bits) } else { 0 }
+}
+
+// The mark of a reading on the answer sheet: whether it is missing, accepted, or present and not accepted.
+pub fn kept_mark(accepted: bool, mark: u8) -> u8
+    ensures { λ r. ⌜ r ≡ keptMark accepted mark ⌝ }
+{
+    if mark == PRESENT {
+        if accepted { PRESENT } else { REJECTED }
+    } else {
+        MISSING
+    }
 }
 
 // Whether lists of these lengths are not those of the readings of at most 64 cabinets.

@@ -1,13 +1,17 @@
--- `agreement::agree` meets its contract: the flags are those of acceptance, so what is struck out by them and evaluated is the round.
+-- `agreement::agree` meets its contract: the flags are those of acceptance, so what is struck out by them and
+-- evaluated is the round.
 -- Assumes nothing.
 use mathlib.Core.Bool.{false}
 use mathlib.Core.Path.{refl}
 use native.Mathlib.Omega.{arith}
 use lib.ListN.{replicate}
-use Rattle.agreement.proofs.Agreeing.{agreed-none, kept-none, few-readings, agreed-some, kept-some}
+use Rattle.agreement.proofs.Agreeing.{agreed-none, marks-none, few-marks, agreed-some, marks-some}
 use borrow.Author.Needs.{needs}
 use Rattle.agreement.proofs.agree.Statement.{statement}
 use Rattle.agreement.proofs.agree.Tie as tie
+
+abbrev call : tie.After-accept → tie.Start
+call c = let flags = c .before .before in flags .before .before .before
 
 slice-aggregate-accept : tie.Need-slice-aggregate-accept
 slice-aggregate-accept c = search needs
@@ -20,19 +24,31 @@ same-length c = search needs
 
 returns : tie.Need-returns
 returns c =
-    let a = c .before .before .before .before .before .before .args in
-    let n = c .before .before .accept in
-    (agreed-none (a .window) (a .need) (a .values .now) (replicate 64 false) refl (n .result) (n .ensures .0) (c .if1 .taken) (a .kind), (kept-none (a .window) (a .need) (a .values .now) (replicate 64 false) refl (n .result) (n .ensures .0) (c .if1 .taken), omega arith))
+    let tested = c .before .before in
+    let a = call tested .args in
+    let n = tested .accept in
+    let none = c .if1 .taken in
+    let marks = a .marks .now in
+    let values = a .values .now in
+    let flags = replicate 64 false in (
+      agreed-none (a .span) (a .need) marks values flags refl (n .result) (n .ensures .0) none (a .kind),
+      (marks-none (a .span) (a .need) marks values flags refl (n .result) (n .ensures .0) none, omega arith),
+    )
 
 slice-aggregate-strike : tie.Need-slice-aggregate-strike
 slice-aggregate-strike c = search needs
 
 strike-requires : tie.Need-strike-requires
 strike-requires c κs =
-    let a = c .before .before .before .before .before .before .before .before .args in
-    let n = c .before .before .before .before .accept in
-    let few = few-readings (a .window) (a .need) (a .values .now) (replicate 64 false) refl (n .result) (n .ensures .0) (c .before .before .if1 .left) in
-    omega (arith, n .kept .1 .1 .1 .0)
+    let some = c .before .before in
+    let tested = some .before .before in
+    let a = call tested .args in
+    let n = tested .accept in
+    let flags = replicate 64 false in
+    let few =
+    few-marks (a .span) (a .need) (a .marks .now) (a .values .now) flags refl (n .result) (n .ensures .0)
+    (some .if1 .left) in
+    omega (arith, n .kept .1 .1 .1 .1 .0)
 
 evaluate-requires : tie.Need-evaluate-requires
 evaluate-requires c κs = search needs
@@ -42,12 +58,33 @@ same-length-2 c = search needs
 
 returns-2 : tie.Need-returns-2
 returns-2 c =
-    let a = c .before .before .before .before .before .before .before .before .before .before .before .before .before .args in
-    let n = c .before .before .before .before .before .before .before .before .before .accept in
-    let some = c .before .before .before .before .before .before .before .if1 .left in
-    let s = c .before .before .before .before .strike in
+    let struck = c .before .before .before .before in
+    let some = struck .before .before .before in
+    let tested = some .before .before in
+    let a = call tested .args in
+    let n = tested .accept in
+    let s = struck .strike in
     let e = c .evaluate in
-    (agreed-some (a .window) (a .need) (a .values .now) (replicate 64 false) refl (n .result) (n .ensures .0) some (n .last .1 .1 .1 .0) (s .last .0) (n .ensures .1) (s .ensures) (a .kind) (e .result) (e .ensures .0), (kept-some (a .window) (a .need) (a .values .now) (replicate 64 false) refl (n .result) (n .ensures .0) some (n .last .1 .1 .1 .0) (s .last .0) (n .ensures .1) (s .ensures), e .ensures .1))
+    let marks = a .marks .now in
+    let values = a .values .now in
+    let flags = replicate 64 false in (
+      agreed-some (a .span) (a .need) marks values flags refl (n .result) (n .ensures .0) (some .if1 .left)
+          (n .last .1 .1 .1 .1 .0)
+          (s .last .0)
+          (n .ensures .1)
+          (s .ensures)
+          (a .kind)
+          (e .result)
+          (e .ensures .0),
+      (
+        marks-some (a .span) (a .need) marks values flags refl (n .result) (n .ensures .0) (some .if1 .left)
+            (n .last .1 .1 .1 .1 .0)
+            (s .last .0)
+            (n .ensures .1)
+            (s .ensures),
+        e .ensures .1,
+      ),
+    )
 
 pub agree-spec : {M : Type 1} → statement M
 agree-spec =

@@ -1,71 +1,80 @@
--- `agreement::strike` meets its contract: the readings passed are struck out in their place; the measure is the readings left.
+-- `agreement::strike` meets its contract: the readings passed are struck out in their place; the measure is the
+-- readings left.
 -- Assumes nothing.
 use borrow.Author.Needs.{needs}
 use native.Mathlib.Omega.{arith}
 use Prim.Native.Nat.{_-_}
 use lib.ListN.{length}
-use Rattle.agreement.proofs.Kept.{Striking, strike-none, strike-one, all-struck, values-long}
+use Rattle.agreement.proofs.Kept.{Striking, strike-none, strike-one, all-struck, marks-long}
 use Rattle.agreement.proofs.strike.Statement.{statement}
 use Rattle.agreement.proofs.strike.Tie as tie
 
 abbrev Inv-readings : tie.InvT-readings
-Inv-readings values₀ accepted r₀ values r = Striking accepted values₀ values r
+Inv-readings marks₀ accepted r₀ marks r = Striking accepted marks₀ marks r
 
 abbrev μ-readings : tie.MeasureT-readings
-μ-readings values₀ accepted r₀ values r = length values₀ - r
+μ-readings marks₀ accepted r₀ marks r = length marks₀ - r
 
 readings-holds : tie.Need-readings-holds Inv-readings μ-readings
 readings-holds c =
-    let s = c .before .before in
-    strike-none (s .args .accepted .now) (s .args .values .now) (s .pre)
+    let start = c .before .before in
+    strike-none (start .args .accepted .now) (start .args .marks .now) (start .pre)
 
-shared-slice-read-kept-value : tie.Need-shared-slice-read-kept-value Inv-readings μ-readings
-shared-slice-read-kept-value c =
-    let a = c .before .before .before .before .before .args in
-    let m = c .before .before .readings in
-    omega (arith, m .inv .room, values-long (a .accepted .now) (a .values .now) (m .values) (m .r) (m .inv))
+shared-slice-read-kept-mark : tie.Need-shared-slice-read-kept-mark Inv-readings μ-readings
+shared-slice-read-kept-mark c =
+    let at = c .before .before in
+    let a = at .before .before .before .args in
+    let m = at .readings in
+    omega (arith, m .inv .room, marks-long (a .accepted .now) (a .marks .now) (m .marks) (m .r) (m .inv))
 
-mul-kept-value : tie.Need-mul-kept-value Inv-readings μ-readings
-mul-kept-value c = search needs
+slice-read-kept-mark : tie.Need-slice-read-kept-mark Inv-readings μ-readings
+slice-read-kept-mark c = search needs
 
-slice-read-kept-value : tie.Need-slice-read-kept-value Inv-readings μ-readings
-slice-read-kept-value c = search needs
+kept-mark-requires : tie.Need-kept-mark-requires Inv-readings μ-readings
+kept-mark-requires c κs = search needs
 
-kept-value-requires : tie.Need-kept-value-requires Inv-readings μ-readings
-kept-value-requires c κs = search needs
-
-mul-values : tie.Need-mul-values Inv-readings μ-readings
-mul-values c = search needs
-
-slice-write-values : tie.Need-slice-write-values Inv-readings μ-readings
-slice-write-values c = search needs
+slice-write-marks : tie.Need-slice-write-marks Inv-readings μ-readings
+slice-write-marks c = search needs
 
 add-r : tie.Need-add-r Inv-readings μ-readings
 add-r c = search needs
 
 readings-less : tie.Need-readings-less Inv-readings μ-readings
 readings-less c =
-    let a = c .before .before .before .before .before .before .before .args in
-    let m = c .before .before .before .before .readings in
-    omega (arith, c .before .before .before .readings-test .taken, values-long (a .accepted .now) (a .values .now) (m .values) (m .r) (m .inv))
+    let test = c .before .before .before in
+    let at = test .before in
+    let a = at .before .before .before .args in
+    let m = at .readings in
+    omega (
+      arith,
+      test .readings-test .taken,
+      marks-long (a .accepted .now) (a .marks .now) (m .marks) (m .r) (m .inv),
+    )
 
 readings-again : tie.Need-readings-again Inv-readings μ-readings
 readings-again c =
-    let a = c .before .before .before .before .before .before .before .args in
-    let m = c .before .before .before .before .readings in
-    strike-one (a .accepted .now) (a .values .now) (m .values) (m .r) (m .inv) (c .before .before .before .readings-test .taken) (c .kept-value .result) (c .kept-value .ensures)
+    let test = c .before .before .before in
+    let at = test .before in
+    let a = at .before .before .before .args in
+    let m = at .readings in
+    strike-one (a .accepted .now) (a .marks .now) (m .marks) (m .r) (m .inv)
+    (test .readings-test .taken)
+    (c .kept-mark .result)
+    (c .kept-mark .ensures)
 
 same-length : tie.Need-same-length Inv-readings μ-readings
 same-length c =
-    let a = c .before .before .before .before .args in
-    let m = c .before .readings in
-    values-long (a .accepted .now) (a .values .now) (m .values) (m .r) (m .inv)
+    let at = c .before in
+    let a = at .before .before .before .args in
+    let m = at .readings in
+    marks-long (a .accepted .now) (a .marks .now) (m .marks) (m .r) (m .inv)
 
 returns : tie.Need-returns Inv-readings μ-readings
 returns c =
-    let a = c .before .before .before .before .args in
-    let m = c .before .readings in
-    all-struck (a .accepted .now) (a .values .now) (m .values) (m .r) (m .inv) (c .readings-test .left)
+    let at = c .before in
+    let a = at .before .before .before .args in
+    let m = at .readings in
+    all-struck (a .accepted .now) (a .marks .now) (m .marks) (m .r) (m .inv) (c .readings-test .left)
 
 pub strike-spec : {M : Type 1} → statement M
 strike-spec =
@@ -74,12 +83,10 @@ strike-spec =
     Inv-readings
     μ-readings
     readings-holds
-    shared-slice-read-kept-value
-    mul-kept-value
-    slice-read-kept-value
-    kept-value-requires
-    mul-values
-    slice-write-values
+    shared-slice-read-kept-mark
+    slice-read-kept-mark
+    kept-mark-requires
+    slice-write-marks
     add-r
     readings-less
     readings-again

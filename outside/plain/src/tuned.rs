@@ -31,27 +31,27 @@ impl Steps for Tuned {
     }
 
     fn round(sheet: &Opened, marks: &mut [u8], used: &mut [u8]) -> Option<Settled> {
-        let present = receive(sheet);
-        let values = &present.values[..present.count];
+        let (mut cabinets, mut values) = ([0; MOST], [0; MOST]);
+        let present = receive(sheet, &mut cabinets, &mut values);
+        let (cabinets, values) = (&cabinets[..present], &values[..present]);
         let mut accepted = [false; MOST];
         accept(values, sheet.need() as u32, sheet.window, &mut accepted);
         let mut chosen = [0; MOST];
-        let mut count = 0;
+        let (mut count, mut sum) = (0, 0);
         for (&value, &accepted) in values.iter().zip(&accepted) {
             chosen[count] = value;
             count += accepted as usize;
+            sum += if accepted { value as i64 } else { 0 };
         }
         if count == 0 {
             return None;
         }
-        let chosen = &mut chosen[..count];
-        let sum: i64 = chosen.iter().map(|&value| value as i64).sum();
-        let estimate = estimate(sheet.estimator, chosen, sum);
+        let estimate = estimate(sheet.estimator, &mut chosen[..count], sum);
         marks.fill(0);
         for used in used.chunks_exact_mut(4) {
             used.copy_from_slice(&estimate.to_le_bytes());
         }
-        for ((&cabinet, &value), &accepted) in present.cabinets.iter().zip(values).zip(&accepted) {
+        for ((&cabinet, &value), &accepted) in cabinets.iter().zip(values).zip(&accepted) {
             let cabinet = cabinet as usize;
             marks[cabinet] = if accepted { 1 } else { 2 };
             let value = if accepted { value } else { estimate };
@@ -67,39 +67,25 @@ fn words(bytes: &[u8]) -> impl Iterator<Item = i32> + '_ {
     bytes.chunks_exact(4).map(|word| i32::from_le_bytes([word[0], word[1], word[2], word[3]]))
 }
 
-/// The present readings, decided ones for CCA, and whose they are.
-struct Present {
-    count: usize,
-    cabinets: [u8; MOST],
-    values: [i32; MOST],
-}
-
-impl Present {
-    fn push(&mut self, cabinet: usize, value: i32) {
-        self.cabinets[self.count] = cabinet as u8;
-        self.values[self.count] = value;
-        self.count += 1;
-    }
-}
-
-fn receive(sheet: &Opened) -> Present {
-    let mut present = Present { count: 0, cabinets: [0; MOST], values: [0; MOST] };
+/// Fills in the present readings, decided ones for CCA, and whose they are. Answers how many.
+fn receive(sheet: &Opened, cabinets: &mut [u8; MOST], values: &mut [i32; MOST]) -> usize {
     let n = sheet.n;
+    let mut count = 0;
     if sheet.crusaders {
         let rows = sheet.marks.chunks_exact(n).zip(sheet.readings.chunks_exact(4 * n));
         for (cabinet, (marks, copies)) in rows.enumerate() {
             if let Some(value) = decide(marks, copies, sheet.m) {
-                present.push(cabinet, value);
+                (cabinets[count], values[count]) = (cabinet as u8, value);
+                count += 1;
             }
         }
     } else {
         for (cabinet, (&mark, value)) in sheet.marks.iter().zip(words(sheet.readings)).enumerate() {
-            if mark == 1 {
-                present.push(cabinet, value);
-            }
+            (cabinets[count], values[count]) = (cabinet as u8, value);
+            count += mark as usize;
         }
     }
-    present
+    count
 }
 
 /// The value that N-m present copies of a row equal, as one of the first m + 1 copies must. Where

@@ -1,74 +1,135 @@
--- Checks 6, 8 and 9 of a sheet with given settings, by the tests that the code makes; and of a sheet that passes checks 1 to 6.
+-- Checks 6, 8 and 9 of a sheet with given settings, by what is found in the parts of it that hold marks and readings; and
+-- of a sheet that passes checks 1 to 6.
 -- Assumes nothing.
+use mathlib.Core.Bool.{false}
 use mathlib.Core.List.{List, _∷_}
-use mathlib.Core.Option.{none, some}
-use mathlib.Core.Path.{_≡_, refl, sym, ap, _∙_}
-use Prim.Native.Nat.{ℕ, _+_, _*_, _-_}
+use mathlib.Core.Option.{Option, some}
+use mathlib.Core.Path.{_≡_, refl, sym, ap, ap₂, _∙_}
+use Prim.Native.Nat.{ℕ, _+_, _*_, _-_, _≤_}
+use native.Mathlib.Nat.{add-assoc}
 use native.Mathlib.Omega.{arith}
-use borrow.Author.Tests.{eq-eqb, ne-eqb}
-use lib.ListN.{length, drop, length-drop}
-use lib.Seq.{length-take-le}
+use borrow.Author.Tests.{eq-eqb, ne-eqb, le-ltb}
+use lib.Dec.{ltb}
+use lib.ListN.{length, take, drop, length-drop}
+use lib.Seq.{length-take-le, getD-drop, take-all}
 use Rattle.model.specs.declared.Settings.{Settings}
-use Rattle.model.specs.declared.Refusal.{Refusal}
 use Rattle.arithmetic.specs.Counting.{lowest}
-use Rattle.model.specs.RoundSheet.{byte, word, entryCount, sheetLength, markAt, bitsAt, headerSize}
-use Rattle.model.specs.Refusals.{refusal, firstOf, arrayChecks, entryChecks, badLength, badMark, badMissing, notZero}
-use Rattle.model.specs.Refusals.{badLengthNumber}
+use Rattle.arithmetic.proofs.Counting.{lowest-ext}
+use Rattle.model.specs.RoundSheet.{byte, word, settingsAt, entryCount, sheetLength, markAt, bitsAt, headerSize}
+use Rattle.model.specs.Refusals.{Check, refusal, atEntry, orNext, firstOf, arrayChecks, entryChecks}
+use Rattle.model.specs.Refusals.{badLength, badMark, badMissing, notZero}
+use Rattle.model.specs.Refusals.{badLengthNumber, badMarkNumber, badMissingNumber}
 use Rattle.refusal_laws.proofs.Checks.{next-none}
 use Rattle.sheet_laws.proofs.Checks.{length-pass}
-use Rattle.sheet_laws.proofs.Inspection.{Inspected, entry-checks}
-use Rattle.sheet_laws.proofs.Parts.{marksPart, readingsPart, length-marksPart}
-use Rattle.entry_checks.specs.Answers.{missingIn}
+use Rattle.sheet_laws.proofs.Inspection.{Inspected}
+use Rattle.sheet_laws.proofs.Parts.{marksPart, length-marksPart, marksPart-at}
+use Rattle.sheet_laws.proofs.Words.{word-ext}
+use Rattle.sheet_sizes.specs.Bounds.{mostEntries}
+use Rattle.mark_checks.specs.Marks.{marksIn}
+use Rattle.missing_checks.specs.Missing.{missingIn}
 
-module _ (s : List ℕ) (c : Settings) (E : ℕ) (same : E ≡ entryCount c) where
-  pub body-length-refused : (length s ≡ headerSize + 5 * E → ⊥) → some (refusal badLengthNumber 0) ≡ firstOf (badLength (length s) (sheetLength c) ∷ arrayChecks (markAt s) (bitsAt s (entryCount c)) (entryCount c))
+-- a number read in what is left of a list
+word-drop : (s : List ℕ) (k i : ℕ) → word (drop k s) i ≡ word s (k + i)
+word-drop s k i = word-ext (drop k s) s i (k + i) (λ b h. getD-drop k s (i + b) 0 ∙ ap (byte s) (sym (add-assoc k i b)))
+
+-- the bytes behind the marks
+abbrev pub readingsPart : List ℕ → ℕ → List ℕ
+readingsPart s E = take (length s - (headerSize + E)) (drop (headerSize + E) s)
+
+-- ---- checks 8 and 9 of the parts are those of the sheet's entries
+
+module _ (s : List ℕ) (E : ℕ) (long : length s ≡ headerSize + 5 * E) where
+  readings-rest : readingsPart s E ≡ drop (headerSize + E) s
+  readings-rest =
+      take-all (length s - (headerSize + E)) (drop (headerSize + E) s)
+      (let d = length-drop (headerSize + E) s in omega arith)
+
+  readings-at : (e : ℕ) → word (readingsPart s E) (4 * e) ≡ bitsAt s E e
+  readings-at e = ap (λ (l : List ℕ). word l (4 * e)) readings-rest ∙ word-drop s (headerSize + E) (4 * e)
+
+  -- there are four bytes for each mark
+  four : length (readingsPart s E) ≡ 4 * length (marksPart s E)
+  four =
+      let marks = length-marksPart s E long in
+      let d = length-drop (headerSize + E) s in
+      let readings = length-take-le (length s - (headerSize + E)) (drop (headerSize + E) s) (omega arith) in
+      omega arith
+
+  marks-checked : badMark (byte (marksPart s E)) (length (marksPart s E)) ≡ badMark (markAt s) E
+  unfolding badMark
+  marks-checked =
+      ap (λ (k : ℕ). atEntry (lowest (λ e. ltb 1 (byte (marksPart s E) e)) k) badMarkNumber) (length-marksPart s E long)
+      ∙ ap (λ (o : Option ℕ). atEntry o badMarkNumber)
+      (lowest-ext (λ e. ltb 1 (byte (marksPart s E) e)) (λ e. ltb 1 (markAt s e)) E
+      (λ e h. ap (ltb 1) (marksPart-at s E long e h)))
+
+  missing-checked :
+      badMissing (byte (marksPart s E)) (λ e. word (readingsPart s E) (4 * e)) (length (marksPart s E))
+      ≡ badMissing (markAt s) (bitsAt s E) E
+  unfolding badMissing
+  missing-checked =
+      ap
+      (λ (k : ℕ).
+      atEntry (lowest (λ e. notZero (byte (marksPart s E) e) (word (readingsPart s E) (4 * e))) k) badMissingNumber)
+      (length-marksPart s E long)
+      ∙ ap (λ (o : Option ℕ). atEntry o badMissingNumber)
+      (lowest-ext
+      (λ e. notZero (byte (marksPart s E) e) (word (readingsPart s E) (4 * e)))
+      (λ e. notZero (markAt s e) (bitsAt s E e))
+      E
+      (λ e h. ap₂ notZero (marksPart-at s E long e h) (readings-at e)))
+
+  module _ (few : E ≤ mostEntries) where
+    fits : ltb mostEntries (length (marksPart s E)) ≡ false
+    fits = le-ltb mostEntries (length (marksPart s E)) (rw (length-marksPart s E long) few)
+
+    parts-marks : marksIn (marksPart s E) ≡ badMark (markAt s) E
+    unfolding marksIn
+    parts-marks = rw fits marks-checked
+
+    parts-missing : missingIn (marksPart s E) (readingsPart s E) ≡ badMissing (markAt s) (bitsAt s E) E
+    unfolding missingIn
+    parts-missing = rw (fits, eq-eqb (length (readingsPart s E)) (4 * length (marksPart s E)) four) missing-checked
+
+-- ---- checks 6, 8 and 9
+
+module _ (s : List ℕ) (c : Settings) where
+  abbrev pub bodyChecks : Check
+  bodyChecks =
+      firstOf (badLength (length s) (sheetLength c) ∷ arrayChecks (markAt s) (bitsAt s (entryCount c)) (entryCount c))
+
+  pub body-length-refused : (length s ≡ sheetLength c → ⊥) → some (refusal badLengthNumber 0) ≡ bodyChecks
   unfolding firstOf badLength
-  body-length-refused h = rw (sym same, ne-eqb (length s) (headerSize + 5 * E) h)
+  body-length-refused h = rw (ne-eqb (length s) (sheetLength c) h)
 
-  -- of a sheet of its length checks 8 and 9 are left
-  pub body-checks :
-      length s ≡ headerSize + 5 * E
-      → firstOf (badLength (length s) (sheetLength c) ∷ arrayChecks (markAt s) (bitsAt s (entryCount c)) (entryCount c))
-      ≡ firstOf (arrayChecks (markAt s) (bitsAt s E) E)
-  unfolding firstOf
-  body-checks h = rw (sym same, length-pass (length s) (headerSize + 5 * E) h)
+  module _ (long : length s ≡ sheetLength c) where
+    -- of a sheet of its length checks 8 and 9 are left
+    body-checks :
+        bodyChecks ≡ orNext (badMark (markAt s) (entryCount c)) (badMissing (markAt s) (bitsAt s (entryCount c)) (entryCount c))
+    unfolding firstOf
+    body-checks =
+        rw (
+          length-pass (length s) (sheetLength c) long,
+          next-none (badMissing (markAt s) (bitsAt s (entryCount c)) (entryCount c)),
+        )
 
-module _ (s : List ℕ) (c : Settings) (E : ℕ) (same : E ≡ entryCount c) (long : length s ≡ headerSize + 5 * E) where
-  -- check 8 refuses
-  pub body-mark-refused :
-      (r : Refusal) → badMark (markAt s) E ≡ some r
-      → some r ≡ firstOf (badLength (length s) (sheetLength c) ∷ arrayChecks (markAt s) (bitsAt s (entryCount c)) (entryCount c))
-  body-mark-refused r h =
-      let marks : firstOf (arrayChecks (markAt s) (bitsAt s E) E) ≡ some r = unfold firstOf in rw h in
-      sym (body-checks s c E same long ∙ marks)
-
-  -- and where it does not, check 9 decides
-  pub body-marks-pass :
-      badMark (markAt s) E ≡ none
-      → badMissing (markAt s) (bitsAt s E) E
-      ≡ firstOf (badLength (length s) (sheetLength c) ∷ arrayChecks (markAt s) (bitsAt s (entryCount c)) (entryCount c))
-  body-marks-pass h =
-      let missing : firstOf (arrayChecks (markAt s) (bitsAt s E) E) ≡ badMissing (markAt s) (bitsAt s E) E =
-      unfold firstOf in rw h (next-none (badMissing (markAt s) (bitsAt s E) E)) in
-      sym (body-checks s c E same long ∙ missing)
+    -- what is found in the parts says which refuses
+    pub body-parts :
+        (E : ℕ) → E ≡ entryCount c → E ≤ mostEntries → {x marks missing : Check} → x ≡ orNext marks missing
+        → marks ≡ marksIn (marksPart s E) → missing ≡ missingIn (marksPart s E) (readingsPart s E) → x ≡ bodyChecks
+    body-parts E same few e m z =
+        let sized : length s ≡ headerSize + 5 * E = long ∙ ap (λ (k : ℕ). headerSize + 5 * k) (sym same) in
+        e
+        ∙ ap₂ orNext (m ∙ parts-marks s E sized few) (z ∙ parts-missing s E sized few)
+        ∙ ap (λ (k : ℕ). orNext (badMark (markAt s) k) (badMissing (markAt s) (bitsAt s k) k)) same
+        ∙ sym body-checks
 
 -- with the settings that checks 1 to 6 grant they are those of the sheet
-pub body-entries : (s : List ℕ) (c : Settings) → Inspected s c → firstOf (badLength (length s) (sheetLength c) ∷ arrayChecks (markAt s) (bitsAt s (entryCount c)) (entryCount c)) ≡ firstOf (entryChecks s)
+pub body-entries :
+    (s : List ℕ) (c : Settings) → Inspected s c
+    → firstOf (badLength (length s) (sheetLength c) ∷ arrayChecks (markAt s) (bitsAt s (entryCount c)) (entryCount c))
+    ≡ firstOf (entryChecks s)
+unfolding entryChecks firstOf
 body-entries s c i =
-    body-checks s c (entryCount c) refl (i .long)
-    ∙ sym (entry-checks s (entryCount c) (ap entryCount (sym (i .settings))))
-
--- the parts of a sheet have four bytes for each mark
-pub parts-missing :
-    (s : List ℕ) (E : ℕ) → length s ≡ headerSize + 5 * E
-    → missingIn (marksPart s E) (readingsPart s E)
-    ≡ lowest (λ e. notZero (byte (marksPart s E) e) (word (readingsPart s E) (4 * e))) (length (marksPart s E))
-unfolding missingIn
-parts-missing s E long = rw (eq-eqb (length (readingsPart s E)) (4 * length (marksPart s E)) four)
-  where
-    four : length (readingsPart s E) ≡ 4 * length (marksPart s E)
-    four =
-        let marks = length-marksPart s E long in
-        let d = length-drop (headerSize + E) s in
-        let readings = length-take-le (length s - (headerSize + E)) (drop (headerSize + E) s) (omega arith) in
-        omega arith
+    rw (length-pass (length s) (sheetLength c) (i .long))
+    (ap (λ (d : Settings). firstOf (arrayChecks (markAt s) (bitsAt s (entryCount d)) (entryCount d))) (sym (i .settings)))

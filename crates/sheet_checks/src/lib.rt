@@ -14,9 +14,6 @@ use model::Settings;
 use model::TOO_SHORT;
 use refusals::Screened;
 
-mod marks;
-mod missing;
-
 // A sheet's settings, or the first refusal.
 pub enum Opened {
     Granted(Settings),
@@ -55,17 +52,13 @@ pub fn check_entries(sheet: &[u8], settings: Settings) -> Screened
         ∷ arrayChecks (markAt (now (sheet .entry)))
         (bitsAt (now (sheet .entry)) (entryCount settings)) (entryCount settings)) ⌝ }
 {
-    let entries = sheet_sizes::entry_count(settings);
-    if sheet.len() != HEADER_SIZE + 5 * entries {
-        return Screened::Refused(Refusal {
-            number: BAD_LENGTH,
-            place: 0,
-        });
+    if sheet.len() != sheet_sizes::sheet_length(settings) {
+        return Screened::Refused(refusals::refuse(BAD_LENGTH));
     }
-    match marks::check(sheet, entries) {
-        Screened::Refused(r) => Screened::Refused(r),
-        Screened::Passed => missing::check(sheet, entries),
-    }
+    let body = HEADER_SIZE + sheet_sizes::entry_count(settings);
+    let marks = mark_checks::check(&sheet[HEADER_SIZE..body]);
+    let missing = missing_checks::check(&sheet[HEADER_SIZE..body], &sheet[body..]);
+    refusals::first_of(marks, missing)
 }
 
 // Checks 1 to 6, 8 and 9.
@@ -76,11 +69,6 @@ pub fn validate(sheet: &[u8]) -> Opened
 {
     match inspect(sheet) {
         Opened::Refused(r) => Opened::Refused(r),
-        Opened::Granted(settings) => {
-            match check_entries(sheet, settings) {
-                Screened::Refused(r) => Opened::Refused(r),
-                Screened::Passed => Opened::Granted(settings),
-            }
-        }
+        Opened::Granted(settings) => unless_refused(check_entries(sheet, settings), settings),
     }
 }

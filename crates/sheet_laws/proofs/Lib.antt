@@ -4,8 +4,6 @@ pub mod Outcomes
 pub mod Orders
 pub mod Inspection
 pub mod Shown
-pub mod Opening
-pub mod Filling
 pub mod Words
 pub mod Parts
 pub mod Readings

@@ -44,12 +44,6 @@ module _ (s marks : List ℕ) (readings : List ℤ) where
   unfolding read
   read-grants h = ap (λ (r : Check). readAfter r s marks readings) h
 
-  pub read-refuses :
-      (r : Refusal) → firstOf (readChecks s (length marks) (length readings)) ≡ some r
-      → read s marks readings ≡ record { verdict = refused r; marks = marks; readings = readings }
-  unfolding read
-  read-refuses r h = ap (λ (x : Check). readAfter x s marks readings) h
-
 -- ---- the writer
 
 module _ (c : Settings) (marks : List ℕ) (readings : List ℤ) (buffer : List ℕ) where
@@ -59,12 +53,6 @@ module _ (c : Settings) (marks : List ℕ) (readings : List ℤ) (buffer : List 
       { verdict = granted (sheetLength c); buffer = overwrite (sheetBytes c marks readings) buffer }
   unfolding write
   write-grants h = ap (λ (r : Check). writtenAfter r (sheetLength c) (sheetBytes c marks readings) buffer) h
-
-  pub write-refuses :
-      (r : Refusal) → firstOf (writeChecks c marks readings (length buffer)) ≡ some r
-      → write c marks readings buffer ≡ record { verdict = refused r; buffer = buffer }
-  unfolding write
-  write-refuses r h = ap (λ (x : Check). writtenAfter x (sheetLength c) (sheetBytes c marks readings) buffer) h
 
 -- ---- the row accessor
 

@@ -58,6 +58,13 @@ pub word-append-right : (p q : List ℕ) (k i : ℕ) → length p ≡ k → word
 word-append-right p q k i e =
     word-ext (p ++ q) q (k + i) i (λ b h. ap (byte (p ++ q)) (add-assoc k i b) ∙ byte-append-right p q k (i + b) e)
 
+-- four bytes read one after another and joined are the number there
+pub word-joined :
+    (s : List ℕ) (i x : ℕ)
+    → x ≡ byte s i + 256 * byte s (i + 1) + 65536 * byte s (i + 2) + 16777216 * byte s (i + 3) → x ≡ word s i
+unfolding word
+word-joined s i x e = e
+
 -- past the end every byte is 0
 pub word-past : (s : List ℕ) (i : ℕ) → length s ≤ i → word s i ≡ 0
 unfolding word

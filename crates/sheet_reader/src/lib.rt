@@ -5,15 +5,10 @@ ghost use lib.ListN.{length};
 ghost use mir.Syntax.{w32};
 ghost use mir.Val.{toZ};
 ghost use Rattle.arithmetic.specs.Writing.{table, overwrite};
-ghost use Rattle.model.specs.RoundSheet.{settingsAt, bitsAt, headerSize};
-ghost use Rattle.model.specs.Refusals.{firstOf, readChecks};
-ghost use Rattle.model.specs.Calls.{verdict, row, read};
-ghost use Rattle.sheet_checks.specs.Answers.{openedOf};
+ghost use Rattle.model.specs.RoundSheet.{bitsAt, headerSize};
+ghost use Rattle.model.specs.Calls.{row, read};
 ghost use Rattle.sheet_reader.specs.Answers.{readOf};
 use model::HEADER_SIZE;
-use model::NO_ROOM;
-use model::Refusal;
-use refusals::Screened;
 use sheet_checks::Opened;
 use tick::Tick;
 
@@ -46,36 +41,6 @@ fn decode(sheet: &[u8], entries: usize, readings: &mut [i32])
     }
 }
 
-// Checks 1 to 9 of the reader, lent arrays of these lengths.
-fn open(sheet: &[u8], marks: usize, readings: usize) -> Opened
-    ensures { λ r.
-        ⌜ openedOf r
-        ≡ verdict (firstOf (readChecks (now (sheet .entry)) marks readings)) (settingsAt (now (sheet .entry))) ⌝ }
-{
-    match sheet_checks::inspect(sheet) {
-        Opened::Refused(r) => Opened::Refused(r),
-        Opened::Granted(settings) => {
-            let entries = sheet_sizes::entry_count(settings);
-            if marks < entries {
-                return Opened::Refused(Refusal {
-                    number: NO_ROOM,
-                    place: 0,
-                });
-            }
-            if readings < entries {
-                return Opened::Refused(Refusal {
-                    number: NO_ROOM,
-                    place: 0,
-                });
-            }
-            match sheet_checks::check_entries(sheet, settings) {
-                Screened::Refused(r) => Opened::Refused(r),
-                Screened::Passed => Opened::Granted(settings),
-            }
-        }
-    }
-}
-
 // The reader: the settings, with the first entries of marks and readings filled from the sheet, or the first refusal
 // of checks 1 to 9, which fills nothing.
 pub fn read(sheet: &[u8], marks: &mut [u8], readings: &mut [i32]) -> Opened
@@ -83,7 +48,7 @@ pub fn read(sheet: &[u8], marks: &mut [u8], readings: &mut [i32]) -> Opened
         ⌜ readOf r (now (marks .exit)) (now (readings .exit))
         ≡ read (now (sheet .entry)) (now (marks .entry)) (now (readings .entry)) ⌝ }
 {
-    match open(sheet, marks.len(), readings.len()) {
+    match reader_checks::check(sheet, marks.len(), readings.len()) {
         Opened::Refused(r) => Opened::Refused(r),
         Opened::Granted(settings) => {
             let entries = sheet_sizes::entry_count(settings);

@@ -7,11 +7,12 @@ use native.Mathlib.Omega.{arith}
 use lib.Dec.{eqb}
 use Rattle.model.specs.declared.Settings.{Settings}
 use Rattle.model.specs.RoundSheet.{cca, entryCount}
+use Rattle.sheet_sizes.specs.Bounds.{mostEntries}
 
-pub byte-entries-most : (c : Settings) → c .n ≤ 255 → entryCount c ≤ 65025
+pub byte-entries-most : (c : Settings) → c .n ≤ 255 → entryCount c ≤ mostEntries
 unfolding entryCount
 byte-entries-most c small = go (eqb (c .rule) cca)
   where
-    go : (b : Bool) → cond b (c .n * c .n) (c .n) ≤ 65025
+    go : (b : Bool) → cond b (c .n * c .n) (c .n) ≤ mostEntries
     go true = mul-le-mul small small
     go false = omega arith

@@ -5,6 +5,9 @@ use model::CCA;
 use model::HEADER_SIZE;
 use model::Settings;
 
+// The most entries that sizes of a byte make.
+pub const MAX_ENTRIES: usize = 65_025;
+
 // The sizes, bytes 0 to 7. Bytes past the end are 0.
 pub fn settings_at(sheet: &[u8]) -> Settings
     ensures { λ r. ⌜ r ≡ settingsAt (now (sheet .entry)) ⌝ }

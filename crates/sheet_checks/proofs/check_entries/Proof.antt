@@ -1,80 +1,108 @@
--- `sheet_checks::check_entries` meets its contract: the length, and then what checks 8 and 9 answer one after the other, say which refuses first.
+-- `sheet_checks::check_entries` meets its contract: the length, and then what checks 8 and 9 answer of the parts of the
+-- sheet, say which refuses first.
 -- Assumes nothing.
 use borrow.Author.Needs.{needs}
-use mathlib.Core.Path.{_≡_, sym, ap, _∙_}
+use mathlib.Core.Option.{some}
+use mathlib.Core.Path.{sym, ap, _∙_}
 use native.Mathlib.Omega.{arith}
 use Prim.Native.Nat.{_≤_}
-use Rattle.refusals.specs.Answers.{checkOf}
+use Rattle.sheet_sizes.specs.Bounds.{mostEntries}
 use Rattle.sheet_sizes.proofs.Bounds.{byte-entries-most}
-use Rattle.sheet_checks.proofs.Body.{body-length-refused, body-mark-refused, body-marks-pass}
+use Rattle.sheet_checks.proofs.Body.{body-length-refused, body-parts}
 use Rattle.sheet_checks.proofs.check_entries.Statement.{statement}
 use Rattle.sheet_checks.proofs.check_entries.Tie as tie
 
 -- sizes of a byte make few entries
-few : (c : tie.After-entry-count) → c .entry-count .result ≤ 65025
-few c = rw (c .entry-count .ensures) (byte-entries-most (c .before .before .args .settings) (omega arith))
+few : (c : tie.After-entry-count) → c .entry-count .result ≤ mostEntries
+few c = rw (c .entry-count .ensures) (byte-entries-most (c .before .before .before .before .args .settings) (omega arith))
+
+sheet-length-requires : tie.Need-sheet-length-requires
+sheet-length-requires c κs = search needs
+
+refuse-requires : tie.Need-refuse-requires
+refuse-requires c κs = search needs
+
+returns : tie.Need-returns
+returns c =
+    let measured = c .before .before in
+    let a = measured .before .before .args in
+    ap some (c .refuse .ensures)
+    ∙ body-length-refused (a .sheet .now) (a .settings) (λ e. c .before .if1 .taken (e ∙ sym (measured .sheet-length .ensures)))
 
 entry-count-requires : tie.Need-entry-count-requires
 entry-count-requires c κs = search needs
 
-mul-if1 : tie.Need-mul-if1
-mul-if1 c = omega (arith, few c)
+add-body : tie.Need-add-body
+add-body c = search needs
 
-add-if1 : tie.Need-add-if1
-add-if1 c = omega (arith, few c)
+sub-check : tie.Need-sub-check
+sub-check c = search needs
 
-returns : tie.Need-returns
-returns c =
-    let counted = c .before in
-    let a = counted .before .before .args in
-    body-length-refused (a .sheet .now) (a .settings) (counted .entry-count .result) (counted .entry-count .ensures) (c .if1 .taken)
+part-check-start : tie.Need-part-check-start
+part-check-start c = search needs
+
+part-check-end : tie.Need-part-check-end
+part-check-end c = search needs
 
 check-requires : tie.Need-check-requires
-check-requires c κs = (c .if1 .left, few (c .before))
+check-requires c κs = search needs
 
-enum-known-r : tie.Need-enum-known-r
-enum-known-r c = search needs
+sub-check-2 : tie.Need-sub-check-2
+sub-check-2 c = search needs
 
-enum-told : tie.Need-enum-told
-enum-told c = search needs
+part-check-start-2 : tie.Need-part-check-start-2
+part-check-start-2 c = search needs
+
+part-check-end-2 : tie.Need-part-check-end-2
+part-check-end-2 c = search needs
+
+sub-check-3 : tie.Need-sub-check-3
+sub-check-3 c = search needs
+
+part-check-start-3 : tie.Need-part-check-start-3
+part-check-start-3 c = search needs
+
+part-check-end-3 : tie.Need-part-check-end-3
+part-check-end-3 c = search needs
 
 check-requires-2 : tie.Need-check-requires-2
-check-requires-2 c κs =
-    let sized = c .before .before .before in
-    (sized .if1 .left, few (sized .before))
+check-requires-2 c κs = search needs
+
+first-of-requires : tie.Need-first-of-requires
+first-of-requires c κs = search needs
 
 returns-2 : tie.Need-returns-2
 returns-2 c =
-    let checked = c .before .before .before in
-    let sized = checked .before in
-    let counted = sized .before in
-    let a = counted .before .before .args in
-    body-mark-refused (a .sheet .now) (a .settings) (counted .entry-count .result) (counted .entry-count .ensures) (sized .if1 .left)
-    (c .before .r .given .0 .0)
-    (sym (checked .check .ensures) ∙ ap checkOf (c .before .r .given .1))
-
-returns-3 : tie.Need-returns-3
-returns-3 c =
-    let told = c .before in
-    let checked = told .before .before in
-    let sized = checked .before in
-    let counted = sized .before in
-    let a = counted .before .before .args in
-    c .check2 .ensures
-    ∙ body-marks-pass (a .sheet .now) (a .settings) (counted .entry-count .result) (counted .entry-count .ensures) (sized .if1 .left)
-    (sym (checked .check .ensures) ∙ ap checkOf (told .enum-told .given .1))
+    let missing = c .before in
+    let marks = missing .before .before .before in
+    let counted = marks .before .before in
+    let tested = counted .before in
+    let measured = tested .before in
+    let a = measured .before .before .args in
+    body-parts (a .sheet .now) (a .settings) (tested .if1 .left ∙ measured .sheet-length .ensures)
+    (counted .entry-count .result) (counted .entry-count .ensures)
+    (few counted)
+    (c .first-of .ensures) (marks .check .ensures) (missing .check2 .ensures)
 
 pub check-entries-spec : {M : Type 1} → statement M
 check-entries-spec =
     tie.close
     (tie.spec
-    entry-count-requires
-    mul-if1
-    add-if1
+    sheet-length-requires
+    refuse-requires
     returns
+    entry-count-requires
+    add-body
+    sub-check
+    part-check-start
+    part-check-end
     check-requires
-    enum-known-r
-    enum-told
+    sub-check-2
+    part-check-start-2
+    part-check-end-2
+    sub-check-3
+    part-check-start-3
+    part-check-end-3
     check-requires-2
-    returns-2
-    returns-3)
+    first-of-requires
+    returns-2)

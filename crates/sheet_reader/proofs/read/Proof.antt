@@ -7,17 +7,16 @@ use Prim.Native.Nat.{ℕ, _+_, _*_}
 use native.Mathlib.Omega.{arith}
 use lib.ListN.{length}
 use Rattle.arithmetic.specs.Writing.{overwrite}
-use Rattle.model.specs.RoundSheet.{settingsAt, entryCount, headerSize}
+use Rattle.model.specs.RoundSheet.{entryCount, headerSize}
 use Rattle.sheet_checks.specs.Answers.{openedOf}
-use Rattle.model.specs.Refusals.{firstOf, readChecks}
-use Rattle.sheet_laws.proofs.Outcomes.{refused-some, read-refuses}
-use Rattle.sheet_laws.proofs.Opening.{Openable, openable, reader-fills}
+use Rattle.reader_checks.proofs.Opening.{Openable, openable}
 use Rattle.sheet_laws.proofs.Parts.{marksPart, length-marksPart, marksPart-table}
 use Rattle.sheet_laws.proofs.Storing.{copy-overwrites}
+use Rattle.sheet_reader.proofs.Filling.{reader-refuses, reader-fills}
 use Rattle.sheet_reader.proofs.read.Statement.{statement}
 use Rattle.sheet_reader.proofs.read.Tie as tie
 
--- what `open` granted
+-- what `reader_checks::check` granted
 seen :
     (c : tie.After-entry-count)
     → Openable (c .before .before .before .before .before .before .before .args .sheet .now)
@@ -27,7 +26,7 @@ seen :
 seen c =
     let a = c .before .before .before .before .before .before .before .args in
     let settings = c .before .before .settings in
-    let opened = c .before .before .before .before .open in
+    let opened = c .before .before .before .before .check in
     openable (a .sheet .now) (length (a .marks .now)) (length (a .readings .now)) (settings .given .0 .0)
     (sym (opened .ensures) ∙ ap openedOf (settings .given .1))
 
@@ -38,8 +37,8 @@ sheet-long :
 sheet-long c =
     seen c .sizes .long ∙ ap (λ (k : ℕ). headerSize + 5 * k) (sym (c .entry-count .ensures))
 
-open-requires : tie.Need-open-requires
-open-requires c κs = search needs
+check-requires : tie.Need-check-requires
+check-requires c κs = search needs
 
 enum-known-r : tie.Need-enum-known-r
 enum-known-r c = search needs
@@ -106,14 +105,11 @@ decode-requires c κs =
 
 returns : tie.Need-returns
 returns c =
-    let a = c .before .before .before .before .before .before .args in
-    let opened = c .before .before .before .open in
-    sym
-    (read-refuses (a .sheet .now) (a .marks .now) (a .readings .now) (c .before .r .given .0 .0)
-    (refused-some
-    (firstOf (readChecks (a .sheet .now) (length (a .marks .now)) (length (a .readings .now))))
-    (settingsAt (a .sheet .now)) (c .before .r .given .0 .0)
-    (sym (opened .ensures) ∙ ap openedOf (c .before .r .given .1))))
+    let at-r = c .before in
+    let opened = at-r .before .before in
+    let a = opened .before .before .before .args in
+    reader-refuses (a .sheet .now) (a .marks .now) (a .readings .now) (at-r .r .given .0 .0)
+    (sym (opened .check .ensures) ∙ ap openedOf (at-r .r .given .1))
 
 same-length : tie.Need-same-length
 same-length c = search needs
@@ -123,26 +119,25 @@ same-length-2 c = search needs
 
 returns-2 : tie.Need-returns-2
 returns-2 c =
-    let a = c .before .before .before .before .before .before .before .before .before .before .before .before .before .before .before .args
-    in
-    let settings = c .before .before .before .before .before .before .before .before .before .before .settings in
-    let entry-count = c .before .before .before .before .before .before .before .before .entry-count in
-    let copy = c .before .before .before .before .before .copy in
-    reader-fills (a .sheet .now) (a .marks .now) (a .readings .now) (settings .given .0 .0)
-    (seen (c .before .before .before .before .before .before .before .before)) (entry-count .result)
-    (entry-count .ensures)
-    (copy .last .1 .0) (c .before .decode .last .1 .1 .0)
-    (copy .ensures .1
-    ∙ copy-overwrites (marksPart (a .sheet .now) (entry-count .result)) (a .marks .now)
-    ∙ ap (λ (l : List ℕ). overwrite l (a .marks .now)) (marksPart-table (a .sheet .now) (entry-count .result)
-    (sheet-long (c .before .before .before .before .before .before .before .before))))
-    (c .before .decode .ensures)
+    let decoded = c .before in
+    let copied = decoded .before .before .before .before in
+    let counted = copied .before .before .before in
+    let at-settings = counted .before .before in
+    let a = at-settings .before .before .before .before .before .args in
+    let E = counted .entry-count .result in
+    reader-fills (a .sheet .now) (a .marks .now) (a .readings .now) (at-settings .settings .given .0 .0)
+    (seen counted) E (counted .entry-count .ensures)
+    (copied .copy .last .1 .0) (decoded .decode .last .1 .1 .0)
+    (copied .copy .ensures .1
+    ∙ copy-overwrites (marksPart (a .sheet .now) E) (a .marks .now)
+    ∙ ap (λ (l : List ℕ). overwrite l (a .marks .now)) (marksPart-table (a .sheet .now) E (sheet-long counted)))
+    (decoded .decode .ensures)
 
 pub read-spec : {M : Type 1} → statement M
 read-spec =
     tie.close
     (tie.spec
-    open-requires
+    check-requires
     enum-known-r
     enum-known-settings
     entry-count-requires

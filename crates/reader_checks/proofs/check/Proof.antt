@@ -1,0 +1,98 @@
+-- `reader_checks::check` meets its contract: what `inspect`, `check_room` and `check_entries` answer says which of checks 1
+-- to 9 refuses first.
+-- Assumes nothing.
+use borrow.Author.Needs.{needs}
+use mathlib.Core.Path.{_≡_, sym, ap, _∙_}
+use Rattle.refusals.specs.Answers.{checkOf}
+use Rattle.model.specs.RoundSheet.{settingsAt}
+use Rattle.model.specs.Refusals.{firstOf, sheetChecks}
+use Rattle.sheet_checks.specs.Answers.{openedOf}
+use Rattle.sheet_checks.proofs.Body.{body-entries}
+use Rattle.sheet_laws.proofs.Outcomes.{refused-some}
+use Rattle.sheet_laws.proofs.Inspection.{Inspected, inspected}
+use Rattle.reader_checks.proofs.Opening.{reading-refused, room-refused, entries-decide}
+use Rattle.reader_checks.proofs.check.Statement.{statement}
+use Rattle.reader_checks.proofs.check.Tie as tie
+
+-- what `inspect` granted
+seen :
+    (c : tie.After-check-room)
+    → Inspected (c .before .before .before .before .before .before .args .sheet .now)
+    (c .before .before .settings .given .0 .0)
+seen c =
+    let at-settings = c .before .before in
+    let opened = at-settings .before .before in
+    inspected (opened .before .before .args .sheet .now) (at-settings .settings .given .0 .0)
+    (sym (opened .inspect .ensures) ∙ ap openedOf (at-settings .settings .given .1))
+
+inspect-requires : tie.Need-inspect-requires
+inspect-requires c κs = search needs
+
+enum-known-r : tie.Need-enum-known-r
+enum-known-r c = search needs
+
+enum-known-settings : tie.Need-enum-known-settings
+enum-known-settings c = search needs
+
+check-room-requires : tie.Need-check-room-requires
+check-room-requires c κs = search needs
+
+enum-known-r-2 : tie.Need-enum-known-r-2
+enum-known-r-2 c = search needs
+
+enum-told : tie.Need-enum-told
+enum-told c = search needs
+
+check-entries-requires : tie.Need-check-entries-requires
+check-entries-requires c κs = search needs
+
+unless-refused-requires : tie.Need-unless-refused-requires
+unless-refused-requires c κs = search needs
+
+returns : tie.Need-returns
+returns c =
+    let at-r = c .before in
+    let opened = at-r .before .before in
+    let a = opened .before .before .args in
+    reading-refused (a .sheet .now) (a .marks) (a .readings) (at-r .r .given .0 .0)
+    (refused-some (firstOf (sheetChecks (a .sheet .now))) (settingsAt (a .sheet .now)) (at-r .r .given .0 .0)
+    (sym (opened .inspect .ensures) ∙ ap openedOf (at-r .r .given .1)))
+
+returns-2 : tie.Need-returns-2
+returns-2 c =
+    let at-r = c .before in
+    let checked = at-r .before .before in
+    let at-settings = checked .before .before in
+    let a = at-settings .before .before .before .before .args in
+    room-refused (a .sheet .now) (a .marks) (a .readings) (at-settings .settings .given .0 .0) (seen checked)
+    (at-r .r2 .given .0 .0)
+    (sym (checked .check-room .ensures) ∙ ap checkOf (at-r .r2 .given .1))
+
+returns-3 : tie.Need-returns-3
+returns-3 c =
+    let entries = c .before in
+    let told = entries .before in
+    let checked = told .before .before in
+    let at-settings = checked .before .before in
+    let a = at-settings .before .before .before .before .args in
+    let settings = at-settings .settings .given .0 .0 in
+    entries-decide (a .sheet .now) (a .marks) (a .readings) settings (seen checked)
+    (sym (checked .check-room .ensures) ∙ ap checkOf (told .enum-told .given .1))
+    (c .unless-refused .ensures)
+    (entries .check-entries .ensures ∙ body-entries (a .sheet .now) settings (seen checked))
+
+pub check-spec : {M : Type 1} → statement M
+check-spec =
+    tie.close
+    (tie.spec
+    inspect-requires
+    enum-known-r
+    enum-known-settings
+    check-room-requires
+    enum-known-r-2
+    enum-told
+    check-entries-requires
+    unless-refused-requires
+    returns
+    returns-2
+    returns-3)

@@ -55,6 +55,7 @@ pub const BAD_PLAN: u8 = 11;
 pub const TARGET_MISSED: u8 = 12;
 
 // What a round sheet's sizes say. Nothing is presumed checked: any bytes may stand here.
+#[repr(C)]
 pub struct Settings {
     // N, the cabinets.
     pub n: u8,

@@ -14,6 +14,7 @@ use refusals::Screened;
 
 // The settings with the next round's window, the accuracy planned by then, the rounds done. Any contents may stand
 // here.
+#[repr(C)]
 pub struct Plan {
     pub settings: Settings,
     pub accuracy: u32,

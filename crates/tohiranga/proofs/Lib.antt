@@ -1,4 +1,3 @@
-pub mod Handing
 pub mod Halves
 pub mod Parts
 pub mod Told

@@ -33,7 +33,7 @@ use Rattle.sheet_laws.proofs.Orders.{read-checks, write-checks, settle-checks}
 use Rattle.planner_laws.proofs.Checks.{none-may-start, none-may-step}
 use Rattle.planner_laws.proofs.Rounds.{rounds-after}
 use Rattle.answer_reader.specs.Fields.{answerChecks, cabinetChecks, cabinetsIn, countIn, estimateIn, valueIn, markIn, usedIn}
-use Rattle.tohiranga.specs.Answers.{packedRefusal, packed, openingOf, planningOf, TargetPacked}
+use Rattle.packing.specs.Answers.{packedRefusal, packed, openingOf, planningOf, TargetPacked}
 use Rattle.tohiranga.specs.Statements.{Refuses, AnswerTells, FieldsTell, GrantsBelow}
 use Rattle.tohiranga.proofs.Halves.{upper-back, lower-back}
 

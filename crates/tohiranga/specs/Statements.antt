@@ -10,14 +10,15 @@ use mathlib.Core.Path.{_≡_}
 use Prim.Native.Nat.{ℕ, _+_, _≤_, _<_}
 use lib.IntN.{ℤ}
 use lib.ListN.{length}
+use Rattle.arithmetic.specs.Words.{twoTo32}
 use Rattle.model.specs.declared.Refusal.{Refusal}
 use Rattle.model.specs.declared.Settings.{Settings}
 use Rattle.model.specs.RoundSheet.{byte}
 use Rattle.model.specs.Planner.{Plan}
 use Rattle.model.specs.Calls.{Verdict, granted, refused, read, write, row, settle, plan, step}
 use Rattle.answer_reader.specs.Fields.{cabinetsIn, countIn, estimateIn, valueIn, markIn, usedIn}
-use Rattle.tohiranga.specs.Answers.{twoTo32, upperHalf, lowerHalf, packed, openingOf, planningOf}
-use Rattle.tohiranga.specs.Answers.{packedRow, partIn, TargetPacked}
+use Rattle.packing.specs.Answers.{upperHalf, lowerHalf, packed, openingOf, planningOf}
+use Rattle.packing.specs.Answers.{packedRow, partIn, TargetPacked}
 
 -- "Any other answer is a refusal, number * 2^32 + place; tohiranga_number and tohiranga_place take it apart"
 pub record Refuses (r : Refusal) (answer : ℕ) : Type 0 where

@@ -1,26 +1,16 @@
 // The fields of an answer sheet of any bytes, for C and for Rust, and the version. Signed numbers go out as their 32
 // bits.
 ghost use mathlib.Core.Path.{_≡_};
-ghost use Rattle.answer_reader.specs.Fields.{shownOf, cabinetsIn, countIn, estimateIn, valueIn, markIn, usedIn};
+ghost use Rattle.answer_reader.specs.Fields.{cabinetsIn, countIn, estimateIn, valueIn, markIn, usedIn};
 ghost use Rattle.version.specs.Version.{versionNumber};
-ghost use Rattle.tohiranga.specs.Answers.{packed};
-use answer_reader::Shown;
-
-fn pack(shown: Shown) -> u64
-    ensures { λ r. ⌜ r ≡ packed (shownOf shown) ⌝ }
-{
-    match shown {
-        Shown::Granted(number) => number as u64,
-        Shown::Refused(refusal) => crate::refused(refusal),
-    }
-}
+ghost use Rattle.packing.specs.Answers.{packed};
 
 // N.
 #[no_mangle]
 pub extern "C" fn tohiranga_answer_cabinets(answer: &[u8]) -> u64
     ensures { λ r. ⌜ r ≡ packed (cabinetsIn (now (answer .entry))) ⌝ }
 {
-    pack(answer_reader::cabinets(answer))
+    packing::pack_shown(answer_reader::cabinets(answer))
 }
 
 // How many readings were accepted.
@@ -28,7 +18,7 @@ pub extern "C" fn tohiranga_answer_cabinets(answer: &[u8]) -> u64
 pub extern "C" fn tohiranga_answer_count(answer: &[u8]) -> u64
     ensures { λ r. ⌜ r ≡ packed (countIn (now (answer .entry))) ⌝ }
 {
-    pack(answer_reader::count(answer))
+    packing::pack_shown(answer_reader::count(answer))
 }
 
 // The estimate.
@@ -36,7 +26,7 @@ pub extern "C" fn tohiranga_answer_count(answer: &[u8]) -> u64
 pub extern "C" fn tohiranga_answer_estimate(answer: &[u8]) -> u64
     ensures { λ r. ⌜ r ≡ packed (estimateIn (now (answer .entry))) ⌝ }
 {
-    pack(answer_reader::estimate(answer))
+    packing::pack_shown(answer_reader::estimate(answer))
 }
 
 // The new value.
@@ -44,7 +34,7 @@ pub extern "C" fn tohiranga_answer_estimate(answer: &[u8]) -> u64
 pub extern "C" fn tohiranga_answer_value(answer: &[u8]) -> u64
     ensures { λ r. ⌜ r ≡ packed (valueIn (now (answer .entry))) ⌝ }
 {
-    pack(answer_reader::value(answer))
+    packing::pack_shown(answer_reader::value(answer))
 }
 
 // A cabinet's mark.
@@ -52,7 +42,7 @@ pub extern "C" fn tohiranga_answer_value(answer: &[u8]) -> u64
 pub extern "C" fn tohiranga_answer_mark(answer: &[u8], cabinet: u32) -> u64
     ensures { λ r. ⌜ r ≡ packed (markIn (now (answer .entry)) cabinet) ⌝ }
 {
-    pack(answer_reader::mark(answer, cabinet))
+    packing::pack_shown(answer_reader::mark(answer, cabinet))
 }
 
 // A cabinet's used value.
@@ -60,7 +50,7 @@ pub extern "C" fn tohiranga_answer_mark(answer: &[u8], cabinet: u32) -> u64
 pub extern "C" fn tohiranga_answer_used(answer: &[u8], cabinet: u32) -> u64
     ensures { λ r. ⌜ r ≡ packed (usedIn (now (answer .entry)) cabinet) ⌝ }
 {
-    pack(answer_reader::used(answer, cabinet))
+    packing::pack_shown(answer_reader::used(answer, cabinet))
 }
 
 // The version of the library: major × 2^16 + minor × 2^8 + patch.

@@ -1,12 +1,11 @@
 -- What the calls of the C interface hand over, in document 01's terms. "Nothing lent is written" by a refusal, and the
 -- settings and the plan that it hands over are zeros, which every call refuses.
---   twoTo32                       2^32
 --   upperHalf, lowerHalf          an answer over 2^32, and what is left: a refusal's number and place, a part's start
 --                                 and length
 --   packedRefusal, packed         a refusal as number × 2^32 + place; a length or a count, or a refusal
---   settingsOf, sizesOf           settings, from and to C's layout
---   schedulePlanOf, scheduleOf    a plan, from and to C's layout
+--   noSettings, noPlan            the zeros beside a refusal
 --   openingOf                     the reader's answer: the number of entries, with the settings
+--   handed                        an answer with a plan
 --   planningOf                    the answer of the planner and of a step: the rounds done, with the plan
 --   packedRow                     where a cabinet's row stands: start × 2^32 + length, 0 where the part is empty
 --   partIn                        the part of a sheet that start × 2^32 + length names
@@ -21,15 +20,10 @@ use Rattle.arithmetic.specs.Words.{twoTo32}
 use Rattle.model.specs.declared.Refusal.{Refusal}
 use Rattle.model.specs.declared.Settings.{Settings}
 use Rattle.model.specs.RoundSheet.{settingsAt, entryCount, rowStart}
-use Rattle.model.specs.Planner.{Plan}
+use Rattle.model.specs.Planner.{Plan, planFrom}
 use Rattle.model.specs.Calls.{Verdict, granted, refused, row, Target}
-use Rattle.tohiranga.specs.declared.Sizes.{Sizes}
-use Rattle.tohiranga.specs.declared.Schedule.{Schedule}
-use Rattle.tohiranga.specs.declared.Opening.{Opening}
-use Rattle.tohiranga.specs.declared.Planning.{Planning}
-
-abbrev pub twoTo32 : ℕ
-twoTo32 = twoTo32
+use Rattle.packing.specs.declared.Opening.{Opening}
+use Rattle.packing.specs.declared.Planning.{Planning}
 
 abbrev pub upperHalf : ℕ → ℕ
 upperHalf answer = answer / twoTo32
@@ -44,31 +38,23 @@ abbrev pub packed : Verdict ℕ → ℕ
 packed (granted size) = size
 packed (refused r) = packedRefusal r
 
-abbrev pub settingsOf : Sizes → Settings
-settingsOf c = record { n = c .n; m = c .m; rule = c .rule; estimator = c .estimator; window = c .window }
+abbrev pub noSettings : Settings
+noSettings = record { n = 0; m = 0; rule = 0; estimator = 0; window = 0 }
 
-abbrev pub sizesOf : Settings → Sizes
-sizesOf c = record { n = c .n; m = c .m; rule = c .rule; estimator = c .estimator; window = c .window }
-
-abbrev pub schedulePlanOf : Schedule → Plan
-schedulePlanOf p = record { settings = settingsOf (p .settings); accuracy = p .accuracy; rounds = p .rounds }
-
-abbrev pub scheduleOf : Plan → Schedule
-scheduleOf p = record { settings = sizesOf (p .settings); accuracy = p .accuracy; rounds = p .rounds }
-
-abbrev pub noSizes : Sizes
-noSizes = record { n = 0; m = 0; rule = 0; estimator = 0; window = 0 }
-
-abbrev pub noSchedule : Schedule
-noSchedule = record { settings = noSizes; accuracy = 0; rounds = 0 }
+abbrev pub noPlan : Plan
+noPlan = planFrom noSettings 0
 
 abbrev pub openingOf : Verdict Settings → Opening
-openingOf (granted c) = record { answer = entryCount c; settings = sizesOf c }
-openingOf (refused r) = record { answer = packedRefusal r; settings = noSizes }
+openingOf (granted c) = record { answer = entryCount c; settings = c }
+openingOf (refused r) = record { answer = packedRefusal r; settings = noSettings }
+
+abbrev pub handed : ℕ → Plan → Planning
+handed answer p =
+    record { answer = answer; plan = record { settings = p .settings; accuracy = p .accuracy; rounds = p .rounds } }
 
 abbrev pub planningOf : Verdict Plan → Planning
-planningOf (granted p) = record { answer = p .rounds; plan = scheduleOf p }
-planningOf (refused r) = record { answer = packedRefusal r; plan = noSchedule }
+planningOf (granted p) = handed (p .rounds) p
+planningOf (refused r) = handed (packedRefusal r) noPlan
 
 -- the start of the cabinet's row in the sheet, and the length of the part that the row accessor shows
 unfoldable pub packedRow : List ℕ → ℕ → ℕ

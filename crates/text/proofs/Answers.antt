@@ -2,7 +2,7 @@
 -- a settled round.
 -- Assumes nothing.
 use mathlib.Core.List.{List, _++_}
-use mathlib.Core.Path.{_≡_, refl, ap}
+use mathlib.Core.Path.{_≡_, refl}
 use Prim.Native.Nat.{ℕ, zero, suc, _+_, _*_, _≤_, _<_}
 use native.Mathlib.Omega.{arith}
 use lib.ListN.{length, length-append}
@@ -14,27 +14,22 @@ use Rattle.model.specs.RoundSheet.{byte, word}
 use Rattle.model.specs.AnswerSheet.{answerBytes, answerHeaderSize}
 use Rattle.model.specs.Steps.{Round}
 use Rattle.model.specs.Listing.{cabinetLines, roundText}
-use Rattle.sheet_laws.proofs.Answer.{answer-cabinets, answer-count, answer-estimate, answer-value, answer-mark, answer-used}
-use Rattle.text.specs.Putting.{Puts}
-use Rattle.text.specs.Text.{answerRound, roundLine, cabinetLine, roundCapacity, textIn, roundWritten}
-use Rattle.text.proofs.Putting.{puts-then}
-use Rattle.text.proofs.Lines.{length-round-line, cabinets-more, cabinets-grow, length-cabinets}
+use Rattle.sheet_laws.proofs.Answer.{answer-cabinets, answer-count, answer-estimate}
+use Rattle.sheet_laws.proofs.Answer.{answer-value, answer-mark, answer-used}
+use Rattle.fields.specs.Putting.{Puts}
+use Rattle.fields.proofs.Putting.{puts-then}
+use Rattle.lines.specs.Lines.{roundLine, cabinetLine}
+use Rattle.text.specs.Text.{answerRound, roundCapacity, textIn, roundWritten}
+use Rattle.text.proofs.Lines.{length-round-line, cabinets-more, length-cabinets}
 
 -- ---- the lines of an answer sheet's bytes
 
 module _ (s : List ℕ) where
-  module _ (n r mark used : ℕ) (cabinets : n ≡ byte s 0) (m : mark ≡ byte s (answerHeaderSize + r)) (u : used ≡ word s (answerHeaderSize + n + 4 * r)) where
+  module _ (n r mark used : ℕ) (cabinets : n ≡ byte s 0)
+      (m : mark ≡ byte s (answerHeaderSize + r)) (u : used ≡ word s (answerHeaderSize + n + 4 * r)) where
     pub cabinet-next : cabinetLines (answerRound s) (r + 1) ≡ cabinetLines (answerRound s) r ++ cabinetLine r mark used
     unfolding answerRound
     cabinet-next = rw (m, u, cabinets) (cabinets-more (answerRound s) r)
-
-    pub cabinet-room : r < n
-        → length (cabinetLines (answerRound s) r) + length (cabinetLine r mark used) ≤ length (cabinetLines (answerRound s) n)
-    cabinet-room h =
-        let grown = cabinets-grow (answerRound s) (r + 1) n (omega arith) in
-        let next = ap length cabinet-next in
-        let whole = length-append (cabinetLines (answerRound s) r) (cabinetLine r mark used) in
-        omega arith
 
     pub cabinet-put : {old text new : List ℕ} {at next end : ℕ} → Puts old at (cabinetLines (answerRound s) r) text next
         → Puts text next (cabinetLine r mark used) new end → Puts old at (cabinetLines (answerRound s) (r + 1)) new end
@@ -53,7 +48,8 @@ module _ (s : List ℕ) where
       let few = small 0 in
       let first = length-round-line (byte s 0) (byte s 1) (word s 2) (word s 6) few (small 1) in
       let rest = length-cabinets (answerRound s) (byte s 0) (omega arith) (λ r l. small (answerHeaderSize + r)) in
-      let whole = length-append (roundLine (byte s 0) (byte s 1) (word s 2) (word s 6)) (cabinetLines (answerRound s) (byte s 0)) in
+      let lines = cabinetLines (answerRound s) (byte s 0) in
+      let whole = length-append (roundLine (byte s 0) (byte s 1) (word s 2) (word s 6)) lines in
       omega arith
 
 -- ---- a settled round

@@ -1,6 +1,3 @@
-pub mod Putting
-pub mod Digits
-pub mod Signed
 pub mod Lines
 pub mod Texts
 pub mod Answers

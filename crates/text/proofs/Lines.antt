@@ -1,10 +1,8 @@
 -- How long the lines of the text are, at most, and the lines of one cabinet more.
 -- Assumes nothing.
 use mathlib.Core.List.{List, [], _∷_, _++_}
-use mathlib.Core.Logic.{⊎-elim}
 use mathlib.Core.Path.{_≡_, refl}
 use Prim.Native.Nat.{ℕ, zero, suc, _+_, _*_, _≤_, _<_}
-use native.Mathlib.Nat.{le-refl, le-of-suc-le-suc, eq-or-lt-of-le}
 use native.Mathlib.Numerals.{add-one}
 use native.Mathlib.Omega.{arith}
 use lib.IntN.{ℤ}
@@ -13,16 +11,17 @@ use mir.Syntax.{w32}
 use mir.Val.{toZ}
 use Rattle.model.specs.Steps.{Round}
 use Rattle.model.specs.Listing.{decimal, signedDecimal, line, roundWord, refusedWord, cabinetLines}
-use Rattle.text.specs.Text.{roundLine, cabinetLine, cabinetCapacity, refusalCapacity}
-use Rattle.text.proofs.Digits.{length-decimal, length-decimal-byte}
-use Rattle.text.proofs.Signed.{length-signed}
+use Rattle.fields.proofs.Digits.{length-decimal, length-decimal-byte}
+use Rattle.fields.proofs.Signed.{length-signed}
+use Rattle.lines.specs.Lines.{roundLine}
+use Rattle.text.specs.Text.{roundLineCapacity, cabinetCapacity, refusalCapacity}
 
 -- the bytes after a line's first field: a space before each other field, and the line feed
 abbrev restLength : List (List ℕ) → ℕ
 restLength [] = 1
 restLength (field ∷ rest) = 1 + length field + restLength rest
 
-pub length-line : (first : List ℕ) (rest : List (List ℕ)) → length (line first rest) ≡ length first + restLength rest
+length-line : (first : List ℕ) (rest : List (List ℕ)) → length (line first rest) ≡ length first + restLength rest
 unfolding line
 length-line first [] = length-append first (10 ∷ [])
 length-line first (next ∷ rest) =
@@ -32,30 +31,20 @@ length-line first (next ∷ rest) =
 
 -- ---- the three kinds of line
 
-module _ (number place : ℕ) where
-  pub refusal-size : length (line refusedWord (decimal number ∷ decimal place ∷ []))
-      ≡ 10 + length (decimal number) + length (decimal place)
-  refusal-size = omega (arith, length-line refusedWord (decimal number ∷ decimal place ∷ []))
+pub length-refusal : (number place : ℕ) → number < 256
+    → length (line refusedWord (decimal number ∷ decimal place ∷ [])) ≤ refusalCapacity
+length-refusal number place h =
+    let whole = length-line refusedWord (decimal number ∷ decimal place ∷ []) in
+    omega (arith, length-decimal-byte number h, length-decimal place)
 
-  pub length-refusal : number < 256
-      → length (line refusedWord (decimal number ∷ decimal place ∷ [])) ≤ refusalCapacity
-  length-refusal h = omega (arith, refusal-size, length-decimal-byte number h, length-decimal place)
-
-module _ (n count estimate value : ℕ) where
-  pub round-size : length (roundLine n count estimate value)
-      ≡ 10 + length (decimal n) + length (decimal count) + length (signedDecimal (toZ w32 estimate)) + length (signedDecimal (toZ w32 value))
-  round-size =
-      omega (arith, length-line roundWord (decimal n ∷ decimal count ∷ signedDecimal (toZ w32 estimate) ∷ signedDecimal (toZ w32 value) ∷ []))
-
-  pub length-round-line : n < 256 → count < 256 → length (roundLine n count estimate value) ≤ 38
-  length-round-line h k =
-      let first = length-signed (toZ w32 estimate) in
-      let second = length-signed (toZ w32 value) in
-      omega (arith, round-size, length-decimal-byte n h, length-decimal-byte count k)
-
-pub cabinet-size : (r mark used : ℕ)
-    → length (cabinetLine r mark used) ≡ 3 + length (decimal r) + length (decimal mark) + length (signedDecimal (toZ w32 used))
-cabinet-size r mark used = omega (arith, length-line (decimal r) (decimal mark ∷ signedDecimal (toZ w32 used) ∷ []))
+pub length-round-line : (n count estimate value : ℕ) → n < 256 → count < 256
+    → length (roundLine n count estimate value) ≤ roundLineCapacity
+length-round-line n count estimate value h k =
+    let first = length-signed (toZ w32 estimate) in
+    let second = length-signed (toZ w32 value) in
+    let numbers = signedDecimal (toZ w32 estimate) ∷ signedDecimal (toZ w32 value) ∷ [] in
+    let whole = length-line roundWord (decimal n ∷ decimal count ∷ numbers) in
+    omega (arith, length-decimal-byte n h, length-decimal-byte count k)
 
 length-cabinet : (r mark : ℕ) (used : ℤ) → r < 256 → mark < 256
     → length (line (decimal r) (decimal mark ∷ signedDecimal used ∷ [])) ≤ cabinetCapacity
@@ -76,18 +65,6 @@ module _ (round : Round) where
   unfolding cabinetLines
   cabinets-more r = rw (add-one r)
 
-  pub cabinets-grow : (r n : ℕ) → r ≤ n → length (cabinetLines round r) ≤ length (cabinetLines round n)
-  unfolding cabinetLines
-  cabinets-grow r zero h = let none : r ≡ 0 = omega arith in rw none (le-refl 0)
-  cabinets-grow r (suc n) h =
-      ⊎-elim
-      (λ (e : r ≡ suc n). rw e (le-refl (length (cabinetLines round (suc n)))))
-      (λ (l : r < suc n).
-      let ih = cabinets-grow r n (le-of-suc-le-suc l) in
-      let whole = length-append (cabinetLines round n) (line (decimal n) (decimal (round .mark n) ∷ signedDecimal (round .used n) ∷ [])) in
-      omega arith)
-      (eq-or-lt-of-le h)
-
   pub length-cabinets : (n : ℕ) → n ≤ 256 → ((r : ℕ) → r < n → round .mark r < 256)
       → length (cabinetLines round n) ≤ cabinetCapacity * n
   unfolding cabinetLines
@@ -95,5 +72,6 @@ module _ (round : Round) where
   length-cabinets (suc n) h small =
       let ih = length-cabinets n (omega arith) (λ r l. small r (omega arith)) in
       let last = length-cabinet n (round .mark n) (round .used n) (omega arith) (small n (omega arith)) in
-      let whole = length-append (cabinetLines round n) (line (decimal n) (decimal (round .mark n) ∷ signedDecimal (round .used n) ∷ [])) in
+      let more = line (decimal n) (decimal (round .mark n) ∷ signedDecimal (round .used n) ∷ []) in
+      let whole = length-append (cabinetLines round n) more in
       omega arith

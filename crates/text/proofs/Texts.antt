@@ -3,14 +3,14 @@
 use mathlib.Core.List.{List}
 use mathlib.Core.Path.{_≡_, refl, sym, _∙_}
 use Prim.Native.Nat.{ℕ, _≤_, _<_}
-use native.Mathlib.Nat.{zero-add, le-trans}
+use native.Mathlib.Nat.{le-trans}
 use borrow.Author.Tests.{lt-ltb, le-ltb}
 use lib.ListN.{length, take}
 use Rattle.arithmetic.specs.Writing.{overwrite}
 use Rattle.arithmetic.proofs.Writing.{take-overwrite}
-use Rattle.text.specs.Putting.{Puts}
+use Rattle.fields.specs.Putting.{Puts}
+use Rattle.fields.proofs.Putting.{puts-end, puts-overwrite}
 use Rattle.text.specs.Text.{textIn}
-use Rattle.text.proofs.Putting.{stored-overwrite}
 
 module _ (capacity : ℕ) (text buffer : List ℕ) where
   pub text-refused : length buffer < capacity
@@ -30,7 +30,5 @@ module _ (capacity : ℕ) (text buffer : List ℕ) where
 
     pub text-written : {new : List ℕ} {next : ℕ} → length text ≤ capacity → Puts buffer 0 text new next
         → (next ≡ textIn capacity text buffer .size) × (new ≡ textIn capacity text buffer .buffer)
-    text-written fits p = (
-      p .position ∙ zero-add (length text) ∙ sym text-size,
-      p .buffer ∙ stored-overwrite text buffer (le-trans fits room) ∙ sym text-buffer,
-    )
+    text-written fits p =
+        (puts-end (le-trans fits room) p ∙ sym text-size, puts-overwrite (le-trans fits room) p ∙ sym text-buffer)

@@ -1,12 +1,11 @@
 -- What writing a text gives, and what it leaves in the lent buffer.
 --   answerRound                       the round that an answer sheet says
---   roundLine, cabinetLine            the first line, and a cabinet's, of numbers given by their bits
 --   roundCapacity, refusalCapacity    bytes that hold any round's text, any refusal's
 --   Text, textIn                      the length of the text and the buffer with it; nothing is written below the
--- capacity
+--                                     capacity
 --   roundWritten, refusalWritten      the text of an answer sheet, of a refusal
 use mathlib.Core.Bool.{cond}
-use mathlib.Core.List.{List, [], _∷_}
+use mathlib.Core.List.{List}
 use Prim.Native.Nat.{ℕ, _+_, _*_}
 use lib.Dec.{ltb}
 use lib.ListN.{length}
@@ -17,7 +16,7 @@ use Rattle.model.specs.RoundSheet.{byte, word}
 use Rattle.model.specs.AnswerSheet.{answerHeaderSize}
 use Rattle.model.specs.Steps.{Round}
 use Rattle.model.specs.Refusals.{refusal}
-use Rattle.model.specs.Listing.{decimal, signedDecimal, line, roundWord, roundText, refusalText}
+use Rattle.model.specs.Listing.{roundText, refusalText}
 
 -- document 01, "The answer sheet", read back
 unfoldable pub answerRound : List ℕ → Round
@@ -30,22 +29,17 @@ answerRound answer =
       used = λ r. toZ w32 (word answer (answerHeaderSize + byte answer 0 + 4 * r));
     }
 
--- "First line: `round`, N, count, estimate, new value"
-abbrev pub roundLine : ℕ → ℕ → ℕ → ℕ → List ℕ
-roundLine n count estimate value =
-    line roundWord (decimal n ∷ decimal count ∷ signedDecimal (toZ w32 estimate) ∷ signedDecimal (toZ w32 value) ∷ [])
-
--- "Then per cabinet: number, mark, used value"
-abbrev pub cabinetLine : ℕ → ℕ → ℕ → List ℕ
-cabinetLine r mark used = line (decimal r) (decimal mark ∷ signedDecimal (toZ w32 used) ∷ [])
-
 -- the longest cabinet's line: numbers of three, three and eleven bytes, two spaces, a line feed
 abbrev pub cabinetCapacity : ℕ
 cabinetCapacity = 20
 
--- the longest first line, of 38 bytes, and 255 cabinets' lines
+-- the longest first line: `round`, numbers of three, three, eleven and eleven bytes, four spaces, a line feed
+abbrev pub roundLineCapacity : ℕ
+roundLineCapacity = 38
+
+-- the first line and 255 cabinets' lines
 abbrev pub roundCapacity : ℕ
-roundCapacity = 38 + 255 * cabinetCapacity
+roundCapacity = roundLineCapacity + 255 * cabinetCapacity
 
 -- `refused`, numbers of three and ten bytes, two spaces, a line feed
 abbrev pub refusalCapacity : ℕ

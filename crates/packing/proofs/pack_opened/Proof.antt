@@ -1,5 +1,5 @@
--- `packing::pack_opened` meets its contract: the entries are counted beside the settings, and a refusal is packed beside
--- zeros.
+-- `packing::pack_opened` meets its contract: the entries are counted beside the settings, and a refusal is packed
+-- beside zeros.
 -- Assumes nothing.
 use borrow.Author.Needs.{needs}
 use mathlib.Core.Path.{sym, ap, ap₂, _∙_}

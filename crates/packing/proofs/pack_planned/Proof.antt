@@ -1,4 +1,5 @@
--- `packing::pack_planned` meets its contract: the rounds done stand beside the plan, and a refusal is packed beside zeros.
+-- `packing::pack_planned` meets its contract: the rounds done stand beside the plan, and a refusal is packed beside
+-- zeros.
 -- Assumes nothing.
 use borrow.Author.Needs.{needs}
 use mathlib.Core.Path.{sym, ap, ap₂, _∙_}

@@ -1,9 +1,9 @@
--- `packing::pack_row` meets its contract: the answer is the row's start and length, and 0 where `validate` refuses or the
--- cabinet is past N.
+-- `packing::pack_row` meets its contract: the answer is the row's start and length, and 0 where `validate` refuses or
+-- the cabinet is past N.
 -- Assumes nothing.
 use borrow.Author.Needs.{needs}
 use mathlib.Core.List.{List}
-use mathlib.Core.Path.{_≡_, sym, ap, _∙_}
+use mathlib.Core.Path.{sym, ap, _∙_}
 use Prim.Native.Nat.{ℕ, _≤_, _<_}
 use native.Mathlib.Omega.{arith}
 use Rattle.model.specs.declared.Settings.{Settings}

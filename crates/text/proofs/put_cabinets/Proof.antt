@@ -5,11 +5,11 @@ use mathlib.Core.Path.{_≡_}
 use Prim.Native.Nat.{_-_, _≤_}
 use native.Mathlib.Omega.{arith}
 use Rattle.model.specs.Listing.{cabinetLines}
-use Rattle.text.specs.Putting.{Puts}
+use Rattle.fields.specs.Putting.{Puts}
+use Rattle.fields.proofs.Putting.{puts-length, puts-none}
 use Rattle.text.specs.Text.{answerRound}
-use Rattle.text.proofs.Putting.{puts-length, puts-none}
 use Rattle.text.proofs.Lines.{cabinets-none}
-use Rattle.text.proofs.Answers.{cabinet-room, cabinet-put}
+use Rattle.text.proofs.Answers.{cabinet-put}
 use Rattle.text.proofs.put_cabinets.Statement.{statement}
 use Rattle.text.proofs.put_cabinets.Tie as tie
 
@@ -53,17 +53,7 @@ word-at-requires : tie.Need-word-at-requires Inv-cabinets μ-cabinets
 word-at-requires c κs = tt
 
 put-cabinet-requires : tie.Need-put-cabinet-requires Inv-cabinets μ-cabinets
-put-cabinet-requires c κs =
-    let head = c .before .before .before .before in
-    let start = head .before .before .before in
-    let room = cabinet-room (start .args .answer .now) (start .args .n) (head .cabinets .passed)
-    (c .before .before .byte-at .result)
-    (c .before .word-at .result)
-    (start .pre .0)
-    (c .before .before .byte-at .ensures)
-    (c .before .word-at .ensures)
-    (c .before .before .before .cabinets-test .taken) in
-    omega (arith, puts-length (head .cabinets .inv .1))
+put-cabinet-requires c κs = tt
 
 cabinets-less : tie.Need-cabinets-less Inv-cabinets μ-cabinets
 cabinets-less c = omega arith
@@ -77,7 +67,7 @@ cabinets-again c =
       cabinet-put (start .args .answer .now) (start .args .n) (head .cabinets .passed)
           (read .before .byte-at .result)
           (read .word-at .result)
-          (start .pre .0)
+          (start .pre)
           (read .before .byte-at .ensures)
           (read .word-at .ensures)
           (head .cabinets .inv .1)

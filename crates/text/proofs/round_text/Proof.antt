@@ -3,14 +3,14 @@
 -- Assumes nothing.
 use borrow.Author.Needs.{needs}
 use mathlib.Core.List.{List, _++_}
-use mathlib.Core.Path.{_≡_, ap}
-use Prim.Native.Nat.{ℕ, _+_, _≤_}
-use native.Mathlib.Omega.{arith}
-use lib.ListN.{length, length-append}
+use mathlib.Core.Path.{_≡_}
+use Prim.Native.Nat.{ℕ, _≤_}
+use lib.ListN.{length}
 use Rattle.model.specs.RoundSheet.{byte}
 use Rattle.model.specs.Listing.{cabinetLines, roundText}
-use Rattle.text.specs.Text.{answerRound, roundLine, roundWritten}
-use Rattle.text.proofs.Putting.{puts-then}
+use Rattle.fields.proofs.Putting.{puts-then}
+use Rattle.lines.specs.Lines.{roundLine}
+use Rattle.text.specs.Text.{answerRound, roundCapacity, roundWritten}
 use Rattle.text.proofs.Texts.{text-refused, text-written}
 use Rattle.text.proofs.Answers.{round-lines, length-round}
 use Rattle.text.proofs.round_text.Statement.{statement}
@@ -30,7 +30,10 @@ module _ (c : tie.After-word-at2) where
 
   abbrev first : List ℕ
   first =
-      roundLine (c .before .before .before .byte-at .result) (c .before .before .byte-at2 .result) (c .before .word-at .result)
+      roundLine
+      (c .before .before .before .byte-at .result)
+      (c .before .before .byte-at2 .result)
+      (c .before .word-at .result)
       (c .word-at2 .result)
 
   abbrev rest : List ℕ
@@ -48,19 +51,16 @@ module _ (c : tie.After-word-at2) where
       (c .before .word-at .ensures)
       (c .word-at2 .ensures)
 
-  fits : length text ≤ 5138
+  fits : length text ≤ roundCapacity
   fits =
       length-round answer (λ j. (c .before .before .before .before .before .before .shared-slice-known .given j) .fits)
-
-  lines-fit : length first + length rest ≤ 5138
-  lines-fit = omega (arith, fits, ap length lines, length-append first rest)
 
 returns : tie.Need-returns
 unfolding roundWritten
 returns c =
     let args = c .before .before .before .args in
     let answer = args .answer .now in
-    text-refused 5138 (roundText (byte answer 0) (answerRound answer)) (args .text .now) (c .if1 .taken)
+    text-refused roundCapacity (roundText (byte answer 0) (answerRound answer)) (args .text .now) (c .if1 .taken)
 
 byte-at-requires : tie.Need-byte-at-requires
 byte-at-requires c κs = search needs
@@ -81,12 +81,12 @@ word-at-requires-2 : tie.Need-word-at-requires-2
 word-at-requires-2 c κs = search needs
 
 put-round-requires : tie.Need-put-round-requires
-put-round-requires c κs = omega (arith, lines-fit (c .before))
+put-round-requires c κs = search needs
 
 put-cabinets-requires : tie.Need-put-cabinets-requires
 put-cabinets-requires c κs =
     let read = c .before .before .before .before .before in
-    (read .before .before .before .byte-at .ensures, omega (arith, lines-fit read))
+    read .before .before .before .byte-at .ensures
 
 same-length : tie.Need-same-length
 same-length c = search needs
@@ -95,7 +95,7 @@ returns-2 : tie.Need-returns-2
 unfolding roundWritten
 returns-2 c =
     let read = c .before .before .before .before .before .before .before .before in
-    text-written 5138 (text read) (start read .args .text .now) (read .before .before .before .before .if1 .left)
+    text-written roundCapacity (text read) (start read .args .text .now) (read .before .before .before .before .if1 .left)
     (fits read)
     (rw (lines read)
     (puts-then (c .before .before .before .before .before .before .put-round .ensures)

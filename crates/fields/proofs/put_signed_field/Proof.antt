@@ -1,9 +1,9 @@
--- `text::put_signed_field` meets its contract: a space, then the signed number.
+-- `fields::put_signed_field` meets its contract: a space, then the signed number.
 -- Assumes nothing.
 use borrow.Author.Needs.{needs}
-use Rattle.text.proofs.Putting.{puts-then}
-use Rattle.text.proofs.put_signed_field.Statement.{statement}
-use Rattle.text.proofs.put_signed_field.Tie as tie
+use Rattle.fields.proofs.Putting.{puts-then}
+use Rattle.fields.proofs.put_signed_field.Statement.{statement}
+use Rattle.fields.proofs.put_signed_field.Tie as tie
 
 put-byte-requires : tie.Need-put-byte-requires
 put-byte-requires c κs = search needs
@@ -16,7 +16,9 @@ same-length c = search needs
 
 returns : tie.Need-returns
 returns c =
-    puts-then (c .before .before .before .before .before .before .put-byte .ensures) (c .before .before .put-signed .ensures)
+    let number = c .before .before in
+    let space = number .before .before .before .before in
+    puts-then (space .put-byte .ensures) (number .put-signed .ensures)
 
 pub put-signed-field-spec : {M : Type 1} → statement M
 put-signed-field-spec = tie.close (tie.spec put-byte-requires put-signed-requires same-length returns)

@@ -1,9 +1,9 @@
--- `text::put_field` meets its contract: a space, then the number.
+-- `fields::put_field` meets its contract: a space, then the number.
 -- Assumes nothing.
 use borrow.Author.Needs.{needs}
-use Rattle.text.proofs.Putting.{puts-then}
-use Rattle.text.proofs.put_field.Statement.{statement}
-use Rattle.text.proofs.put_field.Tie as tie
+use Rattle.fields.proofs.Putting.{puts-then}
+use Rattle.fields.proofs.put_field.Statement.{statement}
+use Rattle.fields.proofs.put_field.Tie as tie
 
 put-byte-requires : tie.Need-put-byte-requires
 put-byte-requires c κs = search needs
@@ -16,7 +16,9 @@ same-length c = search needs
 
 returns : tie.Need-returns
 returns c =
-    puts-then (c .before .before .before .before .before .before .put-byte .ensures) (c .before .before .put-decimal .ensures)
+    let number = c .before .before in
+    let space = number .before .before .before .before in
+    puts-then (space .put-byte .ensures) (number .put-decimal .ensures)
 
 pub put-field-spec : {M : Type 1} → statement M
 put-field-spec = tie.close (tie.spec put-byte-requires put-decimal-requires same-length returns)

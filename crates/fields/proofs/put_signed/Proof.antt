@@ -1,18 +1,15 @@
--- `text::put_signed` meets its contract: bits from 2^31 on are a number below 0, by a minus sign and how far below it
+-- `fields::put_signed` meets its contract: bits from 2^31 on are a number below 0, by a minus sign and how far below it
 -- lies.
 -- Assumes nothing.
 use borrow.Author.Needs.{needs}
-use mathlib.Core.Path.{ap}
 use native.Mathlib.Omega.{arith}
-use lib.ListN.{length}
-use Rattle.text.proofs.Putting.{puts-then}
-use Rattle.text.proofs.Signed.{signed-low, signed-high}
-use Rattle.text.proofs.put_signed.Statement.{statement}
-use Rattle.text.proofs.put_signed.Tie as tie
+use Rattle.fields.proofs.Putting.{puts-then}
+use Rattle.fields.proofs.Signed.{signed-low, signed-high}
+use Rattle.fields.proofs.put_signed.Statement.{statement}
+use Rattle.fields.proofs.put_signed.Tie as tie
 
 put-decimal-requires : tie.Need-put-decimal-requires
-put-decimal-requires c κs =
-    omega (arith, ap length (signed-low (c .before .before .before .args .bits) (omega arith)))
+put-decimal-requires c κs = search needs
 
 same-length : tie.Need-same-length
 same-length c = search needs
@@ -23,9 +20,7 @@ returns c =
     rw (signed-low (branch .before .before .args .bits) (omega arith)) (c .before .before .put-decimal .ensures)
 
 put-byte-requires : tie.Need-put-byte-requires
-put-byte-requires c κs =
-    let start = c .before .before .before in
-    omega (arith, ap length (signed-high (start .args .bits) (omega arith) (omega arith)))
+put-byte-requires c κs = search needs
 
 sub-put-decimal : tie.Need-sub-put-decimal
 sub-put-decimal c = search needs
@@ -34,10 +29,7 @@ add-put-decimal : tie.Need-add-put-decimal
 add-put-decimal c = search needs
 
 put-decimal-requires-2 : tie.Need-put-decimal-requires-2
-put-decimal-requires-2 c κs =
-    let branch = c .before .before .before .before .before in
-    let start = branch .before .before in
-    omega (arith, ap length (signed-high (start .args .bits) (omega arith) (omega arith)))
+put-decimal-requires-2 c κs = search needs
 
 same-length-2 : tie.Need-same-length-2
 same-length-2 c = search needs

@@ -13,7 +13,7 @@ use mir.Syntax.{w32}
 use mir.Val.{SFits, toZ}
 use Rattle.arithmetic.specs.Words.{twoTo31, twoTo32}
 use Rattle.model.specs.Listing.{decimal, signedDecimal}
-use Rattle.text.proofs.Digits.{length-decimal, readFrom, read-decimal, decimal-some, all-digits}
+use Rattle.fields.proofs.Digits.{length-decimal, readFrom, read-decimal, decimal-some, all-digits}
 
 -- ---- by the bits
 

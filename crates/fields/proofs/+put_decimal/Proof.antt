@@ -1,4 +1,4 @@
--- `text::put_decimal` meets its contract: a number below ten is its digit, and any other is its tenth part and its
+-- `fields::put_decimal` meets its contract: a number below ten is its digit, and any other is its tenth part and its
 -- last digit. The measure is the number.
 -- Assumes nothing.
 use mathlib.Core.Path.{_∙_}
@@ -6,14 +6,14 @@ use Prim.Native.Nat.{ℕ, _<_}
 use native.Mathlib.Omega.{arith}
 use borrow.Fn.Kinds.{In}
 use borrow.Fn.PlainCycle.{Measures, is, falls, and}
-use Rattle.text.proofs.Putting.{puts-length, puts-then}
-use Rattle.text.proofs.Digits.{decimal-some, decimal-small, decimal-large, length-decimal-large}
-use Rattle.text.proofs.put_decimal.Reads as self
-use Rattle.text.proofs.put_decimal.Kinds as kinds
-use Rattle.text.proofs.put_byte.Reads as byte
-use Rattle.text.proofs.+put_decimal.Lts-put_decimal as lts
-use Rattle.text.proofs.+put_decimal.{statement}
-use Rattle.text.proofs.+put_decimal.Tie.{close}
+use Rattle.fields.proofs.Putting.{puts-length, puts-then}
+use Rattle.fields.proofs.Digits.{decimal-small, decimal-large}
+use Rattle.fields.proofs.put_decimal.Reads as self
+use Rattle.fields.proofs.put_decimal.Kinds as kinds
+use Rattle.fields.proofs.put_byte.Reads as byte
+use Rattle.fields.proofs.+put_decimal.Lts-put_decimal as lts
+use Rattle.fields.proofs.+put_decimal.{statement}
+use Rattle.fields.proofs.+put_decimal.Tie.{close}
 
 abbrev μ : Measures 1 kinds.ps ℕ
 μ κs a = a .1 .1 .0
@@ -33,7 +33,7 @@ module _ (t : ℕ) where
   cast-put-byte c = omega arith
 
   put-byte-requires : lts.Need-put-byte-requires (byte.Asked, byte.Learnt, below t, self.Post) (given t) self.Post
-  put-byte-requires c κs = omega (arith, decimal-some (c .before .before .before .args .x))
+  put-byte-requires c κs = tt
 
   same-length : lts.Need-same-length (byte.Asked, byte.Learnt, below t, self.Post) (given t) self.Post
   same-length c = puts-length (c .before .before .put-byte .ensures)
@@ -44,9 +44,7 @@ module _ (t : ℕ) where
       rw (decimal-small (branch .before .before .args .x) (omega arith)) (c .before .before .put-byte .ensures)
 
   put-decimal-requires : lts.Need-put-decimal-requires (byte.Asked, byte.Learnt, below t, self.Post) (given t) self.Post
-  put-decimal-requires c κs =
-      let start = c .before .before .before in
-      (omega arith, omega (arith, length-decimal-large (start .args .x) (omega arith) (omega arith)))
+  put-decimal-requires c κs = (omega arith, tt)
 
   add-put-byte-2 : lts.Need-add-put-byte-2 (byte.Asked, byte.Learnt, below t, self.Post) (given t) self.Post
   add-put-byte-2 c = omega arith
@@ -55,10 +53,7 @@ module _ (t : ℕ) where
   cast-put-byte-2 c = omega arith
 
   put-byte-requires-2 : lts.Need-put-byte-requires-2 (byte.Asked, byte.Learnt, below t, self.Post) (given t) self.Post
-  put-byte-requires-2 c κs =
-      let branch = c .before .before .before .before .before in
-      let start = branch .before .before in
-      omega (arith, length-decimal-large (start .args .x) (omega arith) (omega arith))
+  put-byte-requires-2 c κs = tt
 
   same-length-2 : lts.Need-same-length-2 (byte.Asked, byte.Learnt, below t, self.Post) (given t) self.Post
   same-length-2 c =

@@ -111,7 +111,9 @@ first-digit-some zero x some below = let b : x < 1 = below in omega arith
 first-digit-some (suc k) x some below =
     digits-cases (λ l. 48 < getD l 0 0) k x
     (λ h. omega arith)
-    (λ h. first-stays (digitsUpTo k (x / 10)) ((48 + x % 10) ∷ []) (first-digit-some k (x / 10) (omega arith) (tenth-below k x below)))
+    (λ h.
+    let first = first-digit-some k (x / 10) (omega arith) (tenth-below k x below) in
+    first-stays (digitsUpTo k (x / 10)) ((48 + x % 10) ∷ []) first)
 
 -- ---- read back
 
@@ -147,9 +149,6 @@ decimal-large x fits h =
   where
     tenth : x / 10 < 1_000_000_000
     tenth = omega arith
-
-pub length-decimal-large : (x : ℕ) → x < twoTo32 → 10 ≤ x → length (decimal x) ≡ length (decimal (x / 10)) + 1
-length-decimal-large x fits h = ap length (decimal-large x fits h) ∙ length-append (decimal (x / 10)) ((48 + x % 10) ∷ [])
 
 pub length-decimal : (x : ℕ) → length (decimal x) ≤ 10
 length-decimal x = length-digits 10 x

@@ -95,7 +95,8 @@ returns-2 : tie.Need-returns-2
 unfolding roundWritten
 returns-2 c =
     let read = c .before .before .before .before .before .before .before .before in
-    text-written roundCapacity (text read) (start read .args .text .now) (read .before .before .before .before .if1 .left)
+    let branch = read .before .before .before .before in
+    text-written roundCapacity (text read) (start read .args .text .now) (branch .if1 .left)
     (fits read)
     (rw (lines read)
     (puts-then (c .before .before .before .before .before .before .put-round .ensures)

@@ -1,0 +1,25 @@
+-- `answer_writer::has_room` meets its contract: its tests are those of `roomy`.
+-- Assumes nothing.
+use borrow.Author.Needs.{needs}
+use borrow.Author.Tests.{le-leb, lt-leb}
+use Rattle.model.specs.Ensemble.{maxCabinets}
+use Rattle.answer_writer.specs.Answers.{roomy}
+use Rattle.answer_writer.proofs.has_room.Statement.{statement}
+use Rattle.answer_writer.proofs.has_room.Tie as tie
+
+returns : tie.Need-returns
+unfolding roomy
+returns c = rw (lt-leb (c .before .args .n) maxCabinets (c .if1 .taken))
+
+mul-result : tie.Need-mul-result
+mul-result c = search needs
+
+add-result : tie.Need-add-result
+add-result c = search needs
+
+returns-2 : tie.Need-returns-2
+unfolding roomy
+returns-2 c = rw (le-leb (c .before .args .n) maxCabinets (c .if1 .left))
+
+pub has-room-spec : {M : Type 1} → statement M
+has-room-spec = tie.close (tie.spec returns mul-result add-result returns-2)

@@ -23,7 +23,7 @@ use Rattle.refusal_laws.proofs.Limits.{Limits}
 use Rattle.sheet_laws.proofs.Outcomes.{granted-none, granted-same}
 use Rattle.sheet_laws.proofs.Answer.{length-answerBytes, answer-cabinets, answer-count, answer-estimate, answer-value, answer-mark, answer-used}
 use Rattle.sheet_laws.proofs.Inspection.{inspected}
-use Rattle.demand_1_2.proofs.Sheets.{settled-estimate, settled-value, settled-used}
+use Rattle.value_laws.proofs.Sheets.{settled-estimate, settled-value, settled-used}
 use Rattle.answer_reader.specs.Fields.{answerChecks, cabinetChecks, cabinetsIn, countIn, estimateIn, valueIn, markIn, usedIn}
 use Rattle.answer_laws.specs.ReadBack.{ReadsBack, Settled, answerSheet, SettledReadsBack}
 

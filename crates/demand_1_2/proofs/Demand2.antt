@@ -38,7 +38,7 @@ use Rattle.demand_1_2.specs.Demand2.{PlannedRounds, Demand2}
 use Rattle.demand_1_2.proofs.Estimated.{estimated}
 use Rattle.demand_1_2.proofs.Refused.{too-many-said}
 use Rattle.demand_1_2.proofs.Roundings.{mean-nearest-whole, rounded-up}
-use Rattle.demand_1_2.proofs.Sheets.{settled-estimate, settled-value, settled-used}
+use Rattle.value_laws.proofs.Sheets.{settled-estimate, settled-value, settled-used}
 use Rattle.demand_1_2.proofs.Spans.{accepted-span}
 
 -- ---- accepted readings and used values

@@ -1,7 +1,6 @@
 pub mod Represented
 pub mod Spans
 pub mod Values
-pub mod Sheets
 pub mod Orders
 pub mod Demand1
 pub mod Refused

@@ -13,7 +13,8 @@ use Rattle.arithmetic.proofs.Shift.{down-cong, pos-down, dist-down}
 use Rattle.model.specs.Planner.{ceilDiv}
 use Rattle.model.specs.Steps.{mean}
 use Rattle.round_laws.specs.Naturals.{mean-nat}
-use Rattle.limit_laws.proofs.Means.{rise, fall, mean-shift, fall-room, fall-le, fall-least, rise-ceil, rise-fall-ceil}
+use Rattle.value_laws.proofs.Means.{mean-shift}
+use Rattle.limit_laws.proofs.Means.{rise, fall, fall-room, fall-le, fall-least, rise-ceil, rise-fall-ceil}
 use Rattle.demand_3.specs.Guarantee.{Station, N, m, δ, κ, Start, Sends, Allowed, Each, start}
 use Rattle.demand_3.specs.Guarantee.{apart, Good, bad, First, Wide, wideGap}
 use Rattle.demand_3.specs.Exact.{excess, exactGap, exactError, Exact, Sharper, ExactFirst, ExactLimits}

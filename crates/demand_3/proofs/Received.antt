@@ -19,7 +19,7 @@ use Rattle.round_laws.proofs.Natural.{round-count, round-value}
 use Rattle.round_laws.proofs.Represent.{shift-raise}
 use Rattle.round_laws.specs.Naturals.{shifted}
 use Rattle.limit_laws.proofs.Settled.{Receiver, accepts, valueBy}
-use Rattle.demand_1_2.proofs.Values as values
+use Rattle.value_laws.proofs.Fits as values
 use Rattle.demand_3.specs.Guarantee.{IsReading}
 use Rattle.demand_3.proofs.Distances.{fits-mag}
 

@@ -20,13 +20,14 @@ use Rattle.arithmetic.specs.Naturals.{total}
 use Rattle.arithmetic.proofs.Sums.{total-const, total-scale, count-total}
 use Rattle.model.specs.Planner.{ceilDiv}
 use Rattle.model.specs.RoundSheet.{median}
-use Rattle.limit_laws.proofs.Extremes.{LeastOf, GreatestOf, least, greatest}
-use Rattle.limit_laws.proofs.Means.{rise, fall, mean-rise, mean-fall, fall-rise, rise-ceil, total-close, mean-stray}
+use Rattle.value_laws.proofs.Extremes.{LeastOf, GreatestOf, least, greatest}
+use Rattle.limit_laws.proofs.Means.{rise, fall, mean-rise, mean-fall, fall-rise, rise-ceil}
+use Rattle.limit_laws.proofs.Means.{total-close, mean-stray}
 use Rattle.limit_laws.proofs.Acceptance.{insideSpan, inside-intro, NatSpan, span-accepted}
-use Rattle.limit_laws.proofs.Ranks.{Numbered}
-use Rattle.limit_laws.proofs.Estimates.{Between, used-within, median-numbered}
-use Rattle.limit_laws.proofs.Settled.{Receiver, accepts, estimateBy, usedBy, valueBy, used-accepted, used-replaced}
-use Rattle.limit_laws.proofs.Settled.{badCount, BothAlike, Spread, ReadsSome, Few, Reads, Truth}
+use Rattle.value_laws.proofs.Ranks.{Numbered}
+use Rattle.value_laws.proofs.Estimates.{Between, used-within, median-numbered}
+use Rattle.limit_laws.proofs.Settled.{Receiver, accepts, estimateBy, usedBy, valueBy, used-accepted}
+use Rattle.limit_laws.proofs.Settled.{used-replaced, badCount, BothAlike, Spread, ReadsSome, Few, Reads, Truth}
 use Rattle.limit_laws.proofs.Hull.{SpanOf, span-of, accepts-present, good-in, good-in-good, good-in-many, astray}
 use Rattle.limit_laws.proofs.Hull.{astray-count, astray-few, Near, Strays, good-near, used-strays}
 use Rattle.limit_laws.proofs.Medians.{alone, median-above, median-below}

@@ -1,21 +1,20 @@
--- The mean of n numbers to the nearest, a half going up: how it moves with the sum.
+-- The mean of n numbers to the nearest, a half going up: how far it moves with the sum.
 --   rise, fall      how far it comes above and below a whole number by x in the sum
 -- Assumes nothing.
 use mathlib.Core.Logic.{⊎-elim}
-use mathlib.Core.Path.{_≡_, ap, _∙_}
 use Prim.Native.Nat.{ℕ, suc, _+_, _*_, _-_, _/_, _≤_, _<_}
-use native.Mathlib.Nat.{div-mul-le-self, lt-div-mul-add, add-mul-div-right, div-eq-of-lt, mul-comm, mul-assoc}
+use native.Mathlib.Nat.{div-mul-le-self, lt-div-mul-add, mul-comm, mul-assoc}
 use native.Mathlib.Nat.{mul-le-mul-left, mul-le-mul-right, mul-add, mul-suc, one-mul}
 use native.Mathlib.Omega.{arith}
 use borrow.Author.Tests.{leb-true, leb-false}
 use lib.Dec.{leb}
 use Rattle.arithmetic.proofs.Bools.{both-ways}
-use Rattle.arithmetic.proofs.Division.{div-mono}
 use Rattle.arithmetic.specs.Naturals.{total}
-use Rattle.arithmetic.proofs.Sums.{total-mono, total-add, total-const, total-scale}
+use Rattle.arithmetic.proofs.Sums.{total-mono, total-add, total-scale}
 use Rattle.model.specs.Planner.{ceilDiv}
 use Rattle.planner_laws.proofs.Ceiling.{ceil-div-covers}
 use Rattle.round_laws.specs.Naturals.{mean-nat}
+use Rattle.value_laws.proofs.Means.{mean-mono, mean-shift, mean-zero, mean-upper}
 
 -- y is a nearest whole number to s / n
 pub record Nearest (n s y : ℕ) : Type 0 where
@@ -42,51 +41,13 @@ module _ (n : ℕ) (some-n : 0 < n) where
       let u = lt-div-mul-add {a = s + s + n} twice-pos in
       record { below = omega arith; above = omega arith }
 
-  pub mean-mono : {a b : ℕ} → a ≤ b → mean-nat n a ≤ mean-nat n b
-  unfolding mean-nat
-  mean-mono l = div-mono (2 * n) twice-pos (omega arith)
-
-  pub mean-shift : (s j : ℕ) → mean-nat n (s + j * n) ≡ mean-nat n s + j
-  unfolding mean-nat
-  mean-shift s j = ap (λ (y : ℕ). y / (2 * n)) moved ∙ add-mul-div-right (s + s + n) j twice-pos
-    where
-      moved : s + j * n + (s + j * n) + n ≡ s + s + n + j * (2 * n)
-      moved =
-          let c = mul-comm j (2 * n) in
-          let a = mul-assoc 2 n j in
-          let d = mul-comm n j in
-          omega arith
-
-  mean-zero : mean-nat n 0 ≡ 0
-  unfolding mean-nat
-  mean-zero = div-eq-of-lt (omega arith)
-
-  -- the mean of n equal numbers
-  pub mean-const : (j : ℕ) → mean-nat n (n * j) ≡ j
-  mean-const j =
-      let c : n * j ≡ 0 + j * n = omega (arith, mul-comm n j) in
-      let d = ap (mean-nat n) c in
-      omega (arith, mean-shift 0 j, mean-zero)
-
-  pub mean-upper : (s j : ℕ) → s ≤ n * j → mean-nat n s ≤ j
-  mean-upper s j l =
-      let c = mean-const j in
-      let d = mean-mono l in
-      omega arith
-
-  pub mean-lower : (s j : ℕ) → n * j ≤ s → j ≤ mean-nat n s
-  mean-lower s j l =
-      let c = mean-const j in
-      let d = mean-mono l in
-      omega arith
-
   -- sums that differ by at most b have means that differ by at most b / n, rounded up
   pub mean-close : (s u b : ℕ) → s ≤ u + b → mean-nat n s ≤ mean-nat n u + ceilDiv b n
   mean-close s u b l =
       let c = ceil-div-covers n some-n b in
       let k : s ≤ u + ceilDiv b n * n = omega arith in
-      let d = mean-mono k in
-      let e = mean-shift u (ceilDiv b n) in
+      let d = mean-mono n some-n k in
+      let e = mean-shift n some-n u (ceilDiv b n) in
       omega arith
 
   -- sums of at most x more, and of at most x less, than n times a whole number
@@ -94,7 +55,7 @@ module _ (n : ℕ) (some-n : 0 < n) where
   unfolding rise
   mean-rise s b x l =
       let k : s ≤ x + b * n = omega (arith, mul-comm n b) in
-      omega (arith, mean-mono k, mean-shift x b)
+      omega (arith, mean-mono n some-n k, mean-shift n some-n x b)
 
   pub fall-room : (x : ℕ) → x ≤ n * x
   fall-room x = omega (arith, mul-le-mul-right x some-n, one-mul x)
@@ -103,10 +64,10 @@ module _ (n : ℕ) (some-n : 0 < n) where
   unfolding fall
   mean-fall s a x l =
       let k : n * x - x + a * n ≤ s + x * n = omega (arith, mul-comm n a, mul-comm n x, fall-room x) in
-      omega (arith, mean-mono k, mean-shift (n * x - x) a, mean-shift s x)
+      omega (arith, mean-mono n some-n k, mean-shift n some-n (n * x - x) a, mean-shift n some-n s x)
 
   pub fall-least : (x : ℕ) → mean-nat n (n * x - x) ≤ x
-  fall-least x = mean-upper (n * x - x) x (omega arith)
+  fall-least x = mean-upper n some-n (n * x - x) x (omega arith)
 
   pub fall-le : (x : ℕ) → fall n x ≤ x
   unfolding fall
@@ -114,7 +75,7 @@ module _ (n : ℕ) (some-n : 0 < n) where
 
   pub rise-ceil : (x : ℕ) → rise n x ≤ ceilDiv x n
   unfolding rise
-  rise-ceil x = omega (arith, mean-close x 0 x (omega arith), mean-zero)
+  rise-ceil x = omega (arith, mean-close x 0 x (omega arith), mean-zero n some-n)
 
   pub fall-rise : (x : ℕ) → fall n x ≤ rise n x
   unfolding fall rise
@@ -139,7 +100,7 @@ module _ (n : ℕ) (some-n : 0 < n) where
   unfolding rise fall
   rise-fall-ceil x =
       let c = mean-close (x + x * n) (n * x - x) (2 * x) (omega (arith, fall-room x, mul-comm n x)) in
-      omega (arith, mean-shift x x, fall-least x)
+      omega (arith, mean-shift n some-n x x, fall-least x)
 
   -- numbers that stray by d times w from others: their means stray by at most the sum of d times w, over n, rounded up
   module _ (w : ℕ) (d : ℕ → ℕ) (most : ℕ) (sums : total d n ≤ most) where
@@ -156,16 +117,3 @@ module _ (n : ℕ) (some-n : 0 < n) where
         (f g : ℕ → ℕ) → ((i : ℕ) → i < n → f i ≤ g i + d i * w)
         → mean-nat n (total f n) ≤ mean-nat n (total g n) + ceilDiv (most * w) n
     mean-stray f g h = mean-close (total f n) (total g n) (most * w) (total-close f g h)
-
-  -- the mean of numbers between two bounds lies between them
-  pub mean-above : (f : ℕ → ℕ) (a : ℕ) → ((i : ℕ) → i < n → a ≤ f i) → a ≤ mean-nat n (total f n)
-  mean-above f a h =
-      let t = total-mono (λ _. a) f n h in
-      let c = total-const a n in
-      mean-lower (total f n) a (omega arith)
-
-  pub mean-below : (f : ℕ → ℕ) (b : ℕ) → ((i : ℕ) → i < n → f i ≤ b) → mean-nat n (total f n) ≤ b
-  mean-below f b h =
-      let t = total-mono f (λ _. b) n h in
-      let c = total-const b n in
-      mean-upper (total f n) b (omega arith)

@@ -13,7 +13,7 @@ use Rattle.arithmetic.proofs.Bools.{both-ways, and-left, and-right, and-intro}
 use Rattle.arithmetic.proofs.Counting.{count-mono, count-not}
 use Rattle.limit_laws.proofs.Acceptance.{insideSpan, inside-low, inside-high, NatSpan}
 use Rattle.limit_laws.proofs.Counts.{count-split}
-use Rattle.limit_laws.proofs.Ranks.{Numbered}
+use Rattle.value_laws.proofs.Ranks.{Numbered}
 
 -- the one accepts t and the other does not
 abbrev pub alone : (ℕ → Bool) → (ℕ → Bool) → ℕ → Bool

@@ -26,7 +26,7 @@ use Rattle.text.specs.Text.{textIn, roundCapacity, refusalCapacity, roundWritte
 use Rattle.text.proofs.Texts.{text-shown}
 use Rattle.text.proofs.Listings.{listing-refused, listing-settled}
 use Rattle.listing.specs.Listed.{listingIn}
-use Rattle.demand_1_2.proofs.Sheets.{settled-estimate, settled-value, settled-used}
+use Rattle.value_laws.proofs.Sheets.{settled-estimate, settled-value, settled-used}
 
 -- ---- the part of the input that is read
 

@@ -7,7 +7,7 @@ use Prim.Native.Nat.{ℕ, _+_, _*_, _-_, _/_, _≤_, _<_}
 use native.Mathlib.Nat.{add-mul, mul-add, mul-comm, add-mul-div-right, div-eq-of-lt}
 use native.Mathlib.Omega.{arith}
 use Rattle.round_laws.specs.Naturals.{mean-nat}
-use Rattle.limit_laws.proofs.Means.{mean-shift}
+use Rattle.value_laws.proofs.Means.{mean-shift}
 
 -- a sum of at least half of n, and less than n and a half, has the mean 1
 mean-one : (n s : ℕ) → 0 < n → n ≤ 2 * s → 2 * s < 3 * n → mean-nat n s ≡ 1

@@ -19,7 +19,7 @@ use Rattle.model.specs.RoundSheet.{fca, median}
 use Rattle.model.specs.Steps.{mean}
 use Rattle.model.specs.Cases.{settings}
 use Rattle.round_laws.specs.Naturals.{mean-nat}
-use Rattle.limit_laws.proofs.Means.{mean-mono, mean-lower}
+use Rattle.value_laws.proofs.Means.{mean-mono, mean-lower}
 use Rattle.limit_laws.proofs.Settled.{Receiver, accepts, usedBy, valueBy}
 use Rattle.demand_3.specs.Guarantee.{Station, State, Sends, start, next, newValue, apart}
 use Rattle.demand_3.specs.Witnesses.{below}

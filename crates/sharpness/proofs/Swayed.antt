@@ -21,8 +21,8 @@ use Rattle.round_laws.specs.Naturals.{estimate-nat}
 use Rattle.limit_laws.proofs.Acceptance.{insideSpan, inside-intro, inside-low, inside-high}
 use Rattle.limit_laws.proofs.Acceptance.{NatSpan, accepted-in-span, span-accepted}
 use Rattle.limit_laws.proofs.Counts.{count-split}
-use Rattle.limit_laws.proofs.Estimates.{median-numbered}
-use Rattle.limit_laws.proofs.Ranks.{Numbered}
+use Rattle.value_laws.proofs.Estimates.{median-numbered}
+use Rattle.value_laws.proofs.Ranks.{Numbered}
 use Rattle.limit_laws.proofs.Settled.{Receiver, accepts, estimateBy, usedBy, used-accepted, used-replaced}
 use Rattle.sharpness.proofs.Intervals.{between, between-low, between-high, count-below, count-between, total-two}
 

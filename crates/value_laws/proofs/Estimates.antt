@@ -13,8 +13,8 @@ use Rattle.arithmetic.specs.Naturals.{total}
 use Rattle.arithmetic.proofs.Sums.{total-mono, total-scale, count-total}
 use Rattle.model.specs.RoundSheet.{average, median}
 use Rattle.round_laws.specs.Naturals.{numbered-nat, average-nat, median-nat, midpoint-nat, estimate-nat, used-nat}
-use Rattle.limit_laws.proofs.Extremes.{LeastOf, GreatestOf}
-use Rattle.limit_laws.proofs.Ranks.{Numbered, numbered-found}
+use Rattle.value_laws.proofs.Extremes.{LeastOf, GreatestOf}
+use Rattle.value_laws.proofs.Ranks.{Numbered, numbered-found}
 
 pub record Between (a b y : ℕ) : Type 0 where
   pub low : a ≤ y

@@ -29,7 +29,7 @@ use Rattle.refusal_laws.proofs.Checks.{next-none-left, next-none-right, when-no
 use Rattle.sheet_laws.proofs.Orders.{settle-checks}
 use Rattle.refusal_laws.proofs.Limits.{limits}
 use Rattle.sheet_laws.proofs.Checks.{settings-passed}
-use Rattle.demand_1_2.proofs.Values.{estimate-fits, used-fits, value-fits}
+use Rattle.value_laws.proofs.Fits.{estimate-fits, used-fits, value-fits}
 
 -- 32 bits hold the ticks of a reading
 abbrev Holds : Reading → Type 0
@@ -99,7 +99,8 @@ module _ (s : List ℕ) (small : (j : ℕ) → byte s j < 256) where
     some-accepted : 0 < roundAt s .count
     unfolding tooManyFaults
     some-accepted =
-        pos-of-ne-zero (λ z. clash (eq-eqb (roundAt s .count) 0 z) (when-none (eqb (roundAt s .count) 0) tooManyFaultsNumber few-faults))
+        let count = roundAt s .count in
+        pos-of-ne-zero (λ z. clash (eq-eqb count 0 z) (when-none (eqb count 0) tooManyFaultsNumber few-faults))
 
     pub settled-estimate : SFits w32 (roundAt s .estimate)
     unfolding roundAt

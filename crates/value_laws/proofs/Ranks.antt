@@ -15,7 +15,7 @@ use Rattle.arithmetic.specs.Counting.{count, lowest}
 use Rattle.arithmetic.proofs.Bools.{both-ways, clash, and-left, and-right, and-intro}
 use Rattle.arithmetic.proofs.Counting.{count-mono, count-pos, lowest-cases}
 use Rattle.round_laws.specs.Naturals.{nat-at, is-numbered, numbered-nat}
-use Rattle.limit_laws.proofs.Extremes.{LeastOf, GreatestOf, least, greatest}
+use Rattle.value_laws.proofs.Extremes.{LeastOf, GreatestOf, least, greatest}
 
 pub record Numbered (acc : ℕ → Bool) (n : ℕ) (x : ℕ → ℕ) (h e : ℕ) : Type 0 where
   pub index : ℕ

@@ -98,13 +98,13 @@ module _ (marks values : List ℕ) where
 
     -- what replaces the missing readings
     pub replaced-small :
-        (e : ℕ) → e < twoTo32 → (length marks - r .count) * e ≤ 4294967295 * (length marks - r .count)
+        (e : ℕ) → e < twoTo32 → (length marks - r .count) * e ≤ (twoTo32 - 1) * (length marks - r .count)
     replaced-small e l =
-        let m : e ≤ 4294967295 = omega arith in
+        let m : e ≤ twoTo32 - 1 = omega arith in
         let missing = length marks - r .count in
-        omega (arith, mul-comm missing 4294967295, mul-le-mul-left missing m)
+        omega (arith, mul-comm missing (twoTo32 - 1), mul-le-mul-left missing m)
 
-    pub used-small : (e : ℕ) → e < twoTo32 → r .sum + (length marks - r .count) * e ≤ 4294967295 * length marks
+    pub used-small : (e : ℕ) → e < twoTo32 → r .sum + (length marks - r .count) * e ≤ (twoTo32 - 1) * length marks
     used-small e l = omega (arith, count-few, gathered .small, replaced-small e l)
 
     module _ (kind : ℕ) (some : 0 < r .count) where

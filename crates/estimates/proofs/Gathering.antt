@@ -7,7 +7,7 @@ use mathlib.Core.Bool.{true, false}
 use mathlib.Core.List.{List}
 use mathlib.Core.Logic.{_⊎_, inl, inr, ⊎-elim}
 use mathlib.Core.Path.{_≡_, refl, sym, _∙_}
-use Prim.Native.Nat.{ℕ, _+_, _*_, min, max, _≤_, _<_, zero-le}
+use Prim.Native.Nat.{ℕ, _+_, _*_, _-_, min, max, _≤_, _<_, zero-le}
 use native.Mathlib.Nat.{not-suc-le-zero, add-zero, min-le-left, min-eq-right, le-max-right, max-eq-left}
 use native.Mathlib.Omega.{arith}
 use borrow.Author.Count.{below-more}
@@ -36,9 +36,9 @@ module _ (marks values : List ℕ) where
 
   pub record LowSoFar (low t : ℕ) : Type 0 where
     pub most : (j : ℕ) → j < t → AtMost low j
-    pub at : (low ≡ 4294967295) ⊎ Taken low
+    pub at : (low ≡ twoTo32 - 1) ⊎ Taken low
 
-  least-none : LowSoFar 4294967295 0
+  least-none : LowSoFar (twoTo32 - 1) 0
   least-none = record { most = λ j l. absurd (not-suc-le-zero l); at = inl refl }
 
   module _ (low t : ℕ) (so-far : LowSoFar low t) where
@@ -87,11 +87,11 @@ module _ (marks values : List ℕ) where
   pub record Gathered (n a low high t : ℕ) : Type 0 where
     pub counts : Counts (presentIn marks) (length marks) n t
     pub adds : Adds (usedAt marks values 0) (length marks) a t
-    pub bounded : a ≤ 4294967295 * n
+    pub bounded : a ≤ (twoTo32 - 1) * n
     pub least : LowSoFar low t
     pub greatest : HighSoFar high t
 
-  pub gather-none : Gathered 0 0 4294967295 0 0
+  pub gather-none : Gathered 0 0 (twoTo32 - 1) 0 0
   gather-none =
       record {
         counts = count-none (presentIn marks) (length marks);
@@ -146,7 +146,7 @@ module _ (marks values : List ℕ) where
               (λ j k p. rw (w .3) (so-far .least .most j (omega arith) p))
               ∙ w .3)
 
-          top-taken : low ≡ 4294967295 → Taken low
+          top-taken : low ≡ twoTo32 - 1 → Taken low
           top-taken e =
               let m = so-far .least .most (one .0) (omega (arith, one .1)) (one .2) in
               (one .0, one .1, one .2, omega (arith, small (one .0)))

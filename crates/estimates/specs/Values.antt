@@ -13,13 +13,13 @@
 use mathlib.Core.Bool.{cond}
 use mathlib.Core.List.{List}
 use mathlib.Core.Path.{_≡_}
-use Prim.Native.Nat.{ℕ, _*_, _≤_, _<_}
+use Prim.Native.Nat.{ℕ, _*_, _-_, _≤_, _<_}
 use lib.Dec.{eqb}
 use lib.IntN.{ℤ}
 use lib.ListN.{length}
 use Rattle.arithmetic.specs.Counting.{count, sum}
 use Rattle.arithmetic.specs.Naturals.{up, total}
-use Rattle.arithmetic.specs.Words.{twoTo31}
+use Rattle.arithmetic.specs.Words.{twoTo31, twoTo32}
 use Rattle.model.specs.Steps.{estimate, mean, usedValue}
 use Rattle.model.specs.Ensemble.{maxCabinets}
 use Rattle.round_laws.specs.Naturals.{estimate-nat, used-nat}
@@ -67,7 +67,7 @@ usedAt marks values e = used-nat (presentIn marks) (valueAt values) e
 pub record Summarizes (r : Summary) (marks values : List ℕ) : Type 0 where
   pub counted : r .count ≡ presentCount marks
   pub added : r .sum ≡ total (usedAt marks values 0) (length marks)
-  pub small : r .sum ≤ 4294967295 * r .count
+  pub small : r .sum ≤ (twoTo32 - 1) * r .count
   pub lowest : 0 < presentCount marks → r .low ≡ numberedAt marks values 1
   pub highest : 0 < presentCount marks → r .high ≡ numberedAt marks values (presentCount marks)
 

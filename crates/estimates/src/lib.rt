@@ -44,7 +44,7 @@ fn summarize(marks: &[u8], values: &[u32]) -> Summary
 {
     let mut count: u32 = 0;
     let mut sum: u64 = 0;
-    let mut low: u32 = 4_294_967_295;
+    let mut low = u32::MAX;
     let mut high: u32 = 0;
     let mut t = 0;
     'readings: while t < marks.len() {

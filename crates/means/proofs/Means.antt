@@ -2,7 +2,7 @@
 -- Assumes nothing.
 use mathlib.Core.Bool.{Bool, true, false}
 use mathlib.Core.Path.{_≡_, sym, _∙_}
-use Prim.Native.Nat.{ℕ, _+_, _*_, _/_, _≤_, _<_}
+use Prim.Native.Nat.{ℕ, _+_, _*_, _-_, _/_, _≤_, _<_}
 use native.Mathlib.Omega.{arith}
 use borrow.Author.Tests.{lt-ltb, le-leb, ltb-true, leb-true}
 use lib.Dec.{leb, ltb}
@@ -14,15 +14,16 @@ use Rattle.means.specs.Means.{summable, floorMean, nearestMean}
 use Rattle.means.proofs.Dividing.{div-less}
 
 module _ (n s : ℕ) where
-  pub summable-intro : 0 < n → n ≤ maxCabinets → s ≤ 4294967295 * n → summable n s ≡ true
-  summable-intro h l m = and-intro (lt-ltb 0 n h) (and-intro (le-leb n maxCabinets l) (le-leb s (4294967295 * n) m))
+  pub summable-intro : 0 < n → n ≤ maxCabinets → s ≤ (twoTo32 - 1) * n → summable n s ≡ true
+  summable-intro h l m =
+      and-intro (lt-ltb 0 n h) (and-intro (le-leb n maxCabinets l) (le-leb s ((twoTo32 - 1) * n) m))
 
   -- where the test said that they are
   module _ {b : Bool} (tested : b ≡ summable n s) (passed : b ≡ true) where
     pub passes : summable n s ≡ true
     passes = sym tested ∙ passed
 
-    rest : leb n maxCabinets ≡ true × leb s (4294967295 * n) ≡ true
+    rest : leb n maxCabinets ≡ true × leb s ((twoTo32 - 1) * n) ≡ true
     rest =
         let r = and-right (ltb 0 n) _ passes in
         (and-left (leb n maxCabinets) _ r, and-right (leb n maxCabinets) _ r)
@@ -33,8 +34,8 @@ module _ (n s : ℕ) where
     pub few : n ≤ maxCabinets
     few = leb-true n maxCabinets (rest .0)
 
-    pub small : s ≤ 4294967295 * n
-    small = leb-true s (4294967295 * n) (rest .1)
+    pub small : s ≤ (twoTo32 - 1) * n
+    small = leb-true s ((twoTo32 - 1) * n) (rest .1)
 
     pub floor-fits : s / n < twoTo32
     floor-fits = div-less s twoTo32 n some (omega (arith, some, small))

@@ -1,23 +1,24 @@
 // Means of at most 64 numbers of 32 bits, by how many they are and by their sum.
 ghost use mathlib.Core.Path.{_≡_};
-ghost use Prim.Native.Nat.{_/_, _≤_, _<_};
+ghost use Prim.Native.Nat.{_*_, _/_, _≤_, _<_};
+ghost use Rattle.arithmetic.specs.Words.{twoTo32};
+ghost use Rattle.model.specs.Ensemble.{maxCabinets};
 ghost use Rattle.means.specs.Means.{summable, floorMean, nearestMean};
+use model::MAX_CABINETS;
 
 // The middle of the numbers of 32 bits.
 const MIDDLE: u64 = 2_147_483_648;
-
-const MAX: u64 = 4_294_967_295;
 
 // Whether so many numbers, of which there are at least one and at most 64, can have this sum.
 fn summable(n: u32, sum: u64) -> bool
     ensures { λ r. ⌜ r ≡ summable n sum ⌝ }
 {
-    (0 < n) & ((n <= 64) & (sum <= MAX * (n as u64)))
+    (0 < n) & ((n <= (MAX_CABINETS as u32)) & (sum <= (u32::MAX as u64) * (n as u64)))
 }
 
 // sum / by. Where the numbers summed are near the middle, what is divided is small.
 fn divide(sum: u64, by: u64) -> u64
-    requires { ⌜ (0 < by) × (by ≤ 128) × (sum < 1099511627776) ⌝ }
+    requires { ⌜ (0 < by) × (by ≤ 2 * maxCabinets) × (sum < 256 * twoTo32) ⌝ }
     ensures { λ r. ⌜ r ≡ sum / by ⌝ }
 {
     let middle = by * MIDDLE;

@@ -51,7 +51,7 @@ module _ (marks values : List ℕ) where
       → b ≡ unfit (length marks) (length values)
       → b ≡ false
       → ((j : ℕ) → valueAt values j < twoTo32)
-      → Narrowed h 0 4294967295 0
+      → Narrowed h 0 (twoTo32 - 1) 0
   narrow-none h e f small =
       record {
         few = fit-few (length marks) (length values) (sym e ∙ f);
@@ -109,7 +109,7 @@ module _ (marks values : List ℕ) where
 
     -- the number at t is too low
     pub narrow-low :
-        countUpTo marks values here < h → (w : ℕ) → w ≡ min (here + 1) 4294967295 → Narrowed h w high (t + 1)
+        countUpTo marks values here < h → (w : ℕ) → w ≡ min (here + 1) (twoTo32 - 1) → Narrowed h w high (t + 1)
     narrow-low m w e =
         record {
           few = so-far .few;

@@ -4,6 +4,7 @@ ghost use mathlib.Core.Bool.{_&&_};
 ghost use Prim.Native.Nat.{_+_, _-_, min, _≤_};
 ghost use lib.Dec.{leb, eqb};
 ghost use lib.ListN.{length};
+ghost use Rattle.arithmetic.specs.Words.{twoTo32};
 ghost use Rattle.model.specs.Ensemble.{maxCabinets};
 ghost use Rattle.selection.specs.Order.{countBelow, countUpTo, numberedOf};
 use held::PRESENT;
@@ -51,9 +52,9 @@ fn previous(v: u32) -> u32
 
 // The number after v; the highest stays.
 fn next(v: u32) -> u32
-    ensures { λ r. ⌜ r ≡ min (v + 1) 4294967295 ⌝ }
+    ensures { λ r. ⌜ r ≡ min (v + 1) (twoTo32 - 1) ⌝ }
 {
-    if v < 4_294_967_295 { v + 1 } else { v }
+    if v < u32::MAX { v + 1 } else { v }
 }
 
 // The present reading numbered h from below, counting from 1, or the reading 0 where there is none. A number that is
@@ -65,7 +66,7 @@ pub fn numbered(marks: &[u8], values: &[u32], h: u32) -> u32
         return ZERO;
     }
     let mut low: u32 = 0;
-    let mut high: u32 = 4_294_967_295;
+    let mut high = u32::MAX;
     let mut t = 0;
     'candidates: while t < marks.len() {
         let v = values[t];

@@ -1,12 +1,9 @@
 // Document 01, "The answer sheet": its fields, read from any bytes. Estimate, new value and used value are the 32 bits
 // of a signed number, which `tick::Tick::from_bits` reads.
 ghost use mathlib.Core.Path.{_≡_};
-ghost use mathlib.Core.Bool.{_||_};
-ghost use lib.Dec.{eqb, ltb};
 ghost use Rattle.refusals.specs.Answers.{checkOf};
 ghost use Rattle.model.specs.Refusals.{firstOf};
 ghost use Rattle.model.specs.Calls.{verdict};
-ghost use Rattle.model.specs.Ensemble.{maxCabinets};
 ghost use Rattle.answer_reader.specs.Fields.{answerChecks, cabinetChecks, shownOf};
 ghost use Rattle.answer_reader.specs.Fields.{cabinetsIn, countIn, estimateIn, valueIn, markIn, usedIn};
 use model::ANSWER_HEADER_SIZE;
@@ -22,51 +19,24 @@ pub enum Shown {
     Refused(Refusal),
 }
 
-fn bad_cabinets(n: usize) -> bool
-    ensures { λ r. ⌜ r ≡ (eqb n 0 || ltb maxCabinets n) ⌝ }
-{
-    (n == 0) | (64 < n)
-}
-
 // Whether the bytes are an answer sheet: 1 to 64 cabinets, 10 + 5N bytes.
 fn check(answer: &[u8]) -> Screened
     ensures { λ r. ⌜ checkOf r ≡ firstOf (answerChecks (now (answer .entry))) ⌝ }
 {
-    let n = words::byte_at(answer, 0) as usize;
-    if bad_cabinets(n) {
-        return Screened::Refused(Refusal {
-            number: BAD_CABINETS,
-            place: 0,
-        });
-    }
-    if answer.len() == ANSWER_HEADER_SIZE + 5 * n {
-        Screened::Passed
-    } else {
-        Screened::Refused(Refusal {
-            number: BAD_LENGTH,
-            place: 0,
-        })
-    }
+    let n = words::byte_at(answer, 0);
+    let wanted = sheet_sizes::answer_length(n);
+    let cabinets = refusals::refuse_if(settings_checks::bad_cabinets(n), BAD_CABINETS);
+    let length = refusals::refuse_if(answer.len() != wanted, BAD_LENGTH);
+    refusals::first_of(cabinets, length)
 }
 
 // Whether they are one that has the cabinet.
 fn check_cabinet(answer: &[u8], cabinet: u32) -> Screened
     ensures { λ r. ⌜ checkOf r ≡ firstOf (cabinetChecks (now (answer .entry)) cabinet) ⌝ }
 {
-    match check(answer) {
-        Screened::Refused(first) => Screened::Refused(first),
-        Screened::Passed => {
-            let n = words::byte_at(answer, 0) as u32;
-            if n <= cabinet {
-                Screened::Refused(Refusal {
-                    number: NO_ROOM,
-                    place: 0,
-                })
-            } else {
-                Screened::Passed
-            }
-        }
-    }
+    let n = words::byte_at(answer, 0) as u32;
+    let room = refusals::refuse_if(n <= cabinet, NO_ROOM);
+    refusals::first_of(check(answer), room)
 }
 
 // The number, unless the sheet is refused.

@@ -17,7 +17,8 @@ use model::MIDPOINT;
 use model::Settings;
 use refusals::Screened;
 
-fn bad_cabinets(n: u8) -> bool
+// Whether a round cannot have that many cabinets.
+pub fn bad_cabinets(n: u8) -> bool
     ensures { λ r. ⌜ r ≡ (eqb n 0 || ltb maxCabinets n) ⌝ }
 {
     (n == 0) | (MAX_CABINETS < n)

@@ -1,6 +1,8 @@
-// Document 01, "The round sheet": the sizes that its first bytes say, and the lengths that follow from them.
+// Document 01, "The round sheet" and "The answer sheet": the sizes that the first bytes say, and the lengths that follow.
 ghost use mathlib.Core.Path.{_≡_};
 ghost use Rattle.model.specs.RoundSheet.{settingsAt, entryCount, sheetLength};
+ghost use Rattle.model.specs.AnswerSheet.{answerLength};
+use model::ANSWER_HEADER_SIZE;
 use model::CCA;
 use model::HEADER_SIZE;
 use model::Settings;
@@ -34,4 +36,11 @@ pub fn sheet_length(settings: Settings) -> usize
     ensures { λ r. ⌜ r ≡ sheetLength settings ⌝ }
 {
     HEADER_SIZE + 5 * entry_count(settings)
+}
+
+// The bytes of an answer sheet for so many cabinets.
+pub fn answer_length(n: u8) -> usize
+    ensures { λ r. ⌜ r ≡ answerLength n ⌝ }
+{
+    ANSWER_HEADER_SIZE + 5 * (n as usize)
 }

@@ -1,60 +1,60 @@
--- `answer_reader::check` meets its contract: at each answer the tests that led there say which check refuses first.
+-- `answer_reader::check` meets its contract: it takes the first of checks 2 and 6.
 -- Assumes nothing.
 use borrow.Author.Needs.{needs}
-use mathlib.Core.Path.{sym, _∙_}
-use Rattle.answer_reader.proofs.Checks.{cabinets-refuse, length-refuses, answer-passes}
+use lib.ListN.{length}
+use Rattle.model.specs.RoundSheet.{byte}
+use Rattle.model.specs.AnswerSheet.{answerLength}
+use Rattle.model.specs.Refusals.{firstOf, badCabinets, badLength}
+use Rattle.refusal_laws.proofs.Checks.{next-none}
+use Rattle.answer_reader.specs.Fields.{answerChecks}
 use Rattle.answer_reader.proofs.check.Statement.{statement}
 use Rattle.answer_reader.proofs.check.Tie as tie
 
 byte-at-requires : tie.Need-byte-at-requires
 byte-at-requires c κs = search needs
 
-cast-n : tie.Need-cast-n
-cast-n c = search needs
+answer-length-requires : tie.Need-answer-length-requires
+answer-length-requires c κs = search needs
 
 bad-cabinets-requires : tie.Need-bad-cabinets-requires
 bad-cabinets-requires c κs = search needs
 
+refuse-if-requires : tie.Need-refuse-if-requires
+refuse-if-requires c κs = search needs
+
+refuse-if-requires-2 : tie.Need-refuse-if-requires-2
+refuse-if-requires-2 c κs = search needs
+
+first-of-requires : tie.Need-first-of-requires
+first-of-requires c κs = search needs
+
 returns : tie.Need-returns
+unfolding firstOf answerChecks badCabinets badLength
 returns c =
-    let at-test = c .before in
-    let at-byte = at-test .before in
-    cabinets-refuse (at-byte .before .before .args .answer .now) (at-byte .byte-at .result) (at-byte .byte-at .ensures)
-    (sym (at-test .bad-cabinets .ensures) ∙ c .if1 .taken)
-
-mul-if2 : tie.Need-mul-if2
-mul-if2 c = search needs
-
-add-if2 : tie.Need-add-if2
-add-if2 c = search needs
-
-returns-2 : tie.Need-returns-2
-returns-2 c =
-    let at-if1 = c .before in
-    let at-test = at-if1 .before in
-    let at-byte = at-test .before in
-    answer-passes (at-byte .before .before .args .answer .now) (at-byte .byte-at .result) (at-byte .byte-at .ensures)
-    (sym (at-test .bad-cabinets .ensures) ∙ at-if1 .if1 .left)
-    (c .if2 .taken)
-
-returns-3 : tie.Need-returns-3
-returns-3 c =
-    let at-if1 = c .before in
-    let at-test = at-if1 .before in
-    let at-byte = at-test .before in
-    length-refuses (at-byte .before .before .args .answer .now) (at-byte .byte-at .result) (at-byte .byte-at .ensures)
-    (sym (at-test .bad-cabinets .ensures) ∙ at-if1 .if1 .left)
-    (c .if2 .left)
+    let long = c .before in
+    let cabinets = long .before in
+    let tested = cabinets .before in
+    let wanted = tested .before in
+    let read = wanted .before in
+    let answer = read .before .before .args .answer .now in
+    rw (
+      c .first-of .ensures,
+      long .refuse-if2 .ensures,
+      cabinets .refuse-if .ensures,
+      tested .bad-cabinets .ensures,
+      wanted .answer-length .ensures,
+      read .byte-at .ensures,
+      next-none (badLength (length answer) (answerLength (byte answer 0))),
+    )
 
 pub check-spec : {M : Type 1} → statement M
 check-spec =
     tie.close
     (tie.spec
     byte-at-requires
-    cast-n
+    answer-length-requires
     bad-cabinets-requires
-    returns
-    mul-if2
-    add-if2
-    returns-2
-    returns-3)
+    refuse-if-requires
+    refuse-if-requires-2
+    first-of-requires
+    returns)

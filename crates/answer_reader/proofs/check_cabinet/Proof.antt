@@ -1,20 +1,18 @@
 -- `answer_reader::check_cabinet` meets its contract: a refusal of the sheet stands, and else the cabinet is below N or not.
 -- Assumes nothing.
 use borrow.Author.Needs.{needs}
-use mathlib.Core.Path.{sym, ap, _∙_}
-use Rattle.refusals.specs.Answers.{checkOf}
-use Rattle.answer_reader.proofs.Checks.{sheet-refuses, cabinet-refuses, cabinet-passes}
+use borrow.Author.Tests.{leb-true, leb-false, lt-ltb, le-ltb}
+use mathlib.Core.Bool.{Bool, true, false}
+use mathlib.Core.Path.{_≡_, refl, sym}
+use Prim.Native.Nat.{ℕ, _+_}
+use native.Mathlib.Omega.{arith}
+use lib.Dec.{leb, ltb}
+use Rattle.model.specs.RoundSheet.{byte}
+use Rattle.model.specs.Refusals.{noRoom}
+use Rattle.refusal_laws.proofs.Checks.{first-snoc}
+use Rattle.answer_reader.specs.Fields.{answerChecks, cabinetChecks}
 use Rattle.answer_reader.proofs.check_cabinet.Statement.{statement}
 use Rattle.answer_reader.proofs.check_cabinet.Tie as tie
-
-check-requires : tie.Need-check-requires
-check-requires c κs = search needs
-
-enum-known-first : tie.Need-enum-known-first
-enum-known-first c = search needs
-
-enum-told : tie.Need-enum-told
-enum-told c = search needs
 
 byte-at-requires : tie.Need-byte-at-requires
 byte-at-requires c κs = search needs
@@ -22,40 +20,40 @@ byte-at-requires c κs = search needs
 cast-n : tie.Need-cast-n
 cast-n c = search needs
 
+refuse-if-requires : tie.Need-refuse-if-requires
+refuse-if-requires c κs = search needs
+
+check-requires : tie.Need-check-requires
+check-requires c κs = search needs
+
+first-of-requires : tie.Need-first-of-requires
+first-of-requires c κs = search needs
+
+-- n is at most r where it is below r + 1
+at-most : (n r : ℕ) → leb n r ≡ ltb n (r + 1)
+at-most n r = go (leb n r) refl
+  where
+    go : (b : Bool) → leb n r ≡ b → b ≡ ltb n (r + 1)
+    go true e = let h = leb-true n r e in sym (lt-ltb n (r + 1) (omega arith))
+    go false e = let h = leb-false n r e in sym (le-ltb n (r + 1) (omega arith))
+
 returns : tie.Need-returns
+unfolding cabinetChecks noRoom
 returns c =
-    let at-first = c .before in
-    let at-check = at-first .before .before in
-    let a = at-check .before .before .args in
-    sheet-refuses (a .answer .now) (a .cabinet) (sym (ap checkOf (at-first .first .given .1)) ∙ at-check .check .ensures)
-
-returns-2 : tie.Need-returns-2
-returns-2 c =
-    let at-byte = c .before in
-    let at-told = at-byte .before in
-    let at-check = at-told .before .before in
-    let a = at-check .before .before .args in
-    cabinet-refuses (a .answer .now) (a .cabinet) (sym (ap checkOf (at-told .enum-told .given .1)) ∙ at-check .check .ensures)
-    (at-byte .byte-at .result) (at-byte .byte-at .ensures) (c .if1 .taken)
-
-returns-3 : tie.Need-returns-3
-returns-3 c =
-    let at-byte = c .before in
-    let at-told = at-byte .before in
-    let at-check = at-told .before .before in
-    let a = at-check .before .before .args in
-    cabinet-passes (a .answer .now) (a .cabinet) (sym (ap checkOf (at-told .enum-told .given .1)) ∙ at-check .check .ensures)
-    (at-byte .byte-at .result) (at-byte .byte-at .ensures) (c .if1 .left)
+    let checked = c .before in
+    let room = checked .before in
+    let read = room .before in
+    let a = read .before .before .args in
+    rw (
+      c .first-of .ensures,
+      checked .check .ensures,
+      room .refuse-if .ensures,
+      at-most (read .byte-at .result) (a .cabinet),
+      read .byte-at .ensures,
+      first-snoc (answerChecks (a .answer .now)) (noRoom (byte (a .answer .now) 0) (a .cabinet + 1)),
+    )
 
 pub check-cabinet-spec : {M : Type 1} → statement M
 check-cabinet-spec =
     tie.close
-    (tie.spec
-    check-requires
-    enum-known-first
-    enum-told
-    byte-at-requires
-    cast-n
-    returns
-    returns-2
-    returns-3)
+    (tie.spec byte-at-requires cast-n refuse-if-requires check-requires first-of-requires returns)

@@ -33,7 +33,7 @@ pub fn check(sheet: &[u8], marks: usize, readings: usize) -> Opened
             match check_room(settings, marks, readings) {
                 Screened::Refused(r) => Opened::Refused(r),
                 Screened::Passed => {
-                    let entries = sheet_checks::check_entries(sheet, settings);
+                    let entries = entry_checks::check_entries(sheet, settings);
                     sheet_checks::unless_refused(entries, settings)
                 }
             }

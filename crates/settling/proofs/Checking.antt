@@ -19,7 +19,7 @@ use Rattle.sheet_laws.proofs.Checks.{room-pass}
 use Rattle.sheet_laws.proofs.Outcomes.{refused-some, granted-none, granted-same}
 use Rattle.sheet_laws.proofs.Orders.{row-checks, settle-checks}
 use Rattle.sheet_laws.proofs.Inspection.{inspected}
-use Rattle.sheet_checks.proofs.Body.{body-entries}
+use Rattle.entry_checks.proofs.Body.{body-entries}
 
 -- where checks 1 to 9 pass only check 10 is left
 pub sheet-passed : (s : List ℕ) → firstOf (rowChecks s) ≡ none → firstOf (sheetChecks s) ≡ none

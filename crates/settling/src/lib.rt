@@ -164,7 +164,7 @@ pub fn settle(sheet: &[u8], answer: &mut [u8]) -> Settled
                     place: 0,
                 });
             }
-            match sheet_checks::check_entries(sheet, settings) {
+            match entry_checks::check_entries(sheet, settings) {
                 Screened::Refused(r) => Settled::Refused(r),
                 Screened::Passed => settle_valid(sheet, settings, answer),
             }

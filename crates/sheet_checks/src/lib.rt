@@ -1,10 +1,8 @@
 // Document 01, "The round sheet" and "Numbers of refusal": the checks of a sheet.
 ghost use mathlib.Core.Path.{_≡_};
-ghost use mathlib.Core.List.{_∷_};
-ghost use lib.ListN.{length};
 ghost use Rattle.refusals.specs.Answers.{checkOf};
-ghost use Rattle.model.specs.RoundSheet.{settingsAt, entryCount, sheetLength, markAt, bitsAt};
-ghost use Rattle.model.specs.Refusals.{firstOf, badLength, arrayChecks, sheetChecks, rowChecks};
+ghost use Rattle.model.specs.RoundSheet.{settingsAt};
+ghost use Rattle.model.specs.Refusals.{firstOf, sheetChecks, rowChecks};
 ghost use Rattle.model.specs.Calls.{verdict};
 ghost use Rattle.sheet_checks.specs.Answers.{openedOf};
 use model::BAD_LENGTH;
@@ -44,23 +42,6 @@ pub fn inspect(sheet: &[u8]) -> Opened
     unless_refused(refusals::first_of(short, later), settings)
 }
 
-// Checks 6, 8 and 9 of a sheet with these settings.
-pub fn check_entries(sheet: &[u8], settings: Settings) -> Screened
-    ensures { λ r.
-        ⌜ checkOf r
-        ≡ firstOf (badLength (length (now (sheet .entry))) (sheetLength settings)
-        ∷ arrayChecks (markAt (now (sheet .entry)))
-        (bitsAt (now (sheet .entry)) (entryCount settings)) (entryCount settings)) ⌝ }
-{
-    if sheet.len() != sheet_sizes::sheet_length(settings) {
-        return Screened::Refused(refusals::refuse(BAD_LENGTH));
-    }
-    let body = HEADER_SIZE + sheet_sizes::entry_count(settings);
-    let marks = mark_checks::check(&sheet[HEADER_SIZE..body]);
-    let missing = missing_checks::check(&sheet[HEADER_SIZE..body], &sheet[body..]);
-    refusals::first_of(marks, missing)
-}
-
 // Checks 1 to 6, 8 and 9.
 pub fn validate(sheet: &[u8]) -> Opened
     ensures { λ r.
@@ -69,6 +50,9 @@ pub fn validate(sheet: &[u8]) -> Opened
 {
     match inspect(sheet) {
         Opened::Refused(r) => Opened::Refused(r),
-        Opened::Granted(settings) => unless_refused(check_entries(sheet, settings), settings),
+        Opened::Granted(settings) => unless_refused(
+            entry_checks::check_entries(sheet, settings),
+            settings,
+        ),
     }
 }

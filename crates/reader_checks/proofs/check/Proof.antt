@@ -7,7 +7,7 @@ use Rattle.refusals.specs.Answers.{checkOf}
 use Rattle.model.specs.RoundSheet.{settingsAt}
 use Rattle.model.specs.Refusals.{firstOf, sheetChecks}
 use Rattle.sheet_checks.specs.Answers.{openedOf}
-use Rattle.sheet_checks.proofs.Body.{body-entries}
+use Rattle.entry_checks.proofs.Body.{body-entries}
 use Rattle.sheet_laws.proofs.Outcomes.{refused-some}
 use Rattle.sheet_laws.proofs.Inspection.{Inspected, inspected}
 use Rattle.reader_checks.proofs.Opening.{reading-refused, room-refused, entries-decide}

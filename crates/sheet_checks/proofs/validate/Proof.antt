@@ -1,4 +1,5 @@
--- `sheet_checks::validate` meets its contract: what `inspect` and `check_entries` answer says which check refuses first.
+-- `sheet_checks::validate` meets its contract: what `inspect` and `check_entries` answer says which check refuses
+-- first.
 -- Assumes nothing.
 use borrow.Author.Needs.{needs}
 use mathlib.Core.Path.{sym, ap, ap₂, _∙_}
@@ -9,7 +10,7 @@ use Rattle.sheet_checks.specs.Answers.{openedOf}
 use Rattle.sheet_laws.proofs.Outcomes.{refused-some}
 use Rattle.sheet_laws.proofs.Orders.{row-checks}
 use Rattle.sheet_laws.proofs.Inspection.{inspected}
-use Rattle.sheet_checks.proofs.Body.{body-entries}
+use Rattle.entry_checks.proofs.Body.{body-entries}
 use Rattle.sheet_checks.proofs.validate.Statement.{statement}
 use Rattle.sheet_checks.proofs.validate.Tie as tie
 
@@ -35,8 +36,8 @@ returns c =
     let s = seen .before .before .args .sheet .now in
     let r = at-r .r .given .0 .0 in
     let refused =
-    refused-some (firstOf (sheetChecks s)) (settingsAt s) r (sym (seen .inspect .ensures) ∙ ap openedOf (at-r .r .given .1))
-    in
+    refused-some (firstOf (sheetChecks s)) (settingsAt s) r
+    (sym (seen .inspect .ensures) ∙ ap openedOf (at-r .r .given .1)) in
     sym
     (ap (λ (x : Check). verdict x (settingsAt s))
     (row-checks s ∙ ap (λ (x : Check). orNext x (firstOf (entryChecks s))) refused))

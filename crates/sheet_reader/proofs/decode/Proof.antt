@@ -1,7 +1,8 @@
--- `sheet_reader::decode` meets its contract. The loop's invariant: the readings passed are the sheet's, and the others are as they were. The
--- measure is the number of entries left. Assumes nothing.
+-- `sheet_reader::decode` meets its contract. The loop's invariant: the readings passed are the sheet's, and the others
+-- are as they were. The measure is the number of entries left.
+-- Assumes nothing.
 use mathlib.Core.Path.{_≡_, refl, ap, _∙_}
-use Prim.Native.Nat.{_-_, _≤_}
+use Prim.Native.Nat.{_+_, _*_, _-_, _≤_}
 use native.Mathlib.Omega.{arith}
 use lib.IntN.{ℤ}
 use lib.ListN.{length, length-set}
@@ -9,14 +10,16 @@ use mir.Syntax.{w32}
 use mir.Val.{toZ, ofZ}
 use mir.Facts.{ofZ-toZ}
 use Rattle.arithmetic.specs.Writing.{table, overwrite}
-use Rattle.model.specs.RoundSheet.{word, bitsAt}
+use Rattle.model.specs.RoundSheet.{headerSize, bitsAt}
 use Rattle.loop_laws.proofs.Loops.{store-none, store-next, store-ended}
+use Rattle.sheet_laws.proofs.Words.{word-joined}
 use Rattle.sheet_reader.proofs.decode.Statement.{statement}
 use Rattle.sheet_reader.proofs.decode.Tie as tie
 
 abbrev Inv-entries : tie.InvT-entries
 Inv-entries sheet entries readings₀ e₀ readings e =
-    (e ≤ entries) × (length readings ≡ length readings₀) × (readings ≡ overwrite (table (λ i. toZ w32 (bitsAt sheet entries i)) e) readings₀)
+    (e ≤ entries) × (length readings ≡ length readings₀)
+    × (readings ≡ overwrite (table (λ i. toZ w32 (bitsAt sheet entries i)) e) readings₀)
 
 abbrev μ-entries : tie.MeasureT-entries
 μ-entries sheet entries readings₀ e₀ readings e = entries - e
@@ -84,12 +87,15 @@ decoded :
     (c .before .before .before .before .before .before .before .before .before .before .args .sheet .now)
     (c .before .before .before .before .before .before .before .before .before .before .args .entries)
     (c .before .before .before .before .before .before .before .before .entries .e))
-unfolding word
 decoded c =
-    let join = c .before .before .join in
+    let joined = c .before .before in
+    let entries = joined .before .before .before .before .before .before .entries in
+    let a = joined .before .before .before .before .before .before .before .before .args in
+    let join = joined .join in
     ap (λ (z : ℤ). toZ w32 (ofZ w32 z)) (c .before .from-bits .ensures)
     ∙ ap (toZ w32) (ofZ-toZ {w = w32} (record { fits = join .ok }))
-    ∙ ap (toZ w32) (join .ensures)
+    ∙ ap (toZ w32)
+    (word-joined (a .sheet .now) (headerSize + a .entries + 4 * entries .e) (join .result) (join .ensures))
 
 entries-again : tie.Need-entries-again Inv-entries μ-entries
 entries-again c =

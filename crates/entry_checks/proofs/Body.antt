@@ -1,10 +1,10 @@
--- Checks 6, 8 and 9 of a sheet with given settings, by what is found in the parts of it that hold marks and readings; and
--- of a sheet that passes checks 1 to 6.
+-- Checks 6, 8 and 9 of a sheet with given settings, by what is found in the parts of it that hold marks and readings;
+-- and of a sheet that passes checks 1 to 6.
 -- Assumes nothing.
 use mathlib.Core.Bool.{false}
 use mathlib.Core.List.{List, _∷_}
 use mathlib.Core.Option.{Option, some}
-use mathlib.Core.Path.{_≡_, refl, sym, ap, ap₂, _∙_}
+use mathlib.Core.Path.{_≡_, sym, ap, ap₂, _∙_}
 use Prim.Native.Nat.{ℕ, _+_, _*_, _-_, _≤_}
 use native.Mathlib.Nat.{add-assoc}
 use native.Mathlib.Omega.{arith}
@@ -15,7 +15,7 @@ use lib.Seq.{length-take-le, getD-drop, take-all}
 use Rattle.model.specs.declared.Settings.{Settings}
 use Rattle.arithmetic.specs.Counting.{lowest}
 use Rattle.arithmetic.proofs.Counting.{lowest-ext}
-use Rattle.model.specs.RoundSheet.{byte, word, settingsAt, entryCount, sheetLength, markAt, bitsAt, headerSize}
+use Rattle.model.specs.RoundSheet.{byte, word, entryCount, sheetLength, markAt, bitsAt, headerSize}
 use Rattle.model.specs.Refusals.{Check, refusal, atEntry, orNext, firstOf, arrayChecks, entryChecks}
 use Rattle.model.specs.Refusals.{badLength, badMark, badMissing, notZero}
 use Rattle.model.specs.Refusals.{badLengthNumber, badMarkNumber, badMissingNumber}
@@ -105,7 +105,8 @@ module _ (s : List ℕ) (c : Settings) where
   module _ (long : length s ≡ sheetLength c) where
     -- of a sheet of its length checks 8 and 9 are left
     body-checks :
-        bodyChecks ≡ orNext (badMark (markAt s) (entryCount c)) (badMissing (markAt s) (bitsAt s (entryCount c)) (entryCount c))
+        bodyChecks
+        ≡ orNext (badMark (markAt s) (entryCount c)) (badMissing (markAt s) (bitsAt s (entryCount c)) (entryCount c))
     unfolding firstOf
     body-checks =
         rw (
@@ -132,4 +133,5 @@ pub body-entries :
 unfolding entryChecks firstOf
 body-entries s c i =
     rw (length-pass (length s) (sheetLength c) (i .long))
-    (ap (λ (d : Settings). firstOf (arrayChecks (markAt s) (bitsAt s (entryCount d)) (entryCount d))) (sym (i .settings)))
+    (ap (λ (d : Settings). firstOf (arrayChecks (markAt s) (bitsAt s (entryCount d)) (entryCount d)))
+    (sym (i .settings)))

@@ -1,4 +1,4 @@
--- `sheet_checks::check_entries` meets its contract: the length, and then what checks 8 and 9 answer of the parts of the
+-- `entry_checks::check_entries` meets its contract: the length, and then what checks 8 and 9 answer of the parts of the
 -- sheet, say which refuses first.
 -- Assumes nothing.
 use borrow.Author.Needs.{needs}
@@ -8,13 +8,14 @@ use native.Mathlib.Omega.{arith}
 use Prim.Native.Nat.{_≤_}
 use Rattle.sheet_sizes.specs.Bounds.{mostEntries}
 use Rattle.sheet_sizes.proofs.Bounds.{byte-entries-most}
-use Rattle.sheet_checks.proofs.Body.{body-length-refused, body-parts}
-use Rattle.sheet_checks.proofs.check_entries.Statement.{statement}
-use Rattle.sheet_checks.proofs.check_entries.Tie as tie
+use Rattle.entry_checks.proofs.Body.{body-length-refused, body-parts}
+use Rattle.entry_checks.proofs.check_entries.Statement.{statement}
+use Rattle.entry_checks.proofs.check_entries.Tie as tie
 
 -- sizes of a byte make few entries
 few : (c : tie.After-entry-count) → c .entry-count .result ≤ mostEntries
-few c = rw (c .entry-count .ensures) (byte-entries-most (c .before .before .before .before .args .settings) (omega arith))
+few c =
+    rw (c .entry-count .ensures) (byte-entries-most (c .before .before .before .before .args .settings) (omega arith))
 
 sheet-length-requires : tie.Need-sheet-length-requires
 sheet-length-requires c κs = search needs
@@ -27,13 +28,26 @@ returns c =
     let measured = c .before .before in
     let a = measured .before .before .args in
     ap some (c .refuse .ensures)
-    ∙ body-length-refused (a .sheet .now) (a .settings) (λ e. c .before .if1 .taken (e ∙ sym (measured .sheet-length .ensures)))
+    ∙ body-length-refused (a .sheet .now) (a .settings)
+    (λ e. c .before .if1 .taken (e ∙ sym (measured .sheet-length .ensures)))
 
 entry-count-requires : tie.Need-entry-count-requires
 entry-count-requires c κs = search needs
 
 add-body : tie.Need-add-body
 add-body c = search needs
+
+sub-marks : tie.Need-sub-marks
+sub-marks c = search needs
+
+part-marks-start : tie.Need-part-marks-start
+part-marks-start c = search needs
+
+part-marks-end : tie.Need-part-marks-end
+part-marks-end c = search needs
+
+check-requires : tie.Need-check-requires
+check-requires c κs = search needs
 
 sub-check : tie.Need-sub-check
 sub-check c = search needs
@@ -44,27 +58,6 @@ part-check-start c = search needs
 part-check-end : tie.Need-part-check-end
 part-check-end c = search needs
 
-check-requires : tie.Need-check-requires
-check-requires c κs = search needs
-
-sub-check-2 : tie.Need-sub-check-2
-sub-check-2 c = search needs
-
-part-check-start-2 : tie.Need-part-check-start-2
-part-check-start-2 c = search needs
-
-part-check-end-2 : tie.Need-part-check-end-2
-part-check-end-2 c = search needs
-
-sub-check-3 : tie.Need-sub-check-3
-sub-check-3 c = search needs
-
-part-check-start-3 : tie.Need-part-check-start-3
-part-check-start-3 c = search needs
-
-part-check-end-3 : tie.Need-part-check-end-3
-part-check-end-3 c = search needs
-
 check-requires-2 : tie.Need-check-requires-2
 check-requires-2 c κs = search needs
 
@@ -74,7 +67,7 @@ first-of-requires c κs = search needs
 returns-2 : tie.Need-returns-2
 returns-2 c =
     let missing = c .before in
-    let marks = missing .before .before .before in
+    let marks = missing .before .before in
     let counted = marks .before .before in
     let tested = counted .before in
     let measured = tested .before in
@@ -93,16 +86,13 @@ check-entries-spec =
     returns
     entry-count-requires
     add-body
+    sub-marks
+    part-marks-start
+    part-marks-end
+    check-requires
     sub-check
     part-check-start
     part-check-end
-    check-requires
-    sub-check-2
-    part-check-start-2
-    part-check-end-2
-    sub-check-3
-    part-check-start-3
-    part-check-end-3
     check-requires-2
     first-of-requires
     returns-2)

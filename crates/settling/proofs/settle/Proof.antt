@@ -1,22 +1,30 @@
--- `settling::settle` meets its contract: at each answer the inspections that led there say which check refuses first, or that only check 10 is left.
+-- `settling::settle` meets its contract: at each answer the inspections that led there say which check refuses
+-- first, or that only check 10 is left.
 -- Assumes nothing.
+use borrow.Author.Needs.{needs}
 use mathlib.Core.Path.{_≡_, sym, ap, _∙_}
 use native.Mathlib.Omega.{arith}
+use Rattle.model.specs.declared.Refusal.{Refusal}
 use Rattle.model.specs.RoundSheet.{settingsAt}
 use Rattle.model.specs.Refusals.{firstOf, sheetChecks}
 use Rattle.model.specs.Calls.{granted, verdict}
 use Rattle.refusals.specs.Answers.{checkOf}
 use Rattle.sheet_checks.specs.Answers.{openedOf}
-use Rattle.settling.proofs.Checking.{inspection-refuses, opened-settings, room-refuses, entries-refuse, checks-pass}
-use borrow.Author.Needs.{needs}
+use Rattle.settling.specs.Answers.{settlingOf}
+use Rattle.settling.specs.declared.Settled.the-variants.{Refused}
+use Rattle.settling.proofs.Checking.{inspection-refuses, room-refuses, entries-refuse}
+use Rattle.settling.proofs.Checking.{opened-settings, checks-pass}
 use Rattle.settling.proofs.settle.Statement.{statement}
 use Rattle.settling.proofs.settle.Tie as tie
+
+abbrev call : tie.After-inspect → tie.Start
+call c = c .before .before .before
 
 -- what `inspect` granted
 opened :
     (c : tie.After-settings)
-    → granted (c .settings .given .0 .0)
-    ≡ verdict (firstOf (sheetChecks (c .before .before .before .before .before .args .sheet .now))) (settingsAt (c .before .before .before .before .before .args .sheet .now))
+    → let a = call (c .before .before) .args in
+    granted (c .settings .given .0 .0) ≡ verdict (firstOf (sheetChecks (a .sheet .now))) (settingsAt (a .sheet .now))
 opened c = sym (ap openedOf (c .settings .given .1)) ∙ c .before .before .inspect .ensures
 
 inspect-requires : tie.Need-inspect-requires
@@ -37,10 +45,16 @@ mul-size c = search needs
 add-size : tie.Need-add-size
 add-size c = search needs
 
+refuse-requires : tie.Need-refuse-requires
+refuse-requires c κs = search needs
+
 returns : tie.Need-returns
 returns c =
-    room-refuses (c .before .before .before .before .before .before .before .before .args .sheet .now) (c .before .before .before .before .before .before .before .before .args .answer .now) (c .before .before .before .settings .given .0 .0) (opened (c .before .before .before))
-    (omega (arith, c .if1 .taken))
+    let inspected = c .before .before .before .before in
+    let a = call (inspected .before .before) .args in
+    ap (λ (f : Refusal). settlingOf (Refused f) (a .answer .now)) (c .refuse .ensures)
+    ∙ room-refuses (a .sheet .now) (a .answer .now) (inspected .settings .given .0 .0) (opened inspected)
+    (omega (arith, c .before .if1 .taken))
 
 check-entries-requires : tie.Need-check-entries-requires
 check-entries-requires c κs = search needs
@@ -53,32 +67,46 @@ enum-told c = search needs
 
 settle-valid-requires : tie.Need-settle-valid-requires
 settle-valid-requires c κs =
-    let at-settings = c .before .before .before .before .before .before .before in
-    let a = at-settings .before .before .before .before .before .args in
-    let granted-here = opened at-settings in
-    let room = c .before .before .before .before .if1 .left in (
-      checks-pass (a .sheet .now) (a .answer .now) (at-settings .settings .given .0 .0) granted-here room
-          (sym (ap checkOf (c .before .enum-told .given .1)) ∙ c .before .before .before .check-entries .ensures),
-      opened-settings (a .sheet .now) (a .answer .now) (at-settings .settings .given .0 .0) granted-here,
-      room,
-    )
+    let told = c .before in
+    let checked = told .before .before in
+    let inspected = checked .before .before .before .before in
+    let a = call (inspected .before .before) .args in
+    let settings = inspected .settings .given .0 .0 in
+    let granted-here = opened inspected in
+    let room = checked .before .if1 .left in
+    record {
+      passes =
+          checks-pass (a .sheet .now) (a .answer .now) settings granted-here room
+          (sym (ap checkOf (told .enum-told .given .1)) ∙ checked .check-entries .ensures);
+      own = opened-settings (a .sheet .now) (a .answer .now) settings granted-here;
+      room = room;
+    }
 
 returns-2 : tie.Need-returns-2
 returns-2 c =
-    inspection-refuses (c .before .before .before .before .before .before .args .sheet .now) (c .before .before .before .before .before .before .args .answer .now) (c .before .r .given .0 .0)
-    (sym (ap openedOf (c .before .r .given .1)) ∙ c .before .before .before .inspect .ensures)
+    let r = c .before in
+    let inspected = r .before .before in
+    let a = call inspected .args in
+    inspection-refuses (a .sheet .now) (a .answer .now) (r .r .given .0 .0)
+    (sym (ap openedOf (r .r .given .1)) ∙ inspected .inspect .ensures)
 
 returns-3 : tie.Need-returns-3
 returns-3 c =
-    entries-refuse (c .before .before .before .before .before .before .before .before .before .before .before .before .args .sheet .now) (c .before .before .before .before .before .before .before .before .before .before .before .before .args .answer .now) (c .before .before .before .before .before .before .before .settings .given .0 .0) (opened (c .before .before .before .before .before .before .before))
-    (c .before .before .before .before .if1 .left) (c .before .r2 .given .0 .0)
-    (sym (ap checkOf (c .before .r2 .given .1)) ∙ c .before .before .before .check-entries .ensures)
+    let r = c .before in
+    let checked = r .before .before in
+    let passed = checked .before in
+    let inspected = passed .before .before .before in
+    let a = call (inspected .before .before) .args in
+    entries-refuse (a .sheet .now) (a .answer .now) (inspected .settings .given .0 .0) (opened inspected)
+    (passed .if1 .left)
+    (r .r2 .given .0 .0)
+    (sym (ap checkOf (r .r2 .given .1)) ∙ checked .check-entries .ensures)
 
 same-length : tie.Need-same-length
 same-length c = search needs
 
 returns-4 : tie.Need-returns-4
-returns-4 c = c .before .before .settle-valid .ensures
+returns-4 c = search needs
 
 pub settle-spec : {M : Type 1} → statement M
 settle-spec =
@@ -90,6 +118,7 @@ settle-spec =
     cast-size
     mul-size
     add-size
+    refuse-requires
     returns
     check-entries-requires
     enum-known-r-2

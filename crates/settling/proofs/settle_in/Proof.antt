@@ -1,31 +1,55 @@
--- `settling::settle_in` meets its contract: what is received holds the sheet's readings, so the round that is agreed on and written is the
--- sheet's, and none is where nothing is accepted.
+-- `settling::settle_in` meets its contract: what is received holds the sheet's readings, so the round that is agreed
+-- on and written is the sheet's, and none is where nothing is accepted.
 -- Assumes nothing.
+use borrow.Author.Needs.{needs}
 use mathlib.Core.List.{List}
 use mathlib.Core.Path.{ap, _∙_}
-use native.Mathlib.Omega.{arith}
-use Prim.Native.Nat.{ℕ, _+_, _*_}
-use Rattle.model.specs.AnswerSheet.{answerHeaderSize}
+use Prim.Native.Nat.{ℕ}
+use Rattle.model.specs.declared.Refusal.{Refusal}
+use Rattle.model.specs.AnswerSheet.{answerLength}
+use Rattle.model.specs.Ensemble.{quorum}
+use Rattle.agreement.specs.Values.{agreedOf, agreedMarks}
 use Rattle.settling.specs.Answers.{settlingOf}
-use Rattle.settling.specs.declared.Settled.the-variants.{Granted}
-use Rattle.settling.proofs.Settling.{CallsLeave, refuses, settles, kept-long, few-faults}
-use borrow.Author.Needs.{needs}
+use Rattle.settling.specs.declared.Settled.the-variants.{Granted, Refused}
+use Rattle.settling.proofs.Settling.{CallsLeave, refuses, settles, few-faults}
 use Rattle.settling.proofs.settle_in.Statement.{statement}
 use Rattle.settling.proofs.settle_in.Tie as tie
+
+-- ---- places: the call, the readings received, the round agreed on
+
+abbrev call : tie.After-receive → tie.Start
+call c = c .before .before .before .before .before .before .before
+
+abbrev received : tie.After-agree → tie.After-receive
+received c = c .before .before .before .before .before .before .before .before .before
 
 -- what the calls leave
 left :
     (c : tie.After-agree)
-    → CallsLeave (c .before .before .before .before .before .before .before .before .before .before .args .sheet .now) (c .before .before .before .before .before .before .before .before .before .before .args .settings) (c .before .before .before .before .before .before .before .before .before .before .args .values .now) (c .before .before .before .before .before .receive .last .1 .1 .0) (c .agree .last .0) (c .agree .result)
+    → let s = call (received c) in
+    let a = s .args in
+    let r = received c .receive .last in
+    CallsLeave (a .sheet .now) (a .settings) (a .marks .now) (a .values .now) (r .1 .1 .0) (r .1 .1 .1 .0)
+    (c .agree .last .0)
+    (c .agree .result)
 left c =
-    let known = c .before .before .before .before .before .before .before .before .before in
-    let r = c .before .before .before .before .before .receive in
+    let known = received c .before .before .before .before .before .before in
+    let s = known .before in
+    let a = s .args in
+    let r = received c .receive in
+    let marks = r .last .1 .1 .0 in
+    let values = r .last .1 .1 .1 .0 in
+    let span = c .before .span-width .ensures in
     record {
       small = λ j. known .shared-slice-known .given j .fits;
-      room = known .before .pre .1;
-      fills = r .ensures .1;
-      agrees = c .agree .ensures .0;
-      keeps = c .agree .ensures .1 .0;
+      markRoom = s .pre .1 .0;
+      valueRoom = s .pre .1 .1;
+      marked = r .ensures .1 .0;
+      valued = r .ensures .1 .1;
+      agrees =
+          c .agree .ensures .0
+          ∙ ap (λ (w : ℕ). agreedOf w (quorum (a .settings)) (a .settings .estimator) marks values) span;
+      keeps = c .agree .ensures .1 .0 ∙ ap (λ (w : ℕ). agreedMarks w (quorum (a .settings)) marks values) span;
     }
 
 receive-requires : tie.Need-receive-requires
@@ -33,8 +57,11 @@ receive-requires c κs = search needs
 
 sub-need : tie.Need-sub-need
 sub-need c =
-    let s = c .before .before .before .before .before .before .before .before in
-    few-faults (s .args .sheet .now) (s .args .settings) (s .pre .0 .1) (s .pre .0 .0) .0
+    let s = call (c .before .before .before .before .before) in
+    few-faults (s .args .sheet .now) (s .args .settings) (s .args .answer .now) (s .pre .0) .0
+
+span-width-requires : tie.Need-span-width-requires
+span-width-requires c κs = search needs
 
 cast-agree : tie.Need-cast-agree
 cast-agree c = search needs
@@ -51,42 +78,60 @@ mul-size c = search needs
 add-size : tie.Need-add-size
 add-size c = search needs
 
+refuse-requires : tie.Need-refuse-requires
+refuse-requires c κs = search needs
+
 same-length : tie.Need-same-length
 same-length c = search needs
-
-returns : tie.Need-returns
-returns c =
-    let agreed = c .before .before .before .before .before in
-    let s = agreed .before .before .before .before .before .before .before .before .before .before in
-    let r = agreed .before .before .before .before .before .receive in
-    refuses (s .args .sheet .now) (s .args .settings) (s .pre .0 .1) (s .pre .0 .0) (s .args .values .now) (r .last .1 .1 .0) (agreed .agree .last .0) (agreed .agree .result)
-    (left agreed) (s .args .answer .now) (s .pre .0 .2) (c .if1 .taken)
-
-put-answer-requires : tie.Need-put-answer-requires
-put-answer-requires c κs =
-    let agreed = c .before .before .before .before .before .before .before in
-    let s = agreed .before .before .before .before .before .before .before .before .before .before in
-    let r = agreed .before .before .before .before .before .receive in
-    let long = kept-long (s .args .sheet .now) (s .args .settings) (s .pre .0 .1) (s .pre .0 .0) (s .args .values .now) (r .last .1 .1 .0) (agreed .agree .last .0) (agreed .agree .result)
-    (left agreed) (c .before .before .if1 .left) in
-    let few = few-faults (s .args .sheet .now) (s .args .settings) (s .pre .0 .1) (s .pre .0 .0) in
-    ((omega (arith, few .1), omega (arith, s .pre .0 .2)), agreed .agree .ensures .1 .1)
 
 same-length-2 : tie.Need-same-length-2
 same-length-2 c = search needs
 
+returns : tie.Need-returns
+returns c =
+    let refused = c .before .before in
+    let agreed = refused .before .before .before .before in
+    let s = call (received agreed) in
+    let a = s .args in
+    let r = received agreed .receive .last in
+    ap (λ (f : Refusal). settlingOf (Refused f) (a .answer .now)) (refused .refuse .ensures)
+    ∙ refuses (a .sheet .now) (a .settings) (a .answer .now) (s .pre .0) (a .marks .now) (a .values .now) (r .1 .1 .0)
+    (r .1 .1 .1 .0)
+    (agreed .agree .last .0)
+    (agreed .agree .result)
+    (left agreed)
+    (c .if1 .taken)
+
+cast-put-answer : tie.Need-cast-put-answer
+cast-put-answer c = search needs
+
+put-answer-requires : tie.Need-put-answer-requires
+put-answer-requires c κs = search needs
+
 same-length-3 : tie.Need-same-length-3
 same-length-3 c = search needs
 
+same-length-4 : tie.Need-same-length-4
+same-length-4 c = search needs
+
+same-length-5 : tie.Need-same-length-5
+same-length-5 c = search needs
+
 returns-2 : tie.Need-returns-2
 returns-2 c =
-    let written = c .before .before in
-    let agreed = written .before .before .before .before .before .before .before .before in
-    let s = agreed .before .before .before .before .before .before .before .before .before .before in
-    let r = agreed .before .before .before .before .before .receive in
-    ap (λ (l : List ℕ). settlingOf (Granted (answerHeaderSize + 5 * s .args .settings .n)) l) (written .put-answer .ensures)
-    ∙ settles (s .args .sheet .now) (s .args .settings) (s .pre .0 .1) (s .pre .0 .0) (s .args .values .now) (r .last .1 .1 .0) (agreed .agree .last .0) (agreed .agree .result)
-    (left agreed) (s .args .answer .now) (s .pre .0 .2) (written .before .before .before .if1 .left)
+    let put = c .before .before in
+    let some = put .before .before .before .before .before in
+    let agreed = some .before .before .before .before .before .before in
+    let s = call (received agreed) in
+    let a = s .args in
+    let r = received agreed .receive .last in
+    ap (λ (l : List ℕ). settlingOf (Granted (answerLength (a .settings .n))) l) (put .put-answer .ensures .1)
+    ∙ settles (a .sheet .now) (a .settings) (a .answer .now) (s .pre .0) (a .marks .now) (a .values .now) (r .1 .1 .0)
+    (r .1 .1 .1 .0)
+    (agreed .agree .last .0)
+    (agreed .agree .result)
+    (left agreed)
+    (some .if1 .left)
 
 pub settle-in-spec : {M : Type 1} → statement M
 settle-in-spec =
@@ -94,14 +139,19 @@ settle-in-spec =
     (tie.spec
     receive-requires
     sub-need
+    span-width-requires
     cast-agree
     agree-requires
     cast-size
     mul-size
     add-size
+    refuse-requires
     same-length
-    returns
-    put-answer-requires
     same-length-2
+    returns
+    cast-put-answer
+    put-answer-requires
     same-length-3
+    same-length-4
+    same-length-5
     returns-2)

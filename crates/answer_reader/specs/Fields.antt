@@ -1,31 +1,22 @@
 -- Document 01, "The answer sheet", read field by field from any bytes.
---   answerChecks     the checks that refuse bytes that are no answer sheet
---   cabinetChecks    those, and the one that refuses a cabinet of N or above
+--   answerChecks, cabinetChecks    the checks of the bytes, and of a cabinet (answer_checks/specs/Checks.antt)
 --   cabinetsIn, countIn, estimateIn, valueIn    N, the accepted count, the estimate, the new value
 --   markIn, usedIn   a cabinet's mark and used value
 --   signedField      the number that 32 bits in two's complement are
 --   shownOf          what this crate's enum says in these terms
 -- Estimate, new value and used value are given by their 32 bits.
-use mathlib.Core.List.{List, [], _∷_, _++_}
+use mathlib.Core.List.{List}
 use Prim.Native.Nat.{ℕ, _+_, _*_}
 use lib.IntN.{ℤ}
-use lib.ListN.{length}
 use mir.Syntax.{w32}
 use mir.Val.{toZ}
-use Rattle.model.specs.RoundSheet.{byte, word, settingsAt}
-use Rattle.model.specs.AnswerSheet.{answerHeaderSize, answerLength}
-use Rattle.model.specs.Refusals.{Check, firstOf, badCabinets, badLength, noRoom}
+use Rattle.model.specs.RoundSheet.{byte, word}
+use Rattle.model.specs.AnswerSheet.{answerHeaderSize}
+use Rattle.model.specs.Refusals.{firstOf}
 use Rattle.model.specs.Calls.{Verdict, granted, refused, verdict}
+unfoldable pub use Rattle.answer_checks.specs.Checks.{answerChecks, cabinetChecks}
 use Rattle.answer_reader.specs.declared.Shown.{Shown}
 use Rattle.answer_reader.specs.declared.Shown.the-variants.{Granted, Refused}
-
--- "Byte 0 N", which is 1 to 64 (2); "Length is 10 + 5N" (6). An empty sheet has N 0
-unfoldable pub answerChecks : List ℕ → List Check
-answerChecks a = badCabinets (settingsAt a) ∷ badLength (length a) (answerLength (byte a 0)) ∷ []
-
--- "Cabinets are numbered 0 to N-1": the sheet has no room for cabinet r where N is below r + 1 (7)
-unfoldable pub cabinetChecks : List ℕ → ℕ → List Check
-cabinetChecks a r = answerChecks a ++ (noRoom (byte a 0) (r + 1) ∷ [])
 
 -- "Byte 0 N; byte 1 the accepted count; bytes 2 to 5 the estimate; bytes 6 to 9 the new value"
 unfoldable pub cabinetsIn : List ℕ → Verdict ℕ

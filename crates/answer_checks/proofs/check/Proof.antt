@@ -1,4 +1,4 @@
--- `answer_reader::check` meets its contract: it takes the first of checks 2 and 6.
+-- `answer_checks::check` meets its contract: it takes the first of checks 2 and 6.
 -- Assumes nothing.
 use borrow.Author.Needs.{needs}
 use lib.ListN.{length}
@@ -6,9 +6,9 @@ use Rattle.model.specs.RoundSheet.{byte}
 use Rattle.model.specs.AnswerSheet.{answerLength}
 use Rattle.model.specs.Refusals.{firstOf, badCabinets, badLength}
 use Rattle.refusal_laws.proofs.Checks.{next-none}
-use Rattle.answer_reader.specs.Fields.{answerChecks}
-use Rattle.answer_reader.proofs.check.Statement.{statement}
-use Rattle.answer_reader.proofs.check.Tie as tie
+use Rattle.answer_checks.specs.Checks.{answerChecks}
+use Rattle.answer_checks.proofs.check.Statement.{statement}
+use Rattle.answer_checks.proofs.check.Tie as tie
 
 byte-at-requires : tie.Need-byte-at-requires
 byte-at-requires c κs = search needs

@@ -1,4 +1,5 @@
--- `answer_reader::check_cabinet` meets its contract: a refusal of the sheet stands, and else the cabinet is below N or not.
+-- `answer_checks::check_cabinet` meets its contract: a refusal of the sheet stands, and else the cabinet is below N or
+-- not.
 -- Assumes nothing.
 use borrow.Author.Needs.{needs}
 use borrow.Author.Tests.{leb-true, leb-false, lt-ltb, le-ltb}
@@ -10,9 +11,9 @@ use lib.Dec.{leb, ltb}
 use Rattle.model.specs.RoundSheet.{byte}
 use Rattle.model.specs.Refusals.{noRoom}
 use Rattle.refusal_laws.proofs.Checks.{first-snoc}
-use Rattle.answer_reader.specs.Fields.{answerChecks, cabinetChecks}
-use Rattle.answer_reader.proofs.check_cabinet.Statement.{statement}
-use Rattle.answer_reader.proofs.check_cabinet.Tie as tie
+use Rattle.answer_checks.specs.Checks.{answerChecks, cabinetChecks}
+use Rattle.answer_checks.proofs.check_cabinet.Statement.{statement}
+use Rattle.answer_checks.proofs.check_cabinet.Tie as tie
 
 byte-at-requires : tie.Need-byte-at-requires
 byte-at-requires c κs = search needs

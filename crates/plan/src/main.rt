@@ -98,17 +98,6 @@ fn show_plan(settings: Settings, accuracy: u32, aim: u8, last: u32) -> bool {
     }
 }
 
-// The settings of the first five arguments. A rule or an estimator of 255 was complained about.
-fn settings_of(n: u64, m: u64, rule: u8, estimator: u8, window: u64) -> Settings {
-    Settings {
-        n: plan_arguments::in_a_byte(n),
-        m: plan_arguments::in_a_byte(m),
-        rule,
-        estimator,
-        window: plan_arguments::in_32_bits(window),
-    }
-}
-
 // The plan, and then the limits where they are asked for.
 fn answer(settings: Settings, accuracy: u32, aim: u8, last: u32, is_limited: bool, t: u32) -> bool {
     let is_shown = show_plan(settings, accuracy, aim, last);
@@ -122,34 +111,18 @@ fn answer(settings: Settings, accuracy: u32, aim: u8, last: u32, is_limited: boo
 
 // Reads every argument, so that each bad one is complained about, and then answers.
 fn run(is_limited: bool) -> bool {
-    let n = plan_arguments::number_at(1, b"N");
-    let m = plan_arguments::number_at(2, b"M");
-    let rule = plan_arguments::rule_at(3);
-    let estimator = plan_arguments::estimator_at(4);
-    let window = plan_arguments::number_at(5, b"WINDOW");
-    let accuracy = plan_arguments::number_at(6, b"ACCURACY");
-    let aim = plan_arguments::aim_at(7);
-    let last = plan_arguments::number_at(8, b"COUNT or TICKS");
-    let t = plan_arguments::limit_at(is_limited);
-    let are_words = (rule < 255) & (estimator < 255) & (aim < 255);
-    let are_sizes = plan_arguments::is_number(n)
-        & plan_arguments::is_number(m)
-        & plan_arguments::is_number(window)
-        & plan_arguments::is_within(t, n);
-    if are_words
-        & are_sizes
-        & plan_arguments::is_number(accuracy)
-        & plan_arguments::is_number(last)
-        & plan_arguments::is_number(t)
-    {
-        let settings = settings_of(n, m, rule, estimator, window);
+    let ensemble = plan_arguments::read_ensemble();
+    let aim = plan_arguments::read_aim();
+    let bad = plan_arguments::read_bad(is_limited, ensemble.cabinets);
+    if ensemble.is_read & aim.is_read & bad.is_read {
+        let settings = ensemble.settings;
         answer(
             settings,
-            plan_arguments::in_32_bits(accuracy),
-            aim,
-            plan_arguments::in_32_bits(last),
+            aim.accuracy,
+            aim.kind,
+            aim.last,
             is_limited,
-            plan_arguments::in_32_bits(t),
+            bad.count,
         )
     } else {
         true

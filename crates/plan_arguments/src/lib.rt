@@ -4,6 +4,29 @@ use model::CCA;
 use model::FCA;
 use model::MEDIAN;
 use model::MIDPOINT;
+use model::Settings;
+
+// The first five arguments: the settings, and N as it was typed. Numbers that no settings hold are cut to the highest
+// that they do, which the planner refuses likewise. Nothing is read where one of them was complained about.
+pub struct Ensemble {
+    pub settings: Settings,
+    pub cabinets: u64,
+    pub is_read: bool,
+}
+
+// The next three: the accuracy, 0 for rounds or 1 for a target, and the count or the ticks.
+pub struct Aim {
+    pub accuracy: u32,
+    pub kind: u8,
+    pub last: u32,
+    pub is_read: bool,
+}
+
+// The ninth, where it is given: how many cabinets are bad.
+pub struct Bad {
+    pub count: u32,
+    pub is_read: bool,
+}
 
 // What was given, on standard error. Of an argument that is longer than its buffer `os::arg` leaves the first bytes
 // and answers 0.
@@ -19,7 +42,7 @@ fn show_given(at: usize) {
 }
 
 // A bad argument, on standard error: its name, what was given, what is wanted.
-pub fn complain(name: &[u8], at: usize, wanted: &[u8]) {
+fn complain(name: &[u8], at: usize, wanted: &[u8]) {
     io::write_all(2, b"plan: ");
     io::write_all(2, name);
     io::write_all(2, b" is '");
@@ -30,7 +53,7 @@ pub fn complain(name: &[u8], at: usize, wanted: &[u8]) {
 }
 
 // The number that an argument is, or `number_parser::LIMIT`, which is complained about.
-pub fn number_at(at: usize, name: &[u8]) -> u64 {
+fn number_at(at: usize, name: &[u8]) -> u64 {
     let mut given = io::buffer();
     let n = os::arg(at, &mut given);
     let value = number_parser::number_in(&given[..n]);
@@ -48,7 +71,7 @@ pub fn is_word(at: usize, word: &[u8]) -> bool {
 }
 
 // The rule's number, or 255, which is complained about.
-pub fn rule_at(at: usize) -> u8 {
+fn rule_at(at: usize) -> u8 {
     if is_word(at, b"fca") {
         return FCA;
     }
@@ -60,7 +83,7 @@ pub fn rule_at(at: usize) -> u8 {
 }
 
 // The estimator's number, or 255, which is complained about.
-pub fn estimator_at(at: usize) -> u8 {
+fn estimator_at(at: usize) -> u8 {
     if is_word(at, b"average") {
         return AVERAGE;
     }
@@ -75,7 +98,7 @@ pub fn estimator_at(at: usize) -> u8 {
 }
 
 // 0 for rounds, 1 for a target, or 255, which is complained about.
-pub fn aim_at(at: usize) -> u8 {
+fn aim_at(at: usize) -> u8 {
     if is_word(at, b"rounds") {
         return 0;
     }
@@ -87,11 +110,11 @@ pub fn aim_at(at: usize) -> u8 {
 }
 
 // A number of cabinets in a byte. Those above 255 are refused as 255 is.
-pub fn in_a_byte(value: u64) -> u8 {
+fn in_a_byte(value: u64) -> u8 {
     if value < 255 { value as u8 } else { 255 }
 }
 
-pub fn in_32_bits(value: u64) -> u32 {
+fn in_32_bits(value: u64) -> u32 {
     if value < 4_294_967_295 {
         value as u32
     } else {
@@ -99,20 +122,60 @@ pub fn in_32_bits(value: u64) -> u32 {
     }
 }
 
-pub fn is_number(value: u64) -> bool {
+fn is_number(value: u64) -> bool {
     value < number_parser::LIMIT
 }
 
 // The ninth argument, where it is given.
-pub fn limit_at(is_limited: bool) -> u64 {
+fn limit_at(is_limited: bool) -> u64 {
     if is_limited { number_at(9, b"T") } else { 0 }
 }
 
 // Whether at most N cabinets are bad; more are complained about.
-pub fn is_within(t: u64, n: u64) -> bool {
+fn is_within(t: u64, n: u64) -> bool {
     if is_number(t) & (n < t) {
         complain(b"T", 9, b"a number of at most N is wanted");
         return false;
     }
     true
+}
+
+pub fn read_ensemble() -> Ensemble {
+    let n = number_at(1, b"N");
+    let m = number_at(2, b"M");
+    let rule = rule_at(3);
+    let estimator = estimator_at(4);
+    let window = number_at(5, b"WINDOW");
+    let settings = Settings {
+        n: in_a_byte(n),
+        m: in_a_byte(m),
+        rule,
+        estimator,
+        window: in_32_bits(window),
+    };
+    Ensemble {
+        settings,
+        cabinets: n,
+        is_read: is_number(n) & is_number(m) & is_number(window) & (rule < 255) & (estimator < 255),
+    }
+}
+
+pub fn read_aim() -> Aim {
+    let accuracy = number_at(6, b"ACCURACY");
+    let kind = aim_at(7);
+    let last = number_at(8, b"COUNT or TICKS");
+    Aim {
+        accuracy: in_32_bits(accuracy),
+        kind,
+        last: in_32_bits(last),
+        is_read: is_number(accuracy) & (kind < 255) & is_number(last),
+    }
+}
+
+pub fn read_bad(is_limited: bool, cabinets: u64) -> Bad {
+    let t = limit_at(is_limited);
+    Bad {
+        count: in_32_bits(t),
+        is_read: is_number(t) & is_within(t, cabinets),
+    }
 }

@@ -5,7 +5,6 @@ ghost use Rattle.model.specs.Calls.{settle};
 ghost use Rattle.model.specs.Steps.{spanWidth};
 ghost use Rattle.settling.specs.Answers.{settlingOf};
 ghost use Rattle.settling.specs.Rounds.{Ready};
-use model::ANSWER_HEADER_SIZE;
 use model::NO_ROOM;
 use model::Refusal;
 use model::Settings;
@@ -47,7 +46,7 @@ fn settle_in(
         need as u32,
         settings.estimator,
     );
-    let size = ANSWER_HEADER_SIZE + 5 * (settings.n as usize);
+    let size = sheet_sizes::answer_length(settings.n);
     let none = Settled::Refused(refusals::refuse(TOO_MANY_FAULTS));
     if settled.count == 0 {
         return none;
@@ -82,7 +81,7 @@ pub fn settle(sheet: &[u8], answer: &mut [u8]) -> Settled
     match sheet_checks::inspect(sheet) {
         Opened::Refused(r) => Settled::Refused(r),
         Opened::Granted(settings) => {
-            let size = ANSWER_HEADER_SIZE + 5 * (settings.n as usize);
+            let size = sheet_sizes::answer_length(settings.n);
             if answer.len() < size {
                 return Settled::Refused(refusals::refuse(NO_ROOM));
             }

@@ -4,8 +4,11 @@
 use borrow.Author.Needs.{needs}
 use mathlib.Core.Path.{_≡_, sym, ap, _∙_}
 use native.Mathlib.Omega.{arith}
+use Prim.Native.Nat.{_≤_}
+use lib.ListN.{length}
 use Rattle.model.specs.declared.Refusal.{Refusal}
 use Rattle.model.specs.RoundSheet.{settingsAt}
+use Rattle.model.specs.AnswerSheet.{answerLength}
 use Rattle.model.specs.Refusals.{firstOf, sheetChecks}
 use Rattle.model.specs.Calls.{granted, verdict}
 use Rattle.refusals.specs.Answers.{checkOf}
@@ -27,6 +30,14 @@ opened :
     granted (c .settings .given .0 .0) ≡ verdict (firstOf (sheetChecks (a .sheet .now))) (settingsAt (a .sheet .now))
 opened c = sym (ap openedOf (c .settings .given .1)) ∙ c .before .before .inspect .ensures
 
+-- check 7 passes
+room :
+    (c : tie.Else1)
+    → let inspected = c .before .before .before in
+    let a = call (inspected .before .before) .args in
+    answerLength (inspected .settings .given .0 .0 .n) ≤ length (a .answer .now)
+room c = omega (arith, c .if1 .left, c .before .answer-length .ensures)
+
 inspect-requires : tie.Need-inspect-requires
 inspect-requires c κs = search needs
 
@@ -36,14 +47,8 @@ enum-known-r c = search needs
 enum-known-settings : tie.Need-enum-known-settings
 enum-known-settings c = search needs
 
-cast-size : tie.Need-cast-size
-cast-size c = search needs
-
-mul-size : tie.Need-mul-size
-mul-size c = search needs
-
-add-size : tie.Need-add-size
-add-size c = search needs
+answer-length-requires : tie.Need-answer-length-requires
+answer-length-requires c κs = search needs
 
 refuse-requires : tie.Need-refuse-requires
 refuse-requires c κs = search needs
@@ -54,7 +59,7 @@ returns c =
     let a = call (inspected .before .before) .args in
     ap (λ (f : Refusal). settlingOf (Refused f) (a .answer .now)) (c .refuse .ensures)
     ∙ room-refuses (a .sheet .now) (a .answer .now) (inspected .settings .given .0 .0) (opened inspected)
-    (omega (arith, c .before .if1 .taken))
+    (omega (arith, c .before .if1 .taken, c .before .before .answer-length .ensures))
 
 check-entries-requires : tie.Need-check-entries-requires
 check-entries-requires c κs = search needs
@@ -73,13 +78,13 @@ settle-valid-requires c κs =
     let a = call (inspected .before .before) .args in
     let settings = inspected .settings .given .0 .0 in
     let granted-here = opened inspected in
-    let room = checked .before .if1 .left in
+    let large = room (checked .before) in
     record {
       passes =
-          checks-pass (a .sheet .now) (a .answer .now) settings granted-here room
+          checks-pass (a .sheet .now) (a .answer .now) settings granted-here large
           (sym (ap checkOf (told .enum-told .given .1)) ∙ checked .check-entries .ensures);
       own = opened-settings (a .sheet .now) (a .answer .now) settings granted-here;
-      room = room;
+      room = large;
     }
 
 returns-2 : tie.Need-returns-2
@@ -98,7 +103,7 @@ returns-3 c =
     let inspected = passed .before .before .before in
     let a = call (inspected .before .before) .args in
     entries-refuse (a .sheet .now) (a .answer .now) (inspected .settings .given .0 .0) (opened inspected)
-    (passed .if1 .left)
+    (room passed)
     (r .r2 .given .0 .0)
     (sym (ap checkOf (r .r2 .given .1)) ∙ checked .check-entries .ensures)
 
@@ -115,9 +120,7 @@ settle-spec =
     inspect-requires
     enum-known-r
     enum-known-settings
-    cast-size
-    mul-size
-    add-size
+    answer-length-requires
     refuse-requires
     returns
     check-entries-requires

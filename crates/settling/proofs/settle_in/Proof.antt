@@ -3,10 +3,9 @@
 -- Assumes nothing.
 use borrow.Author.Needs.{needs}
 use mathlib.Core.List.{List}
-use mathlib.Core.Path.{ap, _∙_}
+use mathlib.Core.Path.{ap, ap₂, _∙_}
 use Prim.Native.Nat.{ℕ}
 use Rattle.model.specs.declared.Refusal.{Refusal}
-use Rattle.model.specs.AnswerSheet.{answerLength}
 use Rattle.model.specs.Ensemble.{quorum}
 use Rattle.agreement.specs.Values.{agreedOf, agreedMarks}
 use Rattle.settling.specs.Answers.{settlingOf}
@@ -69,14 +68,8 @@ cast-agree c = search needs
 agree-requires : tie.Need-agree-requires
 agree-requires c κs = search needs
 
-cast-size : tie.Need-cast-size
-cast-size c = search needs
-
-mul-size : tie.Need-mul-size
-mul-size c = search needs
-
-add-size : tie.Need-add-size
-add-size c = search needs
+answer-length-requires : tie.Need-answer-length-requires
+answer-length-requires c κs = search needs
 
 refuse-requires : tie.Need-refuse-requires
 refuse-requires c κs = search needs
@@ -121,11 +114,13 @@ returns-2 : tie.Need-returns-2
 returns-2 c =
     let put = c .before .before in
     let some = put .before .before .before .before .before in
-    let agreed = some .before .before .before .before .before .before in
+    let sized = some .before .before .before in
+    let agreed = sized .before .before .before in
     let s = call (received agreed) in
     let a = s .args in
     let r = received agreed .receive .last in
-    ap (λ (l : List ℕ). settlingOf (Granted (answerLength (a .settings .n))) l) (put .put-answer .ensures .1)
+    ap₂ (λ (size : ℕ) (l : List ℕ). settlingOf (Granted size) l) (sized .answer-length .ensures)
+    (put .put-answer .ensures .1)
     ∙ settles (a .sheet .now) (a .settings) (a .answer .now) (s .pre .0) (a .marks .now) (a .values .now) (r .1 .1 .0)
     (r .1 .1 .1 .0)
     (agreed .agree .last .0)
@@ -142,9 +137,7 @@ settle-in-spec =
     span-width-requires
     cast-agree
     agree-requires
-    cast-size
-    mul-size
-    add-size
+    answer-length-requires
     refuse-requires
     same-length
     same-length-2

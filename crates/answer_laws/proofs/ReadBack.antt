@@ -1,11 +1,11 @@
--- The answer sheet that settling granted passes its checks and shows the round's fields: its bytes are those that settling wrote, and every
--- number of the round has 32 bits.
+-- The answer sheet that settling granted passes its checks and shows the round's fields: its bytes are those that
+-- settling wrote, and every number of the round has 32 bits.
 -- Assumes nothing.
 use mathlib.Core.Bool.{true, false}
 use mathlib.Core.List.{List, [], _++_, append-nil}
 use mathlib.Core.Option.{none}
 use mathlib.Core.Path.{_≡_, sym, ap, _∙_, subst⁻¹}
-use Prim.Native.Nat.{ℕ, _+_, _≤_, _<_}
+use Prim.Native.Nat.{ℕ, _+_, _<_}
 use native.Mathlib.Omega.{arith}
 use borrow.Author.Tests.{eq-eqb, ne-eqb, le-ltb}
 use lib.Dec.{eqb, ltb}

@@ -5,13 +5,13 @@ use mathlib.Core.Bool.{false}
 use mathlib.Core.List.{List, _∷_}
 use mathlib.Core.Option.{Option, some}
 use mathlib.Core.Path.{_≡_, sym, ap, ap₂, _∙_}
-use Prim.Native.Nat.{ℕ, _+_, _*_, _-_, _≤_}
+use Prim.Native.Nat.{ℕ, _+_, _*_, _-_, _≤_, _<_}
 use native.Mathlib.Nat.{add-assoc}
 use native.Mathlib.Omega.{arith}
 use borrow.Author.Tests.{eq-eqb, ne-eqb, le-ltb}
 use lib.Dec.{ltb}
 use lib.ListN.{length, take, drop, length-drop}
-use lib.Seq.{length-take-le, getD-drop, take-all}
+use lib.Seq.{length-take-le, getD-take, getD-drop, take-all}
 use Rattle.model.specs.declared.Settings.{Settings}
 use Rattle.arithmetic.specs.Counting.{lowest}
 use Rattle.arithmetic.proofs.Counting.{lowest-ext}
@@ -22,7 +22,7 @@ use Rattle.model.specs.Refusals.{badLengthNumber, badMarkNumber, badMissingNumb
 use Rattle.refusal_laws.proofs.Checks.{next-none}
 use Rattle.sheet_laws.proofs.Checks.{length-pass}
 use Rattle.sheet_laws.proofs.Inspection.{Inspected}
-use Rattle.sheet_laws.proofs.Parts.{marksPart, length-marksPart, marksPart-at}
+use Rattle.sheet_laws.proofs.Parts.{marksPart, length-marksPart}
 use Rattle.sheet_laws.proofs.Words.{word-ext}
 use Rattle.sheet_sizes.specs.Bounds.{mostEntries}
 use Rattle.mark_checks.specs.Marks.{marksIn}
@@ -39,6 +39,10 @@ readingsPart s E = take (length s - (headerSize + E)) (drop (headerSize + E) s)
 -- ---- checks 8 and 9 of the parts are those of the sheet's entries
 
 module _ (s : List ℕ) (E : ℕ) (long : length s ≡ headerSize + 5 * E) where
+  marks-at : (e : ℕ) → e < E → byte (marksPart s E) e ≡ markAt s e
+  marks-at e h =
+      getD-take (headerSize + E - headerSize) (drop headerSize s) e 0 (omega arith) ∙ getD-drop headerSize s e 0
+
   readings-rest : readingsPart s E ≡ drop (headerSize + E) s
   readings-rest =
       take-all (length s - (headerSize + E)) (drop (headerSize + E) s)
@@ -61,7 +65,7 @@ module _ (s : List ℕ) (E : ℕ) (long : length s ≡ headerSize + 5 * E) where
       ap (λ (k : ℕ). atEntry (lowest (λ e. ltb 1 (byte (marksPart s E) e)) k) badMarkNumber) (length-marksPart s E long)
       ∙ ap (λ (o : Option ℕ). atEntry o badMarkNumber)
       (lowest-ext (λ e. ltb 1 (byte (marksPart s E) e)) (λ e. ltb 1 (markAt s e)) E
-      (λ e h. ap (ltb 1) (marksPart-at s E long e h)))
+      (λ e h. ap (ltb 1) (marks-at e h)))
 
   missing-checked :
       badMissing (byte (marksPart s E)) (λ e. word (readingsPart s E) (4 * e)) (length (marksPart s E))
@@ -77,7 +81,7 @@ module _ (s : List ℕ) (E : ℕ) (long : length s ≡ headerSize + 5 * E) where
       (λ e. notZero (byte (marksPart s E) e) (word (readingsPart s E) (4 * e)))
       (λ e. notZero (markAt s e) (bitsAt s E e))
       E
-      (λ e h. ap₂ notZero (marksPart-at s E long e h) (readings-at e)))
+      (λ e h. ap₂ notZero (marks-at e h) (readings-at e)))
 
   module _ (few : E ≤ mostEntries) where
     fits : ltb mostEntries (length (marksPart s E)) ≡ false

@@ -32,7 +32,9 @@ module _ (marks readings : List ℕ) where
   fault i = notZero (byte marks i) (word readings (4 * i))
 
   -- the whole check, by the test of the lengths
-  module _ {b : Bool} (test : b ≡ (ltb mostEntries (length marks) || not (eqb (length readings) (4 * length marks)))) where
+  module _
+      {b : Bool}
+      (test : b ≡ (ltb mostEntries (length marks) || not (eqb (length readings) (4 * length marks)))) where
     pub unfit : b ≡ true → none ≡ missingIn marks readings
     unfolding missingIn
     unfit t = rw (sym test ∙ t)
@@ -49,7 +51,8 @@ module _ (marks readings : List ℕ) where
           ltb-false mostEntries (length marks)
           (or-left (ltb mostEntries (length marks)) (not (eqb (length readings) (4 * length marks))) (sym test ∙ f))
 
-      pub missing-searched : missingIn marks readings ≡ badMissing (byte marks) (λ i. word readings (4 * i)) (length marks)
+      pub missing-searched :
+          missingIn marks readings ≡ badMissing (byte marks) (λ i. word readings (4 * i)) (length marks)
       unfolding missingIn
       missing-searched = rw (sym test ∙ f)
 

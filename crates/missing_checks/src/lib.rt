@@ -1,4 +1,5 @@
-// Check 9 of marks and, for each, a reading of four bytes: the lowest entry that is missing with bytes that are not zero.
+// Check 9 of marks and, for each, a reading of four bytes: the lowest entry that is missing with bytes that are not
+// zero.
 ghost use mathlib.Core.Path.{_≡_};
 ghost use mathlib.Core.Bool.{not, _||_};
 ghost use Prim.Native.Nat.{_*_, _≤_, _<_, min};

@@ -60,7 +60,8 @@ module _ (s : List ℕ) (m r : ℕ) where
   openable c h =
       record {
         sizes = sizes;
-        marks = room-passed m (entryCount c) (next-none-left (noRoom m (entryCount c)) (noRoom r (entryCount c)) spacious);
+        marks =
+            room-passed m (entryCount c) (next-none-left (noRoom m (entryCount c)) (noRoom r (entryCount c)) spacious);
         readings =
             room-passed r (entryCount c) (next-none-right (noRoom m (entryCount c)) (noRoom r (entryCount c)) spacious);
         checks = checks;

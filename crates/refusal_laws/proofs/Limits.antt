@@ -1,4 +1,5 @@
--- What settings that pass checks 2 to 5 are: the limits of N, m, rule, estimator and window, and of the number of entries.
+-- What settings that pass checks 2 to 5 are: the limits of N, m, rule, estimator and window, and of the number of
+-- entries.
 -- Assumes nothing.
 use mathlib.Core.Bool.{Bool, true, false, cond, _||_}
 use mathlib.Core.Option.{none}

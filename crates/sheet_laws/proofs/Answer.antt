@@ -1,5 +1,5 @@
--- An answer sheet reads back: N, the accepted count, the estimate, the new value, each mark and each used value stand at their places
--- in the buffer that the answer was written to.
+-- An answer sheet reads back: N, the accepted count, the estimate, the new value, each mark and each used value stand
+-- at their places in the buffer that the answer was written to.
 -- Assumes nothing.
 use mathlib.Core.List.{List, _++_, append-assoc}
 use mathlib.Core.Path.{_≡_, refl, ap, _∙_}

@@ -1,4 +1,5 @@
--- What it means that no check of a sheet refuses: of its sizes and length (1 to 6), of its marks (8) and of its missing readings (9).
+-- What it means that no check of a sheet refuses: of its sizes and length (1 to 6), of its marks (8) and of its missing
+-- readings (9).
 -- Assumes nothing.
 use mathlib.Core.Bool.{Bool, true, false, not, _&&_}
 use mathlib.Core.List.{List, [], _∷_}

@@ -21,7 +21,8 @@ pub sheet-checks :
     (badLength (length s) (sheetLength (settingsAt s))))
 unfolding sheetChecks firstOf
 sheet-checks s =
-    ap (orNext (tooShort s)) (first-snoc (settingsChecks (settingsAt s)) (badLength (length s) (sheetLength (settingsAt s))))
+    ap (orNext (tooShort s))
+    (first-snoc (settingsChecks (settingsAt s)) (badLength (length s) (sheetLength (settingsAt s))))
 
 -- the reader: checks 1 to 6, 7 of each array, 8 and 9
 pub read-checks :
@@ -31,7 +32,8 @@ pub read-checks :
     (orNext (noRoom readings (entryCount (settingsAt s))) (firstOf (entryChecks s))))
 unfolding readChecks firstOf
 read-checks s marks readings =
-    first-append (sheetChecks s) (noRoom marks (entryCount (settingsAt s)) ∷ noRoom readings (entryCount (settingsAt s)) ∷ entryChecks s)
+    first-append (sheetChecks s)
+    (noRoom marks (entryCount (settingsAt s)) ∷ noRoom readings (entryCount (settingsAt s)) ∷ entryChecks s)
 
 -- the writer: checks 2 to 5, 6 of each array, 7, 8 and 9
 pub write-checks :

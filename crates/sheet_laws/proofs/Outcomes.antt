@@ -13,7 +13,8 @@ use Rattle.model.specs.declared.Settings.{Settings}
 use Rattle.model.specs.declared.Refusal.{Refusal}
 use Rattle.model.specs.RoundSheet.{settingsAt, sheetLength, rowPart, sheetBytes}
 use Rattle.model.specs.Refusals.{Check, firstOf, readChecks, writeChecks, rowChecks}
-use Rattle.model.specs.Calls.{granted, refused, verdict, marksOf, ticksOf, readAfter, read, writtenAfter, write, row, lent}
+use Rattle.model.specs.Calls.{granted, refused, verdict, marksOf, ticksOf, readAfter, read, writtenAfter, write}
+use Rattle.model.specs.Calls.{row, lent}
 
 -- ---- verdicts
 
@@ -57,7 +58,8 @@ module _ (c : Settings) (marks : List ℕ) (readings : List ℤ) (buffer : List 
 -- ---- the row accessor
 
 module _ (s : List ℕ) where
-  pub row-shown : (r : ℕ) → firstOf (rowChecks s) ≡ none → ltb r (settingsAt s .n) ≡ true → row s r ≡ rowPart s (settingsAt s) r
+  pub row-shown :
+      (r : ℕ) → firstOf (rowChecks s) ≡ none → ltb r (settingsAt s .n) ≡ true → row s r ≡ rowPart s (settingsAt s) r
   unfolding row
   row-shown r h l = rw (h, l)
 

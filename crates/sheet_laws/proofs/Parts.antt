@@ -1,14 +1,14 @@
--- The marks of a sheet as the part of it that holds them.
+-- The part of a sheet that holds its marks.
 -- Assumes nothing.
 use mathlib.Core.List.{List}
-use mathlib.Core.Path.{_≡_, sym, ap, _∙_}
+use mathlib.Core.Path.{_≡_, sym, _∙_}
 use Prim.Native.Nat.{ℕ, _+_, _*_, _-_, _≤_, _<_}
 use native.Mathlib.Omega.{arith}
 use lib.ListN.{length, take, drop, length-drop}
 use lib.Seq.{ext-getD, length-take-le, getD-take, getD-drop}
 use Rattle.arithmetic.specs.Writing.{table}
 use Rattle.arithmetic.proofs.Writing.{length-table, getD-table}
-use Rattle.model.specs.RoundSheet.{byte, markAt, headerSize}
+use Rattle.model.specs.RoundSheet.{byte, headerSize}
 
 -- the entries of a part of a list are that part
 pub table-part : (s : List ℕ) (k n : ℕ) → k + n ≤ length s → table (λ e. byte s (k + e)) n ≡ take n (drop k s)
@@ -33,15 +33,5 @@ module _ (s : List ℕ) (E : ℕ) (long : length s ≡ headerSize + 5 * E) where
       fits : headerSize + E - headerSize ≤ length (drop headerSize s)
       fits = let d = length-drop headerSize s in omega arith
 
-      same : headerSize + E - headerSize ≡ E
-      same = omega arith
-
-  pub marksPart-at : (e : ℕ) → e < E → byte (marksPart s E) e ≡ markAt s e
-  marksPart-at e h = getD-take (headerSize + E - headerSize) (drop headerSize s) e 0 (omega arith) ∙ getD-drop headerSize s e 0
-
-  pub marksPart-table : marksPart s E ≡ table (markAt s) E
-  marksPart-table =
-      ap (λ (k : ℕ). take k (drop headerSize s)) same ∙ sym (table-part s headerSize E (omega arith))
-    where
       same : headerSize + E - headerSize ≡ E
       same = omega arith

@@ -1,4 +1,5 @@
--- A sheet that was read writes back: where checks 1 to 6 pass, `sheetBytes` of the sheet's own settings, marks and readings is the sheet.
+-- A sheet that was read writes back: where checks 1 to 6 pass, `sheetBytes` of the sheet's own settings, marks and
+-- readings is the sheet.
 -- Assumes nothing.
 use mathlib.Core.List.{List, [], _∷_, _++_, append-nil}
 use mathlib.Core.Option.{none}

@@ -1,4 +1,5 @@
--- The two round trips of the reader and the writer: what is written reads back the same, and what is read writes back the same bytes.
+-- The two round trips of the reader and the writer: what is written reads back the same, and what is read writes back
+-- the same bytes.
 -- Assumes nothing.
 use mathlib.Core.List.{List}
 use mathlib.Core.Option.{none}

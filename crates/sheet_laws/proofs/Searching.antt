@@ -1,4 +1,5 @@
--- A search for the lowest index that passes a test, index by index; and what holds of the indices passed and of the next.
+-- A search for the lowest index that passes a test, index by index; and what holds of the indices passed and of the
+-- next.
 -- Assumes nothing.
 use mathlib.Core.Bool.{Bool, true, false}
 use mathlib.Core.Option.{Option, none, some}

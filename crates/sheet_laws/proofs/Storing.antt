@@ -1,41 +1,21 @@
--- Stores into a lent buffer: four bytes at a place, and entries one after another from the front.
+-- Stores into a lent buffer, one after another from the front.
 -- Assumes nothing.
 use mathlib.Core.List.{List, [], _∷_, _++_, append-assoc, append-nil}
 use mathlib.Core.Path.{_≡_, refl, sym, ap, ap₂, _∙_}
-use Prim.Native.Nat.{ℕ, _+_, _*_, _-_, _/_, _%_, _≤_, _<_}
+use Prim.Native.Nat.{ℕ, _+_, _*_, _-_, _≤_, _<_}
 use native.Mathlib.Nat.{le-of-eq}
-use native.Mathlib.Numerals.{add-one, add-two, add-three}
+use native.Mathlib.Numerals.{add-one}
 use native.Mathlib.Omega.{arith}
-use borrow.Author.Tests.{le-leb, lt-leb}
+use borrow.Author.Tests.{le-leb}
 use lib.IntN.{ℤ, pos}
-use lib.ListN.{getD, length, take, drop, set, length-append, length-drop, drop-of-length-le}
-use lib.Seq.{length-take-le, take-suc, take-all, sets-eq, take-length, take-at, drop-at, drop-append-add, drop-drop}
+use lib.ListN.{getD, length, take, drop, length-append, length-drop, drop-of-length-le}
+use lib.Seq.{length-take-le, take-suc, take-all, take-length, take-at, drop-at, drop-append-add, drop-drop}
 use mir.Syntax.{w32}
 use mir.Val.{ofZ}
 use Rattle.arithmetic.specs.Writing.{overwrite}
-use Rattle.model.specs.declared.Settings.{Settings}
-use Rattle.model.specs.RoundSheet.{bytes4, readingBytes, sizeBytes, headerSize}
+use Rattle.model.specs.RoundSheet.{bytes4, readingBytes}
 use Rattle.sheet_laws.specs.Storing.{putWord}
 use Rattle.sheet_laws.proofs.Readings.{length-bytes4, length-readingBytes, readingBytes-append}
-
--- ---- four bytes at a place
-
-module _ (b : List ℕ) (i x : ℕ) where
-  pub put-word-fits :
-      i + 4 ≤ length b
-      → set (set (set (set b i (x % 256)) (i + 1) (x / 256 % 256)) (i + 2) (x / 65536 % 256)) (i + 3)
-      (x / 16777216 % 256) ≡ putWord b i x
-  unfolding putWord bytes4
-  put-word-fits h =
-      rw (add-one, add-two, add-three, le-leb (i + 4) (length b) h)
-      (sets-eq (x % 256 ∷ x / 256 % 256 ∷ x / 65536 % 256 ∷ x / 16777216 % 256 ∷ []) b i h
-      ∙ append-assoc (take i b) (x % 256 ∷ x / 256 % 256 ∷ x / 65536 % 256 ∷ x / 16777216 % 256 ∷ []) (drop (i + 4) b))
-
-  pub put-word-past : length b < i + 4 → putWord b i x ≡ b
-  unfolding putWord
-  put-word-past h = rw (lt-leb (i + 4) (length b) h)
-
--- ---- one after another
 
 -- the next number stored behind what was written
 pub put-word-next :
@@ -75,13 +55,11 @@ module _ {A : Type 0} where
       → take k (overwrite p old) ++ overwrite q (drop k (overwrite p old)) ≡ overwrite (p ++ q) old
   unfolding overwrite
   overwrite-append p q old k e =
-      ap₂ (λ (l r : List A). l ++ (q ++ drop (length q) r)) (take-at p (drop (length p) old) k e) (drop-at p (drop (length p) old) k e)
-      ∙ ap (λ (r : List A). p ++ (q ++ r)) (drop-drop (length q) (length p) old ∙ ap (λ (j : ℕ). drop j old) (sym (length-append p q)))
+      ap₂ (λ (l r : List A). l ++ (q ++ drop (length q) r)) (take-at p (drop (length p) old) k e)
+      (drop-at p (drop (length p) old) k e)
+      ∙ ap (λ (r : List A). p ++ (q ++ r))
+      (drop-drop (length q) (length p) old ∙ ap (λ (j : ℕ). drop j old) (sym (length-append p q)))
       ∙ sym (append-assoc p q (drop (length (p ++ q)) old))
-
-  -- what is left from place k on, as it is lent
-  pub length-tail : (b : List A) (k : ℕ) → length (take (length b - k) (drop k b)) ≡ length b - k
-  length-tail b k = length-take-le (length b - k) (drop k b) (le-of-eq (sym (length-drop k b)))
 
   -- a tail that was lent and written, put back behind what was written
   pub tail-written :
@@ -89,29 +67,14 @@ module _ {A : Type 0} where
       → t ≡ overwrite q (take (length b - k) (drop k b))
       → take k b ++ (t ++ drop (length b - k) (drop k b)) ≡ overwrite (p ++ q) old
   tail-written p q old b t k e s w =
-      ap₂ (λ (l r : List A). take k b ++ (l ++ r)) (w ∙ ap (overwrite q) whole) (drop-of-length-le (drop k b) (le-of-eq (length-drop k b)))
+      ap₂ (λ (l r : List A). take k b ++ (l ++ r)) (w ∙ ap (overwrite q) whole)
+      (drop-of-length-le (drop k b) (le-of-eq (length-drop k b)))
       ∙ ap (λ (l : List A). take k b ++ l) (append-nil (overwrite q (drop k b)))
       ∙ ap (λ (l : List A). take k l ++ overwrite q (drop k l)) s
       ∙ overwrite-append p q old k e
     where
       whole : take (length b - k) (drop k b) ≡ drop k b
       whole = take-all (length b - k) (drop k b) (le-of-eq (length-drop k b))
-
--- ---- the writer's stores
-
--- the four bytes and the number of the sizes
-pub sizes-stored :
-    (c : Settings) (b : List ℕ) → headerSize ≤ length b
-    → putWord (set (set (set (set b 0 (c .n)) 1 (c .m)) 2 (c .rule)) 3 (c .estimator)) 4 (c .window) ≡ overwrite
-    (sizeBytes c) b
-unfolding sizeBytes
-sizes-stored c b h =
-    ap (λ (l : List ℕ). putWord l 4 (c .window)) first ∙ put-word-next (c .n ∷ c .m ∷ c .rule ∷ c .estimator ∷ []) b 4 (c .window) refl h
-  where
-    first :
-        set (set (set (set b 0 (c .n)) 1 (c .m)) 2 (c .rule)) 3 (c .estimator) ≡ overwrite
-        (c .n ∷ c .m ∷ c .rule ∷ c .estimator ∷ []) b
-    first = unfold overwrite in sets-eq (c .n ∷ c .m ∷ c .rule ∷ c .estimator ∷ []) b 0 (omega arith)
 
 -- readings stored one by one: none yet, the next, all of them
 pub put-none : (zs : List ℤ) (old : List ℕ) → old ≡ overwrite (readingBytes (take 0 zs)) old
@@ -135,7 +98,8 @@ put-next zs e old now x s h v room =
         ap (λ (k : ℕ). readingBytes (take k zs)) (add-one e)
         ∙ ap readingBytes (take-suc zs e (pos 0) h)
         ∙ readingBytes-append (take e zs) (getD zs e (pos 0) ∷ [])
-        ∙ ap (λ (l : List ℕ). readingBytes (take e zs) ++ l) (unfold readingBytes in append-nil (bytes4 (ofZ w32 (getD zs e (pos 0)))))
+        ∙ ap (λ (l : List ℕ). readingBytes (take e zs) ++ l)
+        (unfold readingBytes in append-nil (bytes4 (ofZ w32 (getD zs e (pos 0)))))
 
 pub put-ended :
     (zs : List ℤ) (e : ℕ) (old now : List ℕ) → length zs ≤ e → now ≡ overwrite (readingBytes (take e zs)) old

@@ -8,7 +8,7 @@ use native.Mathlib.Numerals.{add-one, add-two, add-three}
 use native.Mathlib.Omega.{arith}
 use lib.Arith.{mod-mul}
 use lib.Dec.{lit<}
-use lib.ListN.{length, take, drop, List·getD-append, List·getD-eq-default}
+use lib.ListN.{length, take, drop, List·getD-append}
 use lib.Seq.{getD-append-add, drop-cons}
 use Rattle.arithmetic.specs.Words.{twoTo32}
 use Rattle.model.specs.RoundSheet.{byte, word, bytes4}
@@ -65,19 +65,6 @@ pub word-joined :
 unfolding word
 word-joined s i x e = e
 
--- past the end every byte is 0
-pub word-past : (s : List ℕ) (i : ℕ) → length s ≤ i → word s i ≡ 0
-unfolding word
-word-past s i h =
-    let first = List·getD-eq-default s 0 h in
-    let second = List·getD-eq-default s 0 (over 1) in
-    let third = List·getD-eq-default s 0 (over 2) in
-    let fourth = List·getD-eq-default s 0 (over 3) in
-    omega arith
-  where
-    over : (k : ℕ) → length s ≤ i + k
-    over k = omega arith
-
 -- a number of four bytes is below 2^32
 pub word-fits : (s : List ℕ) (i : ℕ) → ((j : ℕ) → byte s j < 256) → word s i < twoTo32
 unfolding word
@@ -113,13 +100,17 @@ pub take4 :
 take4 s i h =
     let first : drop i s ≡ byte s i ∷ drop (suc i) s = drop-cons s i 0 (omega arith) in
     let second : drop (suc i) s ≡ byte s (suc i) ∷ drop (suc (suc i)) s = drop-cons s (suc i) 0 (omega arith) in
-    let third : drop (suc (suc i)) s ≡ byte s (suc (suc i)) ∷ drop (suc (suc (suc i))) s = drop-cons s (suc (suc i)) 0 (omega arith) in
-    let fourth : drop (suc (suc (suc i))) s ≡ byte s (suc (suc (suc i))) ∷ drop (suc (suc (suc (suc i)))) s = drop-cons s (suc (suc (suc i))) 0 (omega arith) in
+    let third : drop (suc (suc i)) s ≡ byte s (suc (suc i)) ∷ drop (suc (suc (suc i))) s =
+    drop-cons s (suc (suc i)) 0 (omega arith) in
+    let fourth : drop (suc (suc (suc i))) s ≡ byte s (suc (suc (suc i))) ∷ drop (suc (suc (suc (suc i)))) s =
+    drop-cons s (suc (suc (suc i))) 0 (omega arith) in
     rw (add-one, add-two, add-three, first, second, third, fourth)
 
 -- the four bytes at a place, of a list of bytes
-pub bytes4-word : (s : List ℕ) (i : ℕ) → ((j : ℕ) → byte s j < 256) → i + 4 ≤ length s → bytes4 (word s i) ≡ take 4 (drop i s)
+pub bytes4-word :
+    (s : List ℕ) (i : ℕ) → ((j : ℕ) → byte s j < 256) → i + 4 ≤ length s → bytes4 (word s i) ≡ take 4 (drop i s)
 unfolding word
 bytes4-word s i small h =
-    bytes4-digits (byte s i) (byte s (i + 1)) (byte s (i + 2)) (byte s (i + 3)) (small i) (small (i + 1)) (small (i + 2)) (small (i + 3))
+    bytes4-digits (byte s i) (byte s (i + 1)) (byte s (i + 2)) (byte s (i + 3))
+    (small i) (small (i + 1)) (small (i + 2)) (small (i + 3))
     ∙ sym (take4 s i h)

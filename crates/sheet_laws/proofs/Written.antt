@@ -1,5 +1,5 @@
--- A sheet that was written reads back: the settings, the marks, the readings and each entry of `sheetBytes` are those that it was
--- made from, its length is the sheet's, and no check of a sheet refuses it.
+-- A sheet that was written reads back: the settings, the marks, the readings and each entry of `sheetBytes` are those
+-- that it was made from, its length is the sheet's, and no check of a sheet refuses it.
 -- Assumes nothing.
 use mathlib.Core.Bool.{cond}
 use mathlib.Core.List.{List, [], _++_, append-nil}
@@ -81,12 +81,6 @@ module _ (c : Settings) (marks : List ℕ) (readings : List ℤ) where
 abbrev pub entryWith : ℕ → ℤ → Reading
 entryWith mark z = cond (eqb mark 1) (present z) missing
 
-pub entry-missing : (mark : ℕ) (z : ℤ) → mark ≡ 0 → entryWith mark z ≡ missing
-entry-missing mark z h = rw h
-
-pub entry-present : (mark : ℕ) (z : ℤ) → mark ≡ 1 → entryWith mark z ≡ present z
-entry-present mark z h = rw h
-
 module _ (c : Settings) (marks : List ℕ) (readings : List ℤ) (w : WellFormed c marks readings) where
   window-fits : c .window < twoTo32
   window-fits = let l = limits c (w .settingsPass) in omega arith
@@ -132,16 +126,6 @@ module _ (c : Settings) (marks : List ℕ) (readings : List ℤ) (w : WellFormed
       → entryAt (sheetBytes c marks readings) (entryCount c) e ≡ entryWith (getD marks e 0) (getD readings e (pos 0))
   unfolding entryAt
   entry-back e h = ap₂ entryWith (mark-back e h) (ticks-back e h)
-
-  pub entry-missing-back :
-      (e : ℕ) → e < entryCount c → getD marks e 0 ≡ 0
-      → entryAt (sheetBytes c marks readings) (entryCount c) e ≡ missing
-  entry-missing-back e h m = entry-back e h ∙ entry-missing (getD marks e 0) (getD readings e (pos 0)) m
-
-  pub entry-present-back :
-      (e : ℕ) → e < entryCount c → getD marks e 0 ≡ 1
-      → entryAt (sheetBytes c marks readings) (entryCount c) e ≡ present (getD readings e (pos 0))
-  entry-present-back e h m = entry-back e h ∙ entry-present (getD marks e 0) (getD readings e (pos 0)) m
 
   -- no check of a sheet refuses it
   pub sheet-passes : firstOf (sheetChecks (sheetBytes c marks readings)) ≡ none

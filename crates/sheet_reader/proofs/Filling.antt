@@ -1,20 +1,21 @@
 -- What the reader gives, by its checks and by what is filled.
 -- Assumes nothing.
 use mathlib.Core.List.{List}
-use mathlib.Core.Option.{some}
 use mathlib.Core.Path.{_≡_, sym, ap, _∙_}
-use Prim.Native.Nat.{ℕ}
+use Prim.Native.Nat.{ℕ, _+_, _*_, _-_}
+use native.Mathlib.Omega.{arith}
 use lib.IntN.{ℤ}
-use lib.ListN.{length}
+use lib.ListN.{length, take, drop}
 use mir.Syntax.{w32}
 use mir.Val.{toZ}
 use Rattle.arithmetic.specs.Writing.{table, overwrite}
 use Rattle.model.specs.declared.Settings.{Settings}
 use Rattle.model.specs.declared.Refusal.{Refusal}
-use Rattle.model.specs.RoundSheet.{settingsAt, entryCount, markAt, bitsAt}
+use Rattle.model.specs.RoundSheet.{headerSize, settingsAt, entryCount, markAt, bitsAt}
 use Rattle.model.specs.Refusals.{Check, firstOf, readChecks}
 use Rattle.model.specs.Calls.{granted, refused, verdict, read, readAfter, Read}
 use Rattle.sheet_laws.proofs.Outcomes.{refused-some, read-grants}
+use Rattle.sheet_laws.proofs.Parts.{marksPart, table-part}
 use Rattle.reader_checks.proofs.Opening.{Openable}
 
 pub reader-refuses :
@@ -47,3 +48,11 @@ reader-fills s marks readings c o E same newMarks newReadings a b =
   where
     entries-same : entryCount (settingsAt s) ≡ E
     entries-same = ap entryCount (o .sizes .settings) ∙ sym same
+
+-- the part copied is the marks
+pub marksPart-table : (s : List ℕ) (E : ℕ) → length s ≡ headerSize + 5 * E → marksPart s E ≡ table (markAt s) E
+marksPart-table s E long =
+    ap (λ (k : ℕ). take k (drop headerSize s)) same ∙ sym (table-part s headerSize E (omega arith))
+  where
+    same : headerSize + E - headerSize ≡ E
+    same = omega arith

@@ -1,4 +1,5 @@
-// Document 01, "The round sheet" and "The answer sheet": the sizes that the first bytes say, and the lengths that follow.
+// Document 01, "The round sheet" and "The answer sheet": the sizes that the first bytes say, and the lengths that
+// follow.
 ghost use mathlib.Core.Path.{_≡_};
 ghost use Rattle.model.specs.RoundSheet.{settingsAt, entryCount, sheetLength};
 ghost use Rattle.model.specs.AnswerSheet.{answerLength};

@@ -1,5 +1,5 @@
--- The writer's checks in their order, by the lengths and by what is found in the entries; and what it means that those of
--- the lengths pass.
+-- The writer's checks in their order, by the lengths and by what is found in the entries; and what it means that those
+-- of the lengths pass.
 -- Assumes nothing.
 use mathlib.Core.List.{List, [], _∷_, _++_, append-assoc}
 use mathlib.Core.Option.{none, some}
@@ -34,7 +34,8 @@ module _ (c : Settings) (m r room : ℕ) where
       first-append (settingsChecks c)
       (badLength m (entryCount c) ∷ badLength r (entryCount c) ∷ noRoom room (sheetLength c) ∷ [])
       ∙ ap
-      (λ (x : Check). orNext (firstOf (settingsChecks c)) (orNext (badLength m (entryCount c)) (orNext (badLength r (entryCount c)) x)))
+      (λ (x : Check).
+      orNext (firstOf (settingsChecks c)) (orNext (badLength m (entryCount c)) (orNext (badLength r (entryCount c)) x)))
       (next-none (noRoom room (sheetLength c)))
 
   -- what it means that they pass
@@ -67,7 +68,10 @@ module _ (c : Settings) (marks : List ℕ) (readings : List ℤ) (room : ℕ) wh
   unfolding writeChecks lengthChecks
   write-order =
       let lengths =
-      badLength (length marks) (entryCount c) ∷ badLength (length readings) (entryCount c) ∷ noRoom room (sheetLength c) ∷ []
+      badLength (length marks) (entryCount c)
+      ∷ badLength (length readings) (entryCount c)
+      ∷ noRoom room (sheetLength c)
+      ∷ []
       in
       let entries = arrayChecks (byte marks) (bitsIn readings) (entryCount c) in
       ap firstOf (sym (append-assoc (settingsChecks c) lengths entries))
@@ -78,14 +82,16 @@ module _ (c : Settings) (marks : List ℕ) (readings : List ℤ) (room : ℕ) wh
       → some r ≡ firstOf (writeChecks c marks readings room)
   lengths-refused r h =
       sym
-      (write-order ∙ ap (λ (x : Check). orNext x (firstOf (arrayChecks (byte marks) (bitsIn readings) (entryCount c)))) h)
+      (write-order
+      ∙ ap (λ (x : Check). orNext x (firstOf (arrayChecks (byte marks) (bitsIn readings) (entryCount c)))) h)
 
   both :
       firstOf (arrayChecks (byte marks) (bitsIn readings) (entryCount c))
       ≡ orNext (badMark (byte marks) (entryCount c)) (badMissing (byte marks) (bitsIn readings) (entryCount c))
   unfolding firstOf
   both =
-      ap (orNext (badMark (byte marks) (entryCount c))) (next-none (badMissing (byte marks) (bitsIn readings) (entryCount c)))
+      ap (orNext (badMark (byte marks) (entryCount c)))
+      (next-none (badMissing (byte marks) (bitsIn readings) (entryCount c)))
 
   module _ (w : Writable c (length marks) (length readings) room) where
     pub few-marks : length marks ≤ mostEntries

@@ -43,7 +43,8 @@ returns c =
     let a = at-check .before .before .args in
     c .unless-refused .ensures
     ∙ ap₂ verdict (at-check .check-cabinet .ensures)
-    (at-number .word-at .ensures ∙ ap (λ (n : ℕ). word (a .answer .now) (answerHeaderSize + n + 4 * a .cabinet)) (at-n .byte-at .ensures))
+    (at-number .word-at .ensures
+    ∙ ap (λ (n : ℕ). word (a .answer .now) (answerHeaderSize + n + 4 * a .cabinet)) (at-n .byte-at .ensures))
 
 pub used-spec : {M : Type 1} → statement M
 used-spec =

@@ -1,5 +1,5 @@
--- `mark_checks::search` meets its contract. The loop's invariant: no mark passed is at fault. The measure is what is left
--- of the marks.
+-- `mark_checks::search` meets its contract. The loop's invariant: no mark passed is at fault. The measure is what is
+-- left of the marks.
 -- Assumes nothing.
 use borrow.Author.Tests.{lt-ltb, le-ltb}
 use mathlib.Core.Option.{none, some}
@@ -40,8 +40,8 @@ returns c =
     let entries = tested .before .before .before .entries in
     let a = tested .before .before .before .before .before .args in
     ap some (c .refuse-at .ensures)
-    ∙ check-found (λ i. ltb 1 (byte (a .marks .now) i)) badMarkNumber (length (a .marks .now)) (entries .e) (omega arith)
-    (entries .inv .1) (lt-ltb 1 (byte (a .marks .now) (entries .e)) (tested .if1 .taken))
+    ∙ check-found (λ i. ltb 1 (byte (a .marks .now) i)) badMarkNumber (length (a .marks .now)) (entries .e)
+    (omega arith) (entries .inv .1) (lt-ltb 1 (byte (a .marks .now) (entries .e)) (tested .if1 .taken))
 
 add-e : tie.Need-add-e Inv-entries μ-entries
 add-e c = omega arith

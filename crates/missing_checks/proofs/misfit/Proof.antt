@@ -1,4 +1,5 @@
--- `missing_checks::misfit` meets its contract: the quotient and the rest say whether there are four bytes for each mark.
+-- `missing_checks::misfit` meets its contract: the quotient and the rest say whether there are four bytes for each
+-- mark.
 -- Assumes nothing.
 use mathlib.Core.Bool.{Bool, _||_}
 use mathlib.Core.Path.{ap}

@@ -1,5 +1,5 @@
--- `missing_checks::search` meets its contract. The loop's invariant: no entry passed is at fault. The measure is what is
--- left of the marks.
+-- `missing_checks::search` meets its contract. The loop's invariant: no entry passed is at fault. The measure is what
+-- is left of the marks.
 -- Assumes nothing.
 use mathlib.Core.Option.{none, some}
 use mathlib.Core.Path.{_≡_, sym, ap, _∙_}

@@ -1,8 +1,8 @@
--- `reader_checks::check` meets its contract: what `inspect`, `check_room` and `check_entries` answer says which of checks 1
--- to 9 refuses first.
+-- `reader_checks::check` meets its contract: what `inspect`, `check_room` and `check_entries` answer says which of
+-- checks 1 to 9 refuses first.
 -- Assumes nothing.
 use borrow.Author.Needs.{needs}
-use mathlib.Core.Path.{_≡_, sym, ap, _∙_}
+use mathlib.Core.Path.{sym, ap, _∙_}
 use Rattle.refusals.specs.Answers.{checkOf}
 use Rattle.model.specs.RoundSheet.{settingsAt}
 use Rattle.model.specs.Refusals.{firstOf, sheetChecks}

@@ -6,7 +6,8 @@ use mathlib.Core.List.{[], _∷_}
 use mathlib.Core.Option.{none, some}
 use mathlib.Core.Path.{_≡_, refl, ap, _∙_}
 use Prim.Native.Nat.{ℕ}
-use Rattle.model.specs.Refusals.{Check, refuseIf, orNext, firstOf, settingsChecks, badCabinets, badFaults, badMethod, badWindow}
+use Rattle.model.specs.Refusals.{Check, refuseIf, orNext, firstOf, settingsChecks}
+use Rattle.model.specs.Refusals.{badCabinets, badFaults, badMethod, badWindow}
 use Rattle.model.specs.Refusals.{badCabinetsNumber, badFaultsNumber, badMethodNumber, badWindowNumber}
 use Rattle.settings_checks.proofs.screen.Statement.{statement}
 use Rattle.settings_checks.proofs.screen.Tie as tie
@@ -48,7 +49,9 @@ last-stands : (x : Check) → orNext x none ≡ x
 last-stands none = refl
 last-stands (some r) = refl
 
-told : {x : Check} {fails wanted : Bool} (number : ℕ) → x ≡ refuseIf fails number → fails ≡ wanted → x ≡ refuseIf wanted number
+told :
+    {x : Check} {fails wanted : Bool} (number : ℕ) → x ≡ refuseIf fails number → fails ≡ wanted
+    → x ≡ refuseIf wanted number
 told number e w = e ∙ ap (λ (b : Bool). refuseIf b number) w
 
 first : {w x y z later last last' : Check} {w' x' y' z' : Check}

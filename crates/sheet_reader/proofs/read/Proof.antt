@@ -1,4 +1,5 @@
--- `sheet_reader::read` meets its contract: a refusal leaves both arrays, and else the two that are filled are the reader's.
+-- `sheet_reader::read` meets its contract: a refusal leaves both arrays, and else the two that are filled are the
+-- reader's.
 -- Assumes nothing.
 use borrow.Author.Needs.{needs}
 use mathlib.Core.List.{List}
@@ -10,9 +11,9 @@ use Rattle.arithmetic.specs.Writing.{overwrite}
 use Rattle.model.specs.RoundSheet.{entryCount, headerSize}
 use Rattle.sheet_checks.specs.Answers.{openedOf}
 use Rattle.reader_checks.proofs.Opening.{Openable, openable}
-use Rattle.sheet_laws.proofs.Parts.{marksPart, length-marksPart, marksPart-table}
+use Rattle.sheet_laws.proofs.Parts.{marksPart, length-marksPart}
 use Rattle.sheet_laws.proofs.Storing.{copy-overwrites}
-use Rattle.sheet_reader.proofs.Filling.{reader-refuses, reader-fills}
+use Rattle.sheet_reader.proofs.Filling.{reader-refuses, reader-fills, marksPart-table}
 use Rattle.sheet_reader.proofs.read.Statement.{statement}
 use Rattle.sheet_reader.proofs.read.Tie as tie
 

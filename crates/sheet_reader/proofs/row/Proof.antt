@@ -1,4 +1,5 @@
--- `sheet_reader::row` meets its contract: the part returned is where the row lies, and it is empty where `validate` refuses.
+-- `sheet_reader::row` meets its contract: the part returned is where the row lies, and it is empty where `validate`
+-- refuses.
 -- Assumes nothing.
 use borrow.Author.Needs.{needs}
 use mathlib.Core.Path.{sym, ap, _∙_}
@@ -25,20 +26,30 @@ slice-aggregate-result c = search needs
 
 returns : tie.Need-returns
 returns c =
+    let told = c .before in
+    let checked = told .before .before in
+    let a = checked .before .before .args in
+    let s = a .sheet .now in
+    let r = told .enum-told .given .0 .0 in
     sym
-    (row-refused (c .before .before .before .before .before .args .sheet .now) (c .before .before .before .before .before .args .r) (c .before .enum-told .given .0 .0)
-    (refused-some (firstOf (rowChecks (c .before .before .before .before .before .args .sheet .now))) (settingsAt (c .before .before .before .before .before .args .sheet .now)) (c .before .enum-told .given .0 .0)
-    (sym (c .before .before .before .validate .ensures) ∙ ap openedOf (c .before .enum-told .given .1))))
+    (row-refused s (a .r) r
+    (refused-some (firstOf (rowChecks s)) (settingsAt s) r
+    (sym (checked .validate .ensures) ∙ ap openedOf (told .enum-told .given .1))))
 
 row-part-requires : tie.Need-row-part-requires
 row-part-requires c κs = search needs
 
 returns-2 : tie.Need-returns-2
 returns-2 c =
+    let at-settings = c .before .before in
+    let checked = at-settings .before .before in
+    let a = checked .before .before .args in
+    let settings = at-settings .settings .given .0 .0 in
     c .row-part .ensures
-    ∙ part-shown (c .before .before .before .before .before .before .args .sheet .now) (c .before .before .settings .given .0 .0)
-    (validated (c .before .before .before .before .before .before .args .sheet .now) (c .before .before .settings .given .0 .0) (sym (c .before .before .before .before .validate .ensures) ∙ ap openedOf (c .before .before .settings .given .1)))
-    (c .before .before .before .before .before .before .args .r)
+    ∙ part-shown (a .sheet .now) settings
+    (validated (a .sheet .now) settings
+    (sym (checked .validate .ensures) ∙ ap openedOf (at-settings .settings .given .1)))
+    (a .r)
 
 pub row-spec : {M : Type 1} → statement M
 row-spec =

@@ -1,5 +1,6 @@
--- `sheet_writer::put_readings` meets its contract. The loop's invariant: the readings passed are stored, and later bytes are as they were.
--- The measure is the number of readings left. Assumes nothing.
+-- `sheet_writer::put_readings` meets its contract. The loop's invariant: the readings passed are stored, and later
+-- bytes are as they were. The measure is the number of readings left.
+-- Assumes nothing.
 use mathlib.Core.Path.{_≡_, refl, ap, _∙_}
 use mir.Syntax.{w32}
 use mir.Val.{ofZ}
@@ -16,7 +17,8 @@ use Rattle.sheet_writer.proofs.put_readings.Tie as tie
 
 abbrev Inv-entries : tie.InvT-entries
 Inv-entries readings buffer₀ e₀ buffer e =
-    (e ≤ length readings) × (length buffer ≡ length buffer₀) × (buffer ≡ overwrite (readingBytes (take e readings)) buffer₀)
+    (e ≤ length readings) × (length buffer ≡ length buffer₀)
+    × (buffer ≡ overwrite (readingBytes (take e readings)) buffer₀)
 
 abbrev μ-entries : tie.MeasureT-entries
 μ-entries readings buffer₀ e₀ buffer e = length readings - e
@@ -58,7 +60,8 @@ entries-again c =
       put-word .ensures
           ∙ put-next (a .readings .now) (entries .e) (a .buffer .now) (entries .buffer)
           (to-bits .result) (entries .inv .2) (omega arith)
-          (to-bits .ensures ∙ ap (ofZ w32) (bits-again (getD (a .readings .now) (entries .e) (pos 0)) (t8 .given))) (pre),
+          (to-bits .ensures ∙ ap (ofZ w32) (bits-again (getD (a .readings .now) (entries .e) (pos 0)) (t8 .given)))
+          pre,
     )
 
 same-length : tie.Need-same-length Inv-entries μ-entries

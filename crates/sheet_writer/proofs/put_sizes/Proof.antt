@@ -4,7 +4,7 @@ use borrow.Author.Needs.{needs}
 use mathlib.Core.Path.{_∙_}
 use native.Mathlib.Omega.{arith}
 use lib.ListN.{length-set}
-use Rattle.sheet_laws.proofs.Storing.{sizes-stored}
+use Rattle.sheet_writer.proofs.Stores.{sizes-stored}
 use Rattle.sheet_writer.proofs.put_sizes.Statement.{statement}
 use Rattle.sheet_writer.proofs.put_sizes.Tie as tie
 

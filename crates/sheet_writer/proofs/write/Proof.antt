@@ -1,5 +1,5 @@
--- `sheet_writer::write` meets its contract: a refusal leaves the buffer, and else the sizes and the tail written are the
--- sheet.
+-- `sheet_writer::write` meets its contract: a refusal leaves the buffer, and else the sizes and the tail written are
+-- the sheet.
 -- Assumes nothing.
 use borrow.Author.Needs.{needs}
 use mathlib.Core.List.{_++_}
@@ -12,9 +12,10 @@ use Rattle.refusals.specs.Answers.{checkOf}
 use Rattle.model.specs.RoundSheet.{headerSize, readingBytes, sizeBytes}
 use Rattle.model.specs.Refusals.{firstOf, writeChecks}
 use Rattle.sheet_laws.proofs.Written.{length-sizeBytes}
-use Rattle.sheet_laws.proofs.Storing.{length-tail, tail-written}
+use Rattle.sheet_laws.proofs.Storing.{tail-written}
 use Rattle.writer_checks.proofs.Writing.{written-within}
 use Rattle.sheet_writer.proofs.Filling.{writer-refuses, writer-fills}
+use Rattle.sheet_writer.proofs.Stores.{length-tail}
 use Rattle.sheet_writer.proofs.write.Statement.{statement}
 use Rattle.sheet_writer.proofs.write.Tie as tie
 

@@ -1,10 +1,11 @@
--- `words::put_word` meets its contract: four stores are the number's four bytes, and none is made where they do not fit.
+-- `words::put_word` meets its contract: four stores are the number's four bytes, and none is made where they do not
+-- fit.
 -- Assumes nothing.
 use borrow.Author.Needs.{needs}
 use mathlib.Core.Path.{sym}
 use native.Mathlib.Omega.{arith}
 use lib.ListN.{length-set}
-use Rattle.sheet_laws.proofs.Storing.{put-word-fits, put-word-past}
+use Rattle.words.proofs.Places.{put-word-fits, put-word-past}
 use Rattle.words.proofs.put_word.Statement.{statement}
 use Rattle.words.proofs.put_word.Tie as tie
 

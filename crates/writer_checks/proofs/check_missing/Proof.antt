@@ -1,5 +1,5 @@
--- `writer_checks::check_missing` meets its contract. The loop's invariant: no entry passed is at fault. The measure is what
--- is left of the marks.
+-- `writer_checks::check_missing` meets its contract. The loop's invariant: no entry passed is at fault. The measure is
+-- what is left of the marks.
 -- Assumes nothing.
 use mathlib.Core.Bool.{Bool}
 use mathlib.Core.List.{List}

@@ -1,10 +1,11 @@
--- Every call's answer tells what it gives: a grant is below 2^32, and a refusal is 2^32 or above and gives back its number, 1 to 12, and its
--- place. A refusal has the place of an entry only where the settings pass, and these have at most 4,096 entries.
+-- Every call's answer tells what it gives: a grant is below 2^32, and a refusal is 2^32 or above and gives back its
+-- number, 1 to 12, and its place. A refusal has the place of an entry only where the settings pass, and these have at
+-- most 4,096 entries.
 -- Assumes nothing.
 use mathlib.Core.Bool.{Bool, true, false, not, _||_}
 use mathlib.Core.List.{List, [], _∷_}
 use mathlib.Core.Option.{Option, none, some}
-use mathlib.Core.Path.{_≡_, refl, sym, ap, _∙_, subst}
+use mathlib.Core.Path.{_≡_, refl, sym, _∙_, subst}
 use Prim.Native.Nat.{ℕ, _+_, _*_, _≤_, _<_}
 use native.Mathlib.Omega.{arith}
 use lib.Dec.{ltb, eqb}
@@ -15,11 +16,16 @@ use Rattle.arithmetic.proofs.Counting.{lowest-found}
 use Rattle.arithmetic.specs.Words.{twoTo32}
 use Rattle.model.specs.declared.Refusal.{Refusal}
 use Rattle.model.specs.declared.Settings.{Settings}
-use Rattle.model.specs.RoundSheet.{byte, word, settingsAt, entryCount, sheetLength, markAt, bitsAt, bitsIn}
+use Rattle.model.specs.RoundSheet.{headerSize, byte, word, settingsAt, entryCount}
+use Rattle.model.specs.RoundSheet.{sheetLength, markAt, bitsAt, bitsIn}
 use Rattle.model.specs.AnswerSheet.{answerLength, answerHeaderSize}
 use Rattle.model.specs.Steps.{roundAt}
-use Rattle.model.specs.Planner.{Plan, planFrom, advance, after, windowAfter, maxAccuracy}
-use Rattle.model.specs.Refusals.{Check, refusal, refuseIf, atEntry, orNext, firstOf, tooShort, badCabinets, badFaults, badMethod, badWindow}
+use Rattle.model.specs.Planner.{Plan, planFrom, advance, after, windowAfter, maxAccuracy, maxRounds}
+use Rattle.model.specs.Refusals.{Check, refusal, refuseIf, atEntry, orNext, firstOf, tooShort, unknownMethod}
+use Rattle.model.specs.Refusals.{badCabinets, badFaults, badMethod, badWindow}
+use Rattle.model.specs.Refusals.{tooShortNumber, badCabinetsNumber, badFaultsNumber, badMethodNumber, badWindowNumber}
+use Rattle.model.specs.Refusals.{badLengthNumber, noRoomNumber, badMarkNumber, badMissingNumber, tooManyFaultsNumber}
+use Rattle.model.specs.Refusals.{badPlanNumber, targetMissedNumber}
 use Rattle.model.specs.Refusals.{badLength, noRoom, notZero, badMark, badMissing, tooManyFaults, badPlan, targetMissed}
 use Rattle.model.specs.Refusals.{settingsChecks, sheetChecks, arrayChecks, entryChecks, planningChecks}
 use Rattle.model.specs.Refusals.{readChecks, writeChecks, settleChecks, planChecks, stepChecks, targetChecks}
@@ -32,8 +38,9 @@ use Rattle.sheet_laws.proofs.Words.{word-fits}
 use Rattle.sheet_laws.proofs.Orders.{read-checks, write-checks, settle-checks}
 use Rattle.planner_laws.proofs.Checks.{none-may-start, none-may-step}
 use Rattle.planner_laws.proofs.Rounds.{rounds-after}
-use Rattle.answer_reader.specs.Fields.{answerChecks, cabinetChecks, cabinetsIn, countIn, estimateIn, valueIn, markIn, usedIn}
-use Rattle.packing.specs.Answers.{packedRefusal, packed, openingOf, planningOf, TargetPacked}
+use Rattle.answer_reader.specs.Fields.{answerChecks, cabinetChecks, cabinetsIn, countIn, estimateIn}
+use Rattle.answer_reader.specs.Fields.{valueIn, markIn, usedIn}
+use Rattle.packing.specs.Answers.{packedRefusal, packed, openingOf, planningOf}
 use Rattle.tohiranga.specs.Statements.{Refuses, AnswerTells, FieldsTell, GrantsBelow}
 use Rattle.tohiranga.proofs.Halves.{upper-back, lower-back}
 
@@ -53,12 +60,19 @@ none-sound = record { told = λ r e. let clash : _≡_ {A = ℕ} 0 1 = cc in abs
 
 some-sound : (number place : ℕ) → 1 ≤ number → number ≤ 12 → place < twoTo32 → Sound (some (refusal number place))
 some-sound number place a b d =
-    record { told = λ r e. let same : refusal number place ≡ r = cc in subst InTable same (record { first = a; last = b; small = d }) }
+    record { told = λ r e. let same : refusal number place ≡ r = cc in subst InTable same here }
+  where
+    here : InTable (refusal number place)
+    here = record { first = a; last = b; small = d }
 
 -- the first of two, where the second one is asked only if the first does not refuse
 next-sound : (a b : Check) → Sound a → (a ≡ none → Sound b) → Sound (orNext a b)
 next-sound none b x y = y refl
 next-sound (some r) b x y = x
+
+-- the last of a list
+last-sound : (a : Check) → Sound a → Sound (orNext a none)
+last-sound a x = next-sound a none x λ _. none-sound
 
 test-sound : (fails : Bool) (number : ℕ) → 1 ≤ number → number ≤ 12 → Sound (refuseIf fails number)
 test-sound true number a b = some-sound number 0 a b (omega arith)
@@ -79,10 +93,13 @@ module _ (c : Settings) where
   settings-sound : Sound (firstOf (settingsChecks c))
   unfolding firstOf settingsChecks badCabinets badFaults badMethod badWindow
   settings-sound =
-      next-sound (badCabinets c) _ (test-sound (eqb (c .n) 0 || ltb maxCabinets (c .n)) 2 (omega arith) (omega arith)) λ _.
-      next-sound (badFaults c) _ (test-sound (ltb (c .n) (3 * c .m + 1)) 3 (omega arith) (omega arith)) λ _.
-      next-sound (badMethod c) _ (test-sound (ltb 1 (c .rule) || ltb 2 (c .estimator)) 4 (omega arith) (omega arith)) λ _.
-      next-sound (badWindow c) none (test-sound (ltb maxWindow (c .window)) 5 (omega arith) (omega arith)) λ _. none-sound
+      let cabinets = eqb (c .n) 0 || ltb maxCabinets (c .n) in
+      let faults = ltb (c .n) (3 * c .m + 1) in
+      let method = unknownMethod (c .rule) (c .estimator) in
+      next-sound (badCabinets c) _ (test-sound cabinets badCabinetsNumber (omega arith) (omega arith)) λ _.
+      next-sound (badFaults c) _ (test-sound faults badFaultsNumber (omega arith) (omega arith)) λ _.
+      next-sound (badMethod c) _ (test-sound method badMethodNumber (omega arith) (omega arith)) λ _.
+      last-sound (badWindow c) (test-sound (ltb maxWindow (c .window)) badWindowNumber (omega arith) (omega arith))
 
   few-entries : firstOf (settingsChecks c) ≡ none → entryCount c ≤ 4096
   few-entries pass = entries-most c (limits c pass .cabinets)
@@ -92,32 +109,34 @@ module _ (c : Settings) where
   planning-sound fails =
       rw (first-append (settingsChecks c) (badPlan fails ∷ []))
       (next-sound (firstOf (settingsChecks c)) _ settings-sound λ _.
-      next-sound (badPlan fails) none (test-sound fails 11 (omega arith) (omega arith)) λ _. none-sound)
+      last-sound (badPlan fails) (test-sound fails badPlanNumber (omega arith) (omega arith)))
 
 length-sound : (given wanted : ℕ) → Sound (badLength given wanted)
 unfolding badLength
-length-sound given wanted = test-sound (not (eqb given wanted)) 6 (omega arith) (omega arith)
+length-sound given wanted = test-sound (not (eqb given wanted)) badLengthNumber (omega arith) (omega arith)
 
 room-sound : (given wanted : ℕ) → Sound (noRoom given wanted)
 unfolding noRoom
-room-sound given wanted = test-sound (ltb given wanted) 7 (omega arith) (omega arith)
+room-sound given wanted = test-sound (ltb given wanted) noRoomNumber (omega arith) (omega arith)
 
 array-sound : (mark bits : ℕ → ℕ) (E : ℕ) → E ≤ 4096 → Sound (firstOf (arrayChecks mark bits E))
 unfolding firstOf badMark badMissing
 array-sound mark bits E few =
-    next-sound (badMark mark E) _ (entry-sound (λ e. ltb 1 (mark e)) E 8 few (omega arith) (omega arith)) λ _.
-    next-sound (badMissing mark bits E) none (entry-sound (λ e. notZero (mark e) (bits e)) E 9 few (omega arith) (omega arith)) λ _.
-    none-sound
+    let marked : ℕ → Bool = λ e. ltb 1 (mark e) in
+    let missing : ℕ → Bool = λ e. notZero (mark e) (bits e) in
+    next-sound (badMark mark E) _ (entry-sound marked E badMarkNumber few (omega arith) (omega arith)) λ _.
+    last-sound (badMissing mark bits E) (entry-sound missing E badMissingNumber few (omega arith) (omega arith))
 
 module _ (s : List ℕ) where
   sheet-sound : Sound (firstOf (sheetChecks s))
   unfolding sheetChecks firstOf tooShort
   sheet-sound =
-      rw (first-append (tooShort s ∷ settingsChecks (settingsAt s)) (badLength (length s) (sheetLength (settingsAt s)) ∷ []))
-      (next-sound (firstOf (tooShort s ∷ settingsChecks (settingsAt s))) _
-      (next-sound (tooShort s) _ (test-sound (ltb (length s) 8) 1 (omega arith) (omega arith)) λ _. settings-sound (settingsAt s)) λ _.
-      next-sound (badLength (length s) (sheetLength (settingsAt s))) none (length-sound (length s) (sheetLength (settingsAt s))) λ _.
-      none-sound)
+      let c = settingsAt s in
+      let short = ltb (length s) headerSize in
+      let first =
+      next-sound (tooShort s) _ (test-sound short tooShortNumber (omega arith) (omega arith)) λ _. settings-sound c in
+      rw (first-snoc (tooShort s ∷ settingsChecks c) (badLength (length s) (sheetLength c)))
+      (next-sound (firstOf (tooShort s ∷ settingsChecks c)) _ first λ _. length-sound (length s) (sheetLength c))
 
   few-passed : firstOf (sheetChecks s) ≡ none → entryCount (settingsAt s) ≤ 4096
   few-passed pass = few-entries (settingsAt s) (settings-passed s pass)
@@ -130,37 +149,42 @@ module _ (s : List ℕ) where
   settle-sound : (room : ℕ) → Sound (firstOf (settleChecks s room))
   unfolding tooManyFaults
   settle-sound room =
+      let wanted = answerLength (settingsAt s .n) in
       rw (settle-checks s room)
       (next-sound (firstOf (sheetChecks s)) _ sheet-sound λ pass.
-      next-sound (noRoom room (answerLength (settingsAt s .n))) _ (room-sound room (answerLength (settingsAt s .n))) λ _.
+      next-sound (noRoom room wanted) _ (room-sound room wanted) λ _.
       next-sound (firstOf (entryChecks s)) _ (entries-sound pass) λ _.
-      test-sound (eqb (roundAt s .count) 0) 10 (omega arith) (omega arith))
+      test-sound (eqb (roundAt s .count) 0) tooManyFaultsNumber (omega arith) (omega arith))
 
   read-sound : (marks readings : ℕ) → Sound (firstOf (readChecks s marks readings))
   read-sound marks readings =
+      let E = entryCount (settingsAt s) in
       rw (read-checks s marks readings)
       (next-sound (firstOf (sheetChecks s)) _ sheet-sound λ pass.
-      next-sound (noRoom marks (entryCount (settingsAt s))) _ (room-sound marks (entryCount (settingsAt s))) λ _.
-      next-sound (noRoom readings (entryCount (settingsAt s))) _ (room-sound readings (entryCount (settingsAt s))) λ _.
+      next-sound (noRoom marks E) _ (room-sound marks E) λ _.
+      next-sound (noRoom readings E) _ (room-sound readings E) λ _.
       entries-sound pass)
 
-write-sound : (c : Settings) (marks : List ℕ) (readings : List ℤ) (room : ℕ) → Sound (firstOf (writeChecks c marks readings room))
+write-sound : (c : Settings) (marks : List ℕ) (readings : List ℤ) (room : ℕ)
+    → Sound (firstOf (writeChecks c marks readings room))
 write-sound c marks readings room =
+    let E = entryCount c in
     rw (write-checks c marks readings room)
     (next-sound (firstOf (settingsChecks c)) _ (settings-sound c) λ pass.
-    next-sound (badLength (length marks) (entryCount c)) _ (length-sound (length marks) (entryCount c)) λ _.
-    next-sound (badLength (length readings) (entryCount c)) _ (length-sound (length readings) (entryCount c)) λ _.
+    next-sound (badLength (length marks) E) _ (length-sound (length marks) E) λ _.
+    next-sound (badLength (length readings) E) _ (length-sound (length readings) E) λ _.
     next-sound (noRoom room (sheetLength c)) _ (room-sound room (sheetLength c)) λ _.
-    array-sound (byte marks) (bitsIn readings) (entryCount c) (few-entries c pass))
+    array-sound (byte marks) (bitsIn readings) E (few-entries c pass))
 
 target-sound : (c : Settings) (κ target : ℕ) → Sound (firstOf (targetChecks c κ target))
 unfolding targetChecks firstOf badPlan targetMissed
 target-sound c κ target =
-    rw (first-append (settingsChecks c) (badPlan (ltb maxAccuracy κ) ∷ targetMissed (windowAfter 32 c κ) target ∷ []))
+    let last = windowAfter maxRounds c κ in
+    let start = ltb maxAccuracy κ in
+    rw (first-append (settingsChecks c) (badPlan start ∷ targetMissed last target ∷ []))
     (next-sound (firstOf (settingsChecks c)) _ (settings-sound c) λ _.
-    next-sound (badPlan (ltb maxAccuracy κ)) _ (test-sound (ltb maxAccuracy κ) 11 (omega arith) (omega arith)) λ _.
-    next-sound (targetMissed (windowAfter 32 c κ) target) none (test-sound (ltb target (windowAfter 32 c κ)) 12 (omega arith) (omega arith)) λ _.
-    none-sound)
+    next-sound (badPlan start) _ (test-sound start badPlanNumber (omega arith) (omega arith)) λ _.
+    last-sound (targetMissed last target) (test-sound (ltb target last) targetMissedNumber (omega arith) (omega arith)))
 
 -- ---- What is packed
 
@@ -193,8 +217,9 @@ planning-tells (some r) p t small = refusal-tells r (t .told r refl)
 settle-tells : (s answer : List ℕ) → AnswerTells (settle s answer .verdict) (packed (settle s answer .verdict))
 unfolding settle
 settle-tells s answer =
-    size-tells (firstOf (settleChecks s (length answer))) (answerLength (settingsAt s .n)) (settle-sound s (length answer)) λ pass.
-    let sizes = next-none-left (firstOf (sheetChecks s)) _ (sym (settle-checks s (length answer)) ∙ pass) in
+    let room = length answer in
+    size-tells (firstOf (settleChecks s room)) (answerLength (settingsAt s .n)) (settle-sound s room) λ pass.
+    let sizes = next-none-left (firstOf (sheetChecks s)) _ (sym (settle-checks s room) ∙ pass) in
     let cabinets = limits (settingsAt s) (settings-passed s sizes) .cabinets in
     omega arith
 
@@ -202,8 +227,10 @@ read-tells : (s marks : List ℕ) (readings : List ℤ)
     → AnswerTells (read s marks readings .verdict) (openingOf (read s marks readings .verdict) .answer)
 unfolding read
 read-tells s marks readings =
-    opening-tells (firstOf (readChecks s (length marks) (length readings))) (settingsAt s) (read-sound s (length marks) (length readings)) λ pass.
-    let sizes = next-none-left (firstOf (sheetChecks s)) _ (sym (read-checks s (length marks) (length readings)) ∙ pass) in
+    let a = length marks in
+    let b = length readings in
+    opening-tells (firstOf (readChecks s a b)) (settingsAt s) (read-sound s a b) λ pass.
+    let sizes = next-none-left (firstOf (sheetChecks s)) _ (sym (read-checks s a b) ∙ pass) in
     let few = few-passed s sizes in
     omega arith
 
@@ -211,14 +238,17 @@ write-tells : (c : Settings) (marks : List ℕ) (readings : List ℤ) (buffer : 
     → AnswerTells (write c marks readings buffer .verdict) (packed (write c marks readings buffer .verdict))
 unfolding write
 write-tells c marks readings buffer =
-    size-tells (firstOf (writeChecks c marks readings (length buffer))) (sheetLength c) (write-sound c marks readings (length buffer)) λ pass.
-    let few = few-entries c (next-none-left (firstOf (settingsChecks c)) _ (sym (write-checks c marks readings (length buffer)) ∙ pass)) in
+    let room = length buffer in
+    size-tells (firstOf (writeChecks c marks readings room)) (sheetLength c) (write-sound c marks readings room) λ pass.
+    let sizes = next-none-left (firstOf (settingsChecks c)) _ (sym (write-checks c marks readings room) ∙ pass) in
+    let few = few-entries c sizes in
     omega arith
 
 plan-tells : (c : Settings) (κ k : ℕ) → AnswerTells (plan c κ k) (planningOf (plan c κ k) .answer)
 unfolding plan planChecks
 plan-tells c κ k =
-    planning-tells (firstOf (planChecks c κ k)) (after k (planFrom c κ)) (planning-sound c (ltb maxAccuracy κ || ltb 32 k)) λ pass.
+    let fails = ltb maxAccuracy κ || ltb maxRounds k in
+    planning-tells (firstOf (planChecks c κ k)) (after k (planFrom c κ)) (planning-sound c fails) λ pass.
     let few = none-may-start c κ k pass .few in
     let done = rounds-after k (planFrom c κ) in
     omega arith
@@ -230,7 +260,8 @@ step-tells p =
     let early = none-may-step p pass .early in
     omega arith
 
-target-tells : (c : Settings) (κ target answer : ℕ) (v : Verdict ℕ) → answer ≡ packed v → Target c κ target v → AnswerTells v answer
+target-tells : (c : Settings) (κ target answer : ℕ) (v : Verdict ℕ) → answer ≡ packed v → Target c κ target v
+    → AnswerTells v answer
 target-tells c κ target answer (granted k) same t =
     let most = t .1 .most in
     omega arith
@@ -243,8 +274,10 @@ module _ (a : List ℕ) where
   answer-sound : Sound (firstOf (answerChecks a))
   unfolding answerChecks firstOf badCabinets
   answer-sound =
-      next-sound (badCabinets (settingsAt a)) _ (test-sound (eqb (byte a 0) 0 || ltb maxCabinets (byte a 0)) 2 (omega arith) (omega arith)) λ _.
-      next-sound (badLength (length a) (answerLength (byte a 0))) none (length-sound (length a) (answerLength (byte a 0))) λ _. none-sound
+      let cabinets = eqb (byte a 0) 0 || ltb maxCabinets (byte a 0) in
+      let wanted = answerLength (byte a 0) in
+      next-sound (badCabinets (settingsAt a)) _ (test-sound cabinets badCabinetsNumber (omega arith) (omega arith)) λ _.
+      last-sound (badLength (length a) wanted) (length-sound (length a) wanted)
 
   cabinet-sound : (r : ℕ) → Sound (firstOf (cabinetChecks a r))
   unfolding cabinetChecks
@@ -259,14 +292,16 @@ module _ (a : List ℕ) where
     fields-tell : (r : ℕ) → FieldsTell a r
     unfolding cabinetsIn countIn estimateIn valueIn markIn usedIn
     fields-tell r =
+        let checks = firstOf (cabinetChecks a r) in
+        let mark = answerHeaderSize + r in
+        let used = answerHeaderSize + byte a 0 + 4 * r in
         record {
           cabinets = size-tells (firstOf (answerChecks a)) (byte a 0) answer-sound (λ _. byte-below 0);
           count = size-tells (firstOf (answerChecks a)) (byte a 1) answer-sound (λ _. byte-below 1);
           estimate = size-tells (firstOf (answerChecks a)) (word a 2) answer-sound (λ _. word-fits a 2 small);
           value = size-tells (firstOf (answerChecks a)) (word a 6) answer-sound (λ _. word-fits a 6 small);
-          mark = size-tells (firstOf (cabinetChecks a r)) (byte a (answerHeaderSize + r)) (cabinet-sound r) (λ _. byte-below (answerHeaderSize + r));
-          used = size-tells (firstOf (cabinetChecks a r)) (word a (answerHeaderSize + byte a 0 + 4 * r)) (cabinet-sound r)
-              (λ _. word-fits a (answerHeaderSize + byte a 0 + 4 * r) small);
+          mark = size-tells checks (byte a mark) (cabinet-sound r) (λ _. byte-below mark);
+          used = size-tells checks (word a used) (cabinet-sound r) (λ _. word-fits a used small);
         }
 
 pub grants-below : GrantsBelow

@@ -42,7 +42,8 @@ pub extern "C" fn tohiranga_write(
     ensures { λ r.
         ⌜ r ≡ packed (write settings (now (marks .entry)) (now (readings .entry)) (now (sheet .entry)) .verdict) ⌝ }
     ensures { λ _.
-        ⌜ now (sheet .exit) ≡ write settings (now (marks .entry)) (now (readings .entry)) (now (sheet .entry)) .buffer ⌝ }
+        ⌜ now (sheet .exit)
+        ≡ write settings (now (marks .entry)) (now (readings .entry)) (now (sheet .entry)) .buffer ⌝ }
 {
     packing::pack_filled(sheet_writer::write(settings, marks, readings, sheet))
 }

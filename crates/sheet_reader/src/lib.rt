@@ -5,7 +5,7 @@ ghost use lib.ListN.{length};
 ghost use mir.Syntax.{w32};
 ghost use mir.Val.{toZ};
 ghost use Rattle.arithmetic.specs.Writing.{table, overwrite};
-ghost use Rattle.model.specs.RoundSheet.{bitsAt, headerSize};
+ghost use Rattle.model.specs.RoundSheet.{word, bitsAt, headerSize};
 ghost use Rattle.model.specs.Calls.{row, read};
 ghost use Rattle.sheet_reader.specs.Answers.{readOf};
 use model::HEADER_SIZE;
@@ -23,6 +23,15 @@ pub fn row(sheet: &[u8], r: usize) -> &[u8]
     rows::row_part(sheet, settings, r)
 }
 
+// The reading whose four bytes start at byte i.
+fn reading_at(sheet: &[u8], i: usize) -> i32
+    requires { ⌜ i + 4 ≤ length (now sheet) ⌝ }
+    ensures { λ r. ⌜ r ≡ toZ w32 (word (now (sheet .entry)) i) ⌝ }
+{
+    let tick = Tick::from_bits(words::join(sheet[i], sheet[i + 1], sheet[i + 2], sheet[i + 3]));
+    tick.0
+}
+
 // Fills the first entries of readings with the sheet's.
 fn decode(sheet: &[u8], entries: usize, readings: &mut [i32])
     requires { ⌜ (headerSize + entries + 4 * entries ≤ length (now sheet)) × (entries ≤ length (now readings)) ⌝ }
@@ -33,10 +42,7 @@ fn decode(sheet: &[u8], entries: usize, readings: &mut [i32])
 {
     let mut e: usize = 0;
     'entries: while e < entries {
-        let i = HEADER_SIZE + entries + 4 * e;
-        let tick = Tick::from_bits(words::join(sheet[i], sheet[i + 1], sheet[i + 2], sheet[i + 3]));
-        let ticks = tick.0;
-        readings[e] = ticks;
+        readings[e] = reading_at(sheet, HEADER_SIZE + entries + 4 * e);
         e += 1;
     }
 }

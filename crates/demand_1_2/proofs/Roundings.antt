@@ -12,7 +12,7 @@ use Rattle.arithmetic.specs.Naturals.{down}
 use Rattle.arithmetic.proofs.Shift.{down-ind}
 use Rattle.model.specs.Steps.{mean}
 use Rattle.model.specs.Planner.{ceilDiv}
-use Rattle.planner_laws.proofs.Ceiling.{ceil-div-covers, ceil-div-near}
+use Rattle.planner_laws.proofs.Ceiling.{ceil-div-covers}
 use Rattle.demand_1_2.specs.Demand2.{RoundedDown, RoundedUp, NearestWhole}
 
 -- ---- down
@@ -57,6 +57,11 @@ mean-nearest-whole n s some-n =
     record { atMost = h .atMost; next = h .next }
 
 -- ---- up
+
+-- the quotient passes the dividend by less than one divisor
+ceil-div-near : (n : ℕ) → 0 < n → (a : ℕ) → ceilDiv a n * n < a + n
+unfolding ceilDiv
+ceil-div-near n some-n a = omega (arith, div-mul-le-self (a + (n - 1)) n)
 
 pub rounded-up : (a n : ℕ) → 0 < n → RoundedUp a n (ceilDiv a n)
 rounded-up a n some-n =

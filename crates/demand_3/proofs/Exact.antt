@@ -4,7 +4,7 @@
 use mathlib.Core.Bool.{Bool}
 use mathlib.Core.List.{List, [], _∷_}
 use mathlib.Core.Path.{_≡_, ap, ap₂, _∙_}
-use Prim.Native.Nat.{ℕ, _+_, _*_, _-_, _/_, _<_}
+use Prim.Native.Nat.{ℕ, _+_, _*_, _-_, _/_, _≤_, _<_}
 use native.Mathlib.Nat.{le-trans, mul-assoc, mul-comm, add-mul, add-mul-div-right}
 use native.Mathlib.Omega.{arith}
 use lib.IntN.{ℤ, pos, _-ℤ_}
@@ -14,7 +14,7 @@ use Rattle.model.specs.Planner.{ceilDiv}
 use Rattle.model.specs.Steps.{mean}
 use Rattle.round_laws.specs.Naturals.{mean-nat}
 use Rattle.value_laws.proofs.Means.{mean-shift}
-use Rattle.limit_laws.proofs.Means.{rise, fall, fall-room, fall-le, fall-least, rise-ceil, rise-fall-ceil}
+use Rattle.limit_laws.proofs.Means.{rise, fall, fall-room, fall-least, rise-ceil, rise-fall-ceil}
 use Rattle.demand_3.specs.Guarantee.{Station, N, m, δ, κ, Start, Sends, Allowed, Each, start}
 use Rattle.demand_3.specs.Guarantee.{apart, Good, bad, First, Wide, wideGap}
 use Rattle.demand_3.specs.Exact.{excess, exactGap, exactError, Exact, Sharper, ExactFirst, ExactLimits}
@@ -43,8 +43,12 @@ module _ (n : ℕ) (some : 0 < n) (x : ℕ) where
       ∙ dist-down x (rise n x + x) x
       ∙ omega arith
 
+  fall-le : fall n x ≤ x
+  unfolding fall
+  fall-le = omega arith
+
   far-both : apart (mean n (pos x)) (mean n (pos 0 -ℤ pos x)) ≡ rise n x + fall n x
-  far-both = ap₂ apart mean-more mean-less ∙ dist-down x (rise n x + x) (x - fall n x) ∙ omega (arith, fall-le n some x)
+  far-both = ap₂ apart mean-more mean-less ∙ dist-down x (rise n x + x) (x - fall n x) ∙ omega (arith, fall-le)
 
 module _ (st : Station) (some : 0 < N st) (t : ℕ) where
   -- the two limits as naturals

@@ -18,11 +18,11 @@ use Rattle.model.specs.Listing.{digitsUpTo, decimal}
 
 -- ---- one digit, or one digit more than the tenth part has
 
-pub digits-small : (k x : ℕ) → x < 10 → digitsUpTo (suc k) x ≡ (48 + x) ∷ []
+digits-small : (k x : ℕ) → x < 10 → digitsUpTo (suc k) x ≡ (48 + x) ∷ []
 unfolding digitsUpTo
 digits-small k x h = rw (lt-ltb x 10 h, digitsUpTo)
 
-pub digits-large : (k x : ℕ) → 10 ≤ x → digitsUpTo (suc k) x ≡ digitsUpTo k (x / 10) ++ ((48 + x % 10) ∷ [])
+digits-large : (k x : ℕ) → 10 ≤ x → digitsUpTo (suc k) x ≡ digitsUpTo k (x / 10) ++ ((48 + x % 10) ∷ [])
 unfolding digitsUpTo
 digits-large k x h = rw (le-ltb x 10 h, digitsUpTo)
 
@@ -39,7 +39,7 @@ tenth-below k x h = div-lt-iff-lt-mul (lit< tt) .1 (rw pow-suc at h)
 
 -- ---- how many digits
 
-pub length-digits : (k x : ℕ) → length (digitsUpTo k x) ≤ k
+length-digits : (k x : ℕ) → length (digitsUpTo k x) ≤ k
 unfolding digitsUpTo
 length-digits zero x = omega arith
 length-digits (suc k) x =
@@ -50,7 +50,7 @@ length-digits (suc k) x =
     let l = length-append (digitsUpTo k (x / 10)) ((48 + x % 10) ∷ []) in
     omega arith)
 
-pub digits-some : (k x : ℕ) → 0 < length (digitsUpTo (suc k) x)
+digits-some : (k x : ℕ) → 0 < length (digitsUpTo (suc k) x)
 digits-some k x =
     digits-cases (λ l. 0 < length l) k x
     (λ h. omega arith)
@@ -59,7 +59,7 @@ digits-some k x =
     omega arith)
 
 -- a number below 10^j has at most j digits
-pub length-digits-below : (k j x : ℕ) → x < 10 ^ suc j → length (digitsUpTo k x) ≤ suc j
+length-digits-below : (k j x : ℕ) → x < 10 ^ suc j → length (digitsUpTo k x) ≤ suc j
 unfolding digitsUpTo
 length-digits-below zero j x below = omega arith
 length-digits-below (suc k) zero x below =
@@ -73,7 +73,7 @@ length-digits-below (suc k) (suc j) x below =
     omega arith)
 
 -- room for more digits than a number has changes nothing
-pub digits-enough : (k x : ℕ) → x < 10 ^ suc k → digitsUpTo (suc (suc k)) x ≡ digitsUpTo (suc k) x
+digits-enough : (k x : ℕ) → x < 10 ^ suc k → digitsUpTo (suc (suc k)) x ≡ digitsUpTo (suc k) x
 digits-enough zero x below = digits-small 1 x below ∙ sym (digits-small 0 x below)
 digits-enough (suc k) x below =
     digits-cases (λ l. l ≡ digitsUpTo (suc (suc k)) x) (suc (suc k)) x
@@ -106,7 +106,7 @@ first-stays : (l m : List ℕ) → 48 < getD l 0 0 → 48 < getD (l ++ m) 0 0
 first-stays [] m h = omega arith
 first-stays (d ∷ l) m h = h
 
-pub first-digit-some : (k x : ℕ) → 0 < x → x < 10 ^ k → 48 < getD (digitsUpTo k x) 0 0
+first-digit-some : (k x : ℕ) → 0 < x → x < 10 ^ k → 48 < getD (digitsUpTo k x) 0 0
 first-digit-some zero x some below = let b : x < 1 = below in omega arith
 first-digit-some (suc k) x some below =
     digits-cases (λ l. 48 < getD l 0 0) k x
@@ -127,7 +127,7 @@ unfolding readFrom
 readFrom-append a [] ys = refl
 readFrom-append a (x ∷ xs) ys = readFrom-append (10 * a + (x - 48)) xs ys
 
-pub read-digits : (k x : ℕ) → x < 10 ^ k → readFrom 0 (digitsUpTo k x) ≡ x
+read-digits : (k x : ℕ) → x < 10 ^ k → readFrom 0 (digitsUpTo k x) ≡ x
 unfolding digitsUpTo readFrom
 read-digits zero x below = let b : x < 1 = below in omega arith
 read-digits (suc k) x below =

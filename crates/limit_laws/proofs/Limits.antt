@@ -149,7 +149,7 @@ module _ (n m w : ℕ) (good : ℕ → Bool) (g : ℕ → ℕ) where
                     (inside-intro w (g (lo .index)) (v .x t) (low t k q) (high t k q))));
               }
 
-      pub enough-accepted : n - m ≤ count (accepts n m w v) n
+      enough-accepted : n - m ≤ count (accepts n m w v) n
       enough-accepted = le-trans many-good (count-mono good (accepts n m w v) n good-accepted)
 
       pub unrefused : 0 < count (accepts n m w v) n

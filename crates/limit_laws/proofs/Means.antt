@@ -69,10 +69,6 @@ module _ (n : ℕ) (some-n : 0 < n) where
   pub fall-least : (x : ℕ) → mean-nat n (n * x - x) ≤ x
   fall-least x = mean-upper n some-n (n * x - x) x (omega arith)
 
-  pub fall-le : (x : ℕ) → fall n x ≤ x
-  unfolding fall
-  fall-le x = omega arith
-
   pub rise-ceil : (x : ℕ) → rise n x ≤ ceilDiv x n
   unfolding rise
   rise-ceil x = omega (arith, mean-close x 0 x (omega arith), mean-zero n some-n)

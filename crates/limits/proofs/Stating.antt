@@ -5,7 +5,7 @@ use mathlib.Core.Bool.{Bool, true, _&&_}
 use mathlib.Core.Option.{none, some}
 use mathlib.Core.Path.{_≡_, refl, sym, ap, ap₂, _∙_, subst}
 use Prim.Native.Nat.{ℕ, _+_, _*_, _-_, _/_, _≤_, _<_}
-use native.Mathlib.Nat.{le-trans, mul-le-mul}
+use native.Mathlib.Nat.{le-trans, mul-le-mul, mul-le-mul-left, mul-one}
 use native.Mathlib.Omega.{arith}
 use borrow.Author.Tests.{le-leb, lt-leb, leb-true, ltb-true, eqb-true}
 use lib.Dec.{leb, ltb, eqb}
@@ -17,7 +17,7 @@ use Rattle.model.specs.Planner.{ceilDiv, maxAccuracy}
 use Rattle.model.specs.Cases.{settings}
 use Rattle.model.specs.Refusals.{firstOf, planChecks}
 use Rattle.model.specs.Ensemble.{maxCabinets, maxWindow}
-use Rattle.planner_laws.proofs.Ceiling.{ceil-div-le}
+use Rattle.planner_laws.proofs.Ceiling.{ceil-div-least}
 use Rattle.planner_laws.proofs.Checks.{none-may-start}
 use Rattle.refusal_laws.proofs.Limits.{Limits}
 use Rattle.limit_laws.proofs.Means.{rise, fall}
@@ -27,6 +27,12 @@ use Rattle.sharpness.specs.Sharpness.{Covered}
 use Rattle.limits.specs.Limits.{Stated, planned, wider, nothing, refused}
 use Rattle.limits.specs.Limits.{stationOf, reachable, widerAt, bounds, stated}
 use Rattle.limits.proofs.Quotients.{rise-is, fall-is}
+
+ceil-div-le : (n : ℕ) → 0 < n → (a : ℕ) → ceilDiv a n ≤ a
+ceil-div-le n some-n a =
+    let e = mul-one a in
+    let l : a * 1 ≤ a * n = mul-le-mul-left a some-n in
+    ceil-div-least n some-n (omega arith)
 
 module _ (c : Settings) where
   module _ (l : Limits c) (parts : ℕ) (few : parts ≤ 256) where

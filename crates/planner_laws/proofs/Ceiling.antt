@@ -1,7 +1,7 @@
 -- Laws of the quotient rounded up.
 -- Assumes nothing.
 use Prim.Native.Nat.{ℕ, suc, _+_, _*_, _-_, _/_, _≤_, _<_}
-use native.Mathlib.Nat.{div-lt-iff-lt-mul, lt-div-mul-add, div-mul-le-self, suc-mul, mul-le-mul-left, mul-one}
+use native.Mathlib.Nat.{div-lt-iff-lt-mul, lt-div-mul-add, suc-mul}
 use native.Mathlib.Omega.{arith}
 use Rattle.model.specs.Planner.{ceilDiv}
 
@@ -18,14 +18,3 @@ module _ (n : ℕ) (h : 0 < n) where
       let e = suc-mul k n in
       let below : (a + (n - 1)) / n < suc k = div-lt-iff-lt-mul h .1 (omega arith) in
       omega arith
-
-  -- it passes the dividend by less than one divisor
-  pub ceil-div-near : (a : ℕ) → ceilDiv a n * n < a + n
-  unfolding ceilDiv
-  ceil-div-near a = omega (arith, div-mul-le-self (a + (n - 1)) n)
-
-  pub ceil-div-le : (a : ℕ) → ceilDiv a n ≤ a
-  ceil-div-le a =
-      let e = mul-one a in
-      let l : a * 1 ≤ a * n = mul-le-mul-left a h in
-      ceil-div-least (omega arith)

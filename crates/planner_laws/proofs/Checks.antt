@@ -9,8 +9,8 @@ use lib.Dec.{ltb, leb}
 use borrow.Author.Tests.{ltb-false, leb-false, le-ltb, lt-leb}
 use Rattle.arithmetic.proofs.Bools.{or-false, or-left, or-right}
 use Rattle.model.specs.declared.Settings.{Settings}
-use Rattle.model.specs.Planner.{Plan, maxAccuracy, maxStepAccuracy}
-use Rattle.model.specs.Refusals.{firstOf, settingsChecks, planChecks, stepChecks, badPlan}
+use Rattle.model.specs.Planner.{Plan, maxAccuracy, maxRounds, maxStepAccuracy}
+use Rattle.model.specs.Refusals.{firstOf, settingsChecks, planChecks, stepChecks, badPlan, badPlanNumber}
 use Rattle.refusal_laws.proofs.Checks.{first-snoc, none-at, none-left, none-right, when-none}
 use Rattle.refusal_laws.proofs.Limits.{Limits, limits, limits-pass}
 
@@ -19,7 +19,8 @@ module _ (c : Settings) (fails : Bool) where
   none-eleven : firstOf (settingsChecks c ++ (badPlan fails ∷ [])) ≡ none → Limits c × (fails ≡ false)
   unfolding badPlan
   none-eleven e =
-      (limits c (none-left (settingsChecks c) (badPlan fails ∷ []) e), when-none fails 11 (none-at (badPlan fails ∷ []) (none-right (settingsChecks c) (badPlan fails ∷ []) e) 0))
+      let eleven = none-at (badPlan fails ∷ []) (none-right (settingsChecks c) (badPlan fails ∷ []) e) 0 in
+      (limits c (none-left (settingsChecks c) (badPlan fails ∷ []) e), when-none fails badPlanNumber eleven)
 
   eleven-none : Limits c → fails ≡ false → firstOf (settingsChecks c ++ (badPlan fails ∷ [])) ≡ none
   unfolding badPlan
@@ -29,41 +30,47 @@ module _ (c : Settings) (fails : Bool) where
 pub record MayStart (c : Settings) (κ k : ℕ) : Type 0 where
   pub passes : Limits c
   pub accurate : κ ≤ maxAccuracy
-  pub few : k ≤ 32
+  pub few : k ≤ maxRounds
 
 module _ (c : Settings) (κ k : ℕ) where
   pub none-may-start : firstOf (planChecks c κ k) ≡ none → MayStart c κ k
   unfolding planChecks
   none-may-start e =
-      let parts = none-eleven c (ltb maxAccuracy κ || ltb 32 k) e in
+      let parts = none-eleven c (ltb maxAccuracy κ || ltb maxRounds k) e in
       record {
         passes = parts .0;
-        accurate = ltb-false maxAccuracy κ (or-left (ltb maxAccuracy κ) (ltb 32 k) (parts .1));
-        few = ltb-false 32 k (or-right (ltb maxAccuracy κ) (ltb 32 k) (parts .1));
+        accurate = ltb-false maxAccuracy κ (or-left (ltb maxAccuracy κ) (ltb maxRounds k) (parts .1));
+        few = ltb-false maxRounds k (or-right (ltb maxAccuracy κ) (ltb maxRounds k) (parts .1));
       }
 
   pub may-start-none : MayStart c κ k → firstOf (planChecks c κ k) ≡ none
   unfolding planChecks
-  may-start-none s = eleven-none c _ (s .passes) (or-false (le-ltb maxAccuracy κ (s .accurate)) (le-ltb 32 k (s .few)))
+  may-start-none s =
+      let accurate = le-ltb maxAccuracy κ (s .accurate) in
+      eleven-none c _ (s .passes) (or-false accurate (le-ltb maxRounds k (s .few)))
 
 -- a plan whose step is granted
 pub record MayStep (p : Plan) : Type 0 where
   pub passes : Limits (p .settings)
-  pub early : p .rounds < 32
+  pub early : p .rounds < maxRounds
   pub accurate : p .accuracy ≤ maxStepAccuracy
 
 module _ (p : Plan) where
   pub none-may-step : firstOf (stepChecks p) ≡ none → MayStep p
   unfolding stepChecks
   none-may-step e =
-      let parts = none-eleven (p .settings) (leb 32 (p .rounds) || ltb maxStepAccuracy (p .accuracy)) e in
+      let late = leb maxRounds (p .rounds) in
+      let wide = ltb maxStepAccuracy (p .accuracy) in
+      let parts = none-eleven (p .settings) (late || wide) e in
       record {
         passes = parts .0;
-        early = leb-false 32 (p .rounds) (or-left (leb 32 (p .rounds)) (ltb maxStepAccuracy (p .accuracy)) (parts .1));
-        accurate = ltb-false maxStepAccuracy (p .accuracy) (or-right (leb 32 (p .rounds)) (ltb maxStepAccuracy (p .accuracy)) (parts .1));
+        early = leb-false maxRounds (p .rounds) (or-left late wide (parts .1));
+        accurate = ltb-false maxStepAccuracy (p .accuracy) (or-right late wide (parts .1));
       }
 
   pub may-step-none : MayStep p → firstOf (stepChecks p) ≡ none
   unfolding stepChecks
   may-step-none s =
-      eleven-none (p .settings) _ (s .passes) (or-false (lt-leb 32 (p .rounds) (s .early)) (le-ltb maxStepAccuracy (p .accuracy) (s .accurate)))
+      let early = lt-leb maxRounds (p .rounds) (s .early) in
+      let accurate = le-ltb maxStepAccuracy (p .accuracy) (s .accurate) in
+      eleven-none (p .settings) _ (s .passes) (or-false early accurate)

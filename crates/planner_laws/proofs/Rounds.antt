@@ -24,4 +24,5 @@ rounds-after (suc k) p =
 pub settings-after : (k : ℕ) (p : Plan) → after k p .settings ≡ withWindow (p .settings) (after k p .settings .window)
 unfolding after advance
 settings-after zero p = refl
-settings-after (suc k) p = ap (λ (c : Settings). withWindow c (advance (after k p) .settings .window)) (settings-after k p)
+settings-after (suc k) p =
+    ap (λ (c : Settings). withWindow c (advance (after k p) .settings .window)) (settings-after k p)

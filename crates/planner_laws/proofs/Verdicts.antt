@@ -1,4 +1,5 @@
--- What a call's answer tells of its checks: something is granted only where no check refuses, and a refusal is the first check's.
+-- What a call's answer tells of its checks: something is granted only where no check refuses, and a refusal is the
+-- first check's.
 -- Assumes nothing.
 use mathlib.Core.Option.{none, some}
 use mathlib.Core.Path.{_≡_, refl, sym}

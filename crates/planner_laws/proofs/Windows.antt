@@ -1,4 +1,5 @@
--- Windows never grow, and the accuracy grows each round by at most the widest window: so settings that pass go on passing.
+-- Windows never grow, and the accuracy grows each round by at most the widest window: so settings that pass go on
+-- passing.
 -- Assumes nothing.
 use mathlib.Core.Bool.{Bool, true, false, cond, _&&_}
 use mathlib.Core.Path.{_≡_, sym, ap, _∙_}
@@ -18,12 +19,12 @@ factor-le : (b : Bool) → cond b 1 2 ≤ 2
 factor-le true = omega arith
 factor-le false = omega arith
 
-pub window-factor-le : (c : Settings) → windowFactor c ≤ 2
+window-factor-le : (c : Settings) → windowFactor c ≤ 2
 unfolding windowFactor
 window-factor-le c = factor-le (eqb (c .rule) 1 && eqb (c .estimator) 1)
 
 -- f m δ / N rounded up is at most δ, where f m is at most N
-pub share-le : (f : ℕ) (c : Settings) → 0 < c .n → f * c .m ≤ c .n → ceilDiv (f * (c .m * c .window)) (c .n) ≤ c .window
+share-le : (f : ℕ) (c : Settings) → 0 < c .n → f * c .m ≤ c .n → ceilDiv (f * (c .m * c .window)) (c .n) ≤ c .window
 share-le f c h l =
     let e = mul-assoc f (c .m) (c .window) in
     let d = mul-comm (c .n) (c .window) in
@@ -44,7 +45,7 @@ growth-le c s =
     omega arith
 
 -- settings pass with any window that does
-pub passes-window : (c : Settings) (w : ℕ) → Limits c → w ≤ maxWindow → Limits (withWindow c w)
+passes-window : (c : Settings) (w : ℕ) → Limits c → w ≤ maxWindow → Limits (withWindow c w)
 passes-window c w s l =
     record {
       someCabinet = s .someCabinet;
@@ -54,7 +55,7 @@ passes-window c w s l =
       window = l;
     }
 
-pub passes-advance : (p : Plan) → Limits (p .settings) → Limits (advance p .settings)
+passes-advance : (p : Plan) → Limits (p .settings) → Limits (advance p .settings)
 unfolding advance
 passes-advance p s = passes-window (p .settings) _ s (le-trans (next-window-le (p .settings) s) (s .window))
 
@@ -78,7 +79,9 @@ pub window-after-mono : (j k : ℕ) (p : Plan) → Limits (p .settings) → j �
     → after k p .settings .window ≤ after j p .settings .window
 window-after-mono j k p s l =
     let e : k - j + j ≡ k = omega arith in
-    let split = ap (λ (i : ℕ). after i p .settings .window) (sym e) ∙ ap (λ (q : Plan). q .settings .window) (after-add (k - j) j p) in
+    let split =
+    ap (λ (i : ℕ). after i p .settings .window) (sym e)
+    ∙ ap (λ (q : Plan). q .settings .window) (after-add (k - j) j p) in
     let d = window-after-le (k - j) (after j p) (passes-after j p s) in
     omega arith
 

@@ -27,7 +27,7 @@ use Rattle.text.proofs.Lines.{length-round-line, cabinets-more, length-
 module _ (s : List ℕ) where
   module _ (n r mark used : ℕ) (cabinets : n ≡ byte s 0)
       (m : mark ≡ byte s (answerHeaderSize + r)) (u : used ≡ word s (answerHeaderSize + n + 4 * r)) where
-    pub cabinet-next : cabinetLines (answerRound s) (r + 1) ≡ cabinetLines (answerRound s) r ++ cabinetLine r mark used
+    cabinet-next : cabinetLines (answerRound s) (r + 1) ≡ cabinetLines (answerRound s) r ++ cabinetLine r mark used
     unfolding answerRound
     cabinet-next = rw (m, u, cabinets) (cabinets-more (answerRound s) r)
 
@@ -62,7 +62,7 @@ module _ (a b : Round) where
   cabinets-alike zero marks used = refl
   cabinets-alike (suc n) marks used = rw (cabinets-alike n (initial marks) (initial used), last marks, last used)
 
-  pub text-alike : (n : ℕ) → a .count ≡ b .count → a .estimate ≡ b .estimate → a .value ≡ b .value
+  text-alike : (n : ℕ) → a .count ≡ b .count → a .estimate ≡ b .estimate → a .value ≡ b .value
       → ((r : ℕ) → r < n → a .mark r ≡ b .mark r)
       → ((r : ℕ) → r < n → a .used r ≡ b .used r)
       → roundText n a ≡ roundText n b
@@ -76,7 +76,7 @@ module _ (n : ℕ) (round : Round) (old : List ℕ)
   answer = overwrite (answerBytes n round) old
 
   -- the round that the answer sheet of a settled round says has that round's text
-  pub settled-text : roundText n (answerRound answer) ≡ roundText n round
+  settled-text : roundText n (answerRound answer) ≡ roundText n round
   unfolding answerRound
   settled-text =
       text-alike (answerRound answer) round n

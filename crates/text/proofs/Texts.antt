@@ -18,10 +18,10 @@ module _ (capacity : ℕ) (text buffer : List ℕ) where
   text-refused h = rw (lt-ltb (length buffer) capacity h) (refl, refl)
 
   module _ (room : capacity ≤ length buffer) where
-    pub text-size : textIn capacity text buffer .size ≡ length text
+    text-size : textIn capacity text buffer .size ≡ length text
     text-size = rw (le-ltb (length buffer) capacity room)
 
-    pub text-buffer : textIn capacity text buffer .buffer ≡ overwrite text buffer
+    text-buffer : textIn capacity text buffer .buffer ≡ overwrite text buffer
     text-buffer = rw (le-ltb (length buffer) capacity room)
 
     -- the bytes up to the answered length are the text

@@ -102,9 +102,10 @@ module _ (s : List ℕ) (c : Settings) where
   bodyChecks =
       firstOf (badLength (length s) (sheetLength c) ∷ arrayChecks (markAt s) (bitsAt s (entryCount c)) (entryCount c))
 
-  pub body-length-refused : (length s ≡ sheetLength c → ⊥) → some (refusal badLengthNumber 0) ≡ bodyChecks
+  pub body-length-refused :
+      (wanted : ℕ) → wanted ≡ sheetLength c → (length s ≡ wanted → ⊥) → some (refusal badLengthNumber 0) ≡ bodyChecks
   unfolding firstOf badLength
-  body-length-refused h = rw (ne-eqb (length s) (sheetLength c) h)
+  body-length-refused wanted same h = rw (ne-eqb (length s) (sheetLength c) (λ e. h (e ∙ sym same)))
 
   module _ (long : length s ≡ sheetLength c) where
     -- of a sheet of its length checks 8 and 9 are left

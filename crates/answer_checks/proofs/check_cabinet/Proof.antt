@@ -4,12 +4,13 @@
 use borrow.Author.Needs.{needs}
 use borrow.Author.Tests.{leb-true, leb-false, lt-ltb, le-ltb}
 use mathlib.Core.Bool.{Bool, true, false}
-use mathlib.Core.Path.{_≡_, refl, sym}
+use mathlib.Core.Path.{_≡_, refl, sym, ap, ap₂, _∙_}
 use Prim.Native.Nat.{ℕ, _+_}
 use native.Mathlib.Omega.{arith}
 use lib.Dec.{leb, ltb}
 use Rattle.model.specs.RoundSheet.{byte}
-use Rattle.model.specs.Refusals.{noRoom}
+use Rattle.model.specs.Refusals.{refuseIf, orNext, noRoom, noRoomNumber}
+use Rattle.refusals.specs.Answers.{checkOf}
 use Rattle.refusal_laws.proofs.Checks.{first-snoc}
 use Rattle.answer_checks.specs.Checks.{answerChecks, cabinetChecks}
 use Rattle.answer_checks.proofs.check_cabinet.Statement.{statement}
@@ -38,21 +39,27 @@ at-most n r = go (leb n r) refl
     go true e = let h = leb-true n r e in sym (lt-ltb n (r + 1) (omega arith))
     go false e = let h = leb-false n r e in sym (le-ltb n (r + 1) (omega arith))
 
+-- the sheet has room for the cabinet where its number is below N
+has-room : (c : tie.After-refuse-if)
+    → checkOf (c .refuse-if .result)
+    ≡ noRoom (byte (c .before .before .before .args .answer .now) 0) (c .before .before .before .args .cabinet + 1)
+unfolding noRoom
+has-room c =
+    let read = c .before in
+    let r = read .before .before .args .cabinet in
+    c .refuse-if .ensures
+    ∙ ap (λ (b : Bool). refuseIf b noRoomNumber) (at-most (read .byte-at .result) r)
+    ∙ ap (λ (n : ℕ). refuseIf (ltb n (r + 1)) noRoomNumber) (read .byte-at .ensures)
+
 returns : tie.Need-returns
-unfolding cabinetChecks noRoom
+unfolding cabinetChecks
 returns c =
     let checked = c .before in
     let room = checked .before in
-    let read = room .before in
-    let a = read .before .before .args in
-    rw (
-      c .first-of .ensures,
-      checked .check .ensures,
-      room .refuse-if .ensures,
-      at-most (read .byte-at .result) (a .cabinet),
-      read .byte-at .ensures,
-      first-snoc (answerChecks (a .answer .now)) (noRoom (byte (a .answer .now) 0) (a .cabinet + 1)),
-    )
+    let a = room .before .before .before .args in
+    c .first-of .ensures
+    ∙ ap₂ orNext (checked .check .ensures) (has-room room)
+    ∙ sym (first-snoc (answerChecks (a .answer .now)) (noRoom (byte (a .answer .now) 0) (a .cabinet + 1)))
 
 pub check-cabinet-spec : {M : Type 1} → statement M
 check-cabinet-spec =

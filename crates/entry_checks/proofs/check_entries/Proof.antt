@@ -3,7 +3,7 @@
 -- Assumes nothing.
 use borrow.Author.Needs.{needs}
 use mathlib.Core.Option.{some}
-use mathlib.Core.Path.{sym, ap, _∙_}
+use mathlib.Core.Path.{ap, _∙_}
 use native.Mathlib.Omega.{arith}
 use Prim.Native.Nat.{_≤_}
 use Rattle.sheet_sizes.specs.Bounds.{mostEntries}
@@ -29,7 +29,7 @@ returns c =
     let a = measured .before .before .args in
     ap some (c .refuse .ensures)
     ∙ body-length-refused (a .sheet .now) (a .settings)
-    (λ e. c .before .if1 .taken (e ∙ sym (measured .sheet-length .ensures)))
+    (measured .sheet-length .result) (measured .sheet-length .ensures) (c .before .if1 .taken)
 
 entry-count-requires : tie.Need-entry-count-requires
 entry-count-requires c κs = search needs

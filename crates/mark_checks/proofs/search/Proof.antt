@@ -37,8 +37,9 @@ returns : tie.Need-returns Inv-entries μ-entries
 unfolding badMark
 returns c =
     let tested = c .before in
-    let entries = tested .before .before .before .entries in
-    let a = tested .before .before .before .before .before .args in
+    let looped = tested .before .before .before in
+    let entries = looped .entries in
+    let a = looped .before .before .args in
     ap some (c .refuse-at .ensures)
     ∙ check-found (λ i. ltb 1 (byte (a .marks .now) i)) badMarkNumber (length (a .marks .now)) (entries .e)
     (omega arith) (entries .inv .1) (lt-ltb 1 (byte (a .marks .now) (entries .e)) (tested .if1 .taken))
@@ -51,8 +52,9 @@ entries-less c = omega arith
 
 entries-again : tie.Need-entries-again Inv-entries μ-entries
 entries-again c =
-    let a = c .before .before .before .before .before .args in
-    let entries = c .before .before .before .entries in (
+    let looped = c .before .before .before in
+    let entries = looped .entries in
+    let a = looped .before .before .args in (
       omega arith,
       search-more (λ i. ltb 1 (byte (a .marks .now) i))
           (entries .e)

@@ -37,8 +37,9 @@ returns : tie.Need-returns Inv-entries μ-entries
 unfolding badMissing
 returns c =
     let tested = c .before in
-    let entries = tested .before .before .before .entries in
-    let a = tested .before .before .before .before .before .before .args in
+    let looped = tested .before .before .before in
+    let entries = looped .entries in
+    let a = looped .before .before .before .args in
     ap some (c .refuse-at .ensures)
     ∙ check-found (fault (a .marks .now) (a .readings .now)) badMissingNumber (length (a .marks .now)) (entries .entry)
     (omega arith) (entries .inv .1)
@@ -52,8 +53,9 @@ entries-less c = omega arith
 
 entries-again : tie.Need-entries-again Inv-entries μ-entries
 entries-again c =
-    let entries = c .before .before .before .entries in
-    let a = c .before .before .before .before .before .before .args in (
+    let looped = c .before .before .before in
+    let entries = looped .entries in
+    let a = looped .before .before .before .args in (
       omega arith,
       search-more (fault (a .marks .now) (a .readings .now))
           (entries .entry)
@@ -64,8 +66,9 @@ entries-again c =
 returns-2 : tie.Need-returns-2 Inv-entries μ-entries
 unfolding badMissing
 returns-2 c =
-    let entries = c .before .entries in
-    let a = c .before .before .before .before .args in
+    let looped = c .before in
+    let entries = looped .entries in
+    let a = looped .before .before .before .args in
     check-ended (fault (a .marks .now) (a .readings .now)) badMissingNumber (length (a .marks .now)) (entries .entry)
     (entries .inv .0) (c .entries-test .left) (entries .inv .1)
 

@@ -63,7 +63,8 @@ returns-2 c =
     let at-r = c .before in
     let checked = at-r .before .before in
     let at-settings = checked .before .before in
-    let a = at-settings .before .before .before .before .args in
+    let opened = at-settings .before .before in
+    let a = opened .before .before .args in
     room-refused (a .sheet .now) (a .marks) (a .readings) (at-settings .settings .given .0 .0) (seen checked)
     (at-r .r2 .given .0 .0)
     (sym (checked .check-room .ensures) ∙ ap checkOf (at-r .r2 .given .1))
@@ -74,7 +75,8 @@ returns-3 c =
     let told = entries .before in
     let checked = told .before .before in
     let at-settings = checked .before .before in
-    let a = at-settings .before .before .before .before .args in
+    let opened = at-settings .before .before in
+    let a = opened .before .before .args in
     let settings = at-settings .settings .given .0 .0 in
     entries-decide (a .sheet .now) (a .marks) (a .readings) settings (seen checked)
     (sym (checked .check-room .ensures) ∙ ap checkOf (told .enum-told .given .1))

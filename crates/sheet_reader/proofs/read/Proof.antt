@@ -4,11 +4,13 @@
 use borrow.Author.Needs.{needs}
 use mathlib.Core.List.{List}
 use mathlib.Core.Path.{_≡_, sym, ap, _∙_}
-use Prim.Native.Nat.{ℕ, _+_, _*_}
+use Prim.Native.Nat.{ℕ, _+_, _*_, _≤_}
 use native.Mathlib.Omega.{arith}
+use lib.IntN.{ℤ}
 use lib.ListN.{length}
 use Rattle.arithmetic.specs.Writing.{overwrite}
-use Rattle.model.specs.RoundSheet.{entryCount, headerSize}
+use Rattle.model.specs.declared.Settings.{Settings}
+use Rattle.model.specs.RoundSheet.{headerSize}
 use Rattle.sheet_checks.specs.Answers.{openedOf}
 use Rattle.reader_checks.proofs.Opening.{Openable, openable}
 use Rattle.sheet_laws.proofs.Parts.{marksPart, length-marksPart}
@@ -17,26 +19,42 @@ use Rattle.sheet_reader.proofs.Filling.{reader-refuses, reader-fills, m
 use Rattle.sheet_reader.proofs.read.Statement.{statement}
 use Rattle.sheet_reader.proofs.read.Tie as tie
 
--- what `reader_checks::check` granted
-seen :
-    (c : tie.After-entry-count)
-    → Openable (c .before .before .before .before .before .before .before .args .sheet .now)
-    (length (c .before .before .before .before .before .before .before .args .marks .now))
-    (length (c .before .before .before .before .before .before .before .args .readings .now))
-    (c .before .before .settings .given .0 .0)
-seen c =
-    let a = c .before .before .before .before .before .before .before .args in
-    let settings = c .before .before .settings in
-    let opened = c .before .before .before .before .check in
-    openable (a .sheet .now) (length (a .marks .now)) (length (a .readings .now)) (settings .given .0 .0)
-    (sym (opened .ensures) ∙ ap openedOf (settings .given .1))
+-- ---- what is known once the entries are counted
 
-sheet-long :
-    (c : tie.After-entry-count)
-    → length (c .before .before .before .before .before .before .before .args .sheet .now) ≡ headerSize + 5 *
-    c .entry-count .result
-sheet-long c =
-    seen c .sizes .long ∙ ap (λ (k : ℕ). headerSize + 5 * k) (sym (c .entry-count .ensures))
+module _ (c : tie.After-entry-count) where
+  abbrev sheet : List ℕ
+  sheet = c .before .before .before .before .before .before .before .args .sheet .now
+
+  abbrev marks : List ℕ
+  marks = c .before .before .before .before .before .before .before .args .marks .now
+
+  abbrev readings : List ℤ
+  readings = c .before .before .before .before .before .before .before .args .readings .now
+
+  abbrev settings : Settings
+  settings = c .before .before .settings .given .0 .0
+
+  abbrev E : ℕ
+  E = c .entry-count .result
+
+  -- what `reader_checks::check` granted
+  seen : Openable sheet (length marks) (length readings) settings
+  seen =
+      let at-settings = c .before .before in
+      openable sheet (length marks) (length readings) settings
+      (sym (at-settings .before .before .check .ensures) ∙ ap openedOf (at-settings .settings .given .1))
+
+  sheet-long : length sheet ≡ headerSize + 5 * E
+  sheet-long = seen .sizes .long ∙ ap (λ (k : ℕ). headerSize + 5 * k) (sym (c .entry-count .ensures))
+
+  few : E ≤ 4096
+  few = rw (c .entry-count .ensures) (seen .sizes .few)
+
+  marks-fit : E ≤ length marks
+  marks-fit = omega (arith, c .entry-count .ensures, seen .marks)
+
+  readings-fit : E ≤ length readings
+  readings-fit = omega (arith, c .entry-count .ensures, seen .readings)
 
 check-requires : tie.Need-check-requires
 check-requires c κs = search needs
@@ -51,15 +69,7 @@ entry-count-requires : tie.Need-entry-count-requires
 entry-count-requires c κs = search needs
 
 add-body : tie.Need-add-body
-add-body c =
-    let settings = c .before .before .settings in
-    let o = seen (c) in
-    let count : c .entry-count .result ≡ entryCount (settings .given .0 .0) = c .entry-count .ensures in
-    let long = o .sizes .long in
-    let few = o .sizes .few in
-    let marks = o .marks in
-    let readings = o .readings in
-    omega arith
+add-body c = omega (arith, few c)
 
 sub-copy : tie.Need-sub-copy
 sub-copy c = search needs
@@ -68,41 +78,18 @@ part-copy-start : tie.Need-part-copy-start
 part-copy-start c = search needs
 
 part-copy-end : tie.Need-part-copy-end
-part-copy-end c =
-    let settings = c .before .before .settings in
-    let o = seen (c) in
-    let count : c .entry-count .result ≡ entryCount (settings .given .0 .0) = c .entry-count .ensures in
-    let long = o .sizes .long in
-    let few = o .sizes .few in
-    let marks = o .marks in
-    let readings = o .readings in
-    omega arith
+part-copy-end c = omega (arith, sheet-long c)
 
 copy-requires : tie.Need-copy-requires
 copy-requires c κs =
-    let entry-count = c .before .before .entry-count in
-    let settings = c .before .before .before .before .settings in
-    let a = c .before .before .before .before .before .before .before .before .before .args in
-    let o = seen (c .before .before) in
-    let count : entry-count .result ≡ entryCount (settings .given .0 .0) = entry-count .ensures in
-    let long = o .sizes .long in
-    let few = o .sizes .few in
-    let marks = o .marks in
-    let readings = o .readings in
-    let part = length-marksPart (a .sheet .now) (entry-count .result) (sheet-long (c .before .before)) in
-    omega arith
+    let counted = c .before .before in
+    omega (arith, length-marksPart (sheet counted) (E counted) (sheet-long counted), marks-fit counted)
 
 decode-requires : tie.Need-decode-requires
 decode-requires c κs =
-    let entry-count = c .before .before .before .before .before .before .entry-count in
-    let settings = c .before .before .before .before .before .before .before .before .settings in
-    let o = seen (c .before .before .before .before .before .before) in
-    let count : entry-count .result ≡ entryCount (settings .given .0 .0) = entry-count .ensures in
-    let long = o .sizes .long in
-    let few = o .sizes .few in
-    let marks = o .marks in
-    let readings = o .readings in
-    omega arith
+    let copied = c .before .before .before in
+    let counted = copied .before .before .before in
+    omega (arith, sheet-long counted, readings-fit counted)
 
 returns : tie.Need-returns
 returns c =
@@ -121,17 +108,16 @@ same-length-2 c = search needs
 returns-2 : tie.Need-returns-2
 returns-2 c =
     let decoded = c .before in
-    let copied = decoded .before .before .before .before in
+    let lent = decoded .before .before in
+    let copied = lent .before .before in
     let counted = copied .before .before .before in
-    let at-settings = counted .before .before in
-    let a = at-settings .before .before .before .before .before .args in
-    let E = counted .entry-count .result in
-    reader-fills (a .sheet .now) (a .marks .now) (a .readings .now) (at-settings .settings .given .0 .0)
-    (seen counted) E (counted .entry-count .ensures)
+    reader-fills (sheet counted) (marks counted) (readings counted) (settings counted)
+    (seen counted) (E counted) (counted .entry-count .ensures)
     (copied .copy .last .1 .0) (decoded .decode .last .1 .1 .0)
     (copied .copy .ensures .1
-    ∙ copy-overwrites (marksPart (a .sheet .now) E) (a .marks .now)
-    ∙ ap (λ (l : List ℕ). overwrite l (a .marks .now)) (marksPart-table (a .sheet .now) E (sheet-long counted)))
+    ∙ copy-overwrites (marksPart (sheet counted) (E counted)) (marks counted)
+    ∙ ap (λ (l : List ℕ). overwrite l (marks counted))
+    (marksPart-table (sheet counted) (E counted) (sheet-long counted)))
     (decoded .decode .ensures)
 
 pub read-spec : {M : Type 1} → statement M

@@ -27,9 +27,13 @@ same-length c = search needs
 
 returns : tie.Need-returns
 returns c =
-    let a = c .before .before .before .before .before .before .before .before .before .before .args in
-    let copy = c .before .before .before .before .before .before .copy in
-    let put-readings = c .before .before .put-readings in
+    let stored = c .before .before in
+    let put-readings = stored .put-readings in
+    let lent = stored .before .before in
+    let copied = lent .before .before in
+    let copy = copied .copy in
+    let start = copied .before .before .before in
+    let a = start .before .args in
     tail-written (a .marks .now) (readingBytes (a .readings .now)) (a .buffer .now) (copy .last .1 .0)
     (put-readings .last .1 .0)
     (copy .result) (sym (copy .ensures .0))

@@ -49,18 +49,22 @@ entries-less c = omega arith
 
 entries-again : tie.Need-entries-again Inv-entries μ-entries
 entries-again c =
-    let put-word = c .before .before .put-word in
-    let entries = c .before .before .before .before .before .before .before .entries in
-    let a = c .before .before .before .before .before .before .before .before .before .args in
-    let to-bits = c .before .before .before .to-bits in
-    let t8 = c .before .before .before .before .before .t8 in
-    let pre = c .before .before .before .before .before .before .before .before .before .pre in (
+    let stored = c .before .before in
+    let put-word = stored .put-word in
+    let told = stored .before in
+    let to-bits = told .to-bits in
+    let read = told .before .before in
+    let looped = read .before .before in
+    let entries = looped .entries in
+    let start = looped .before .before in
+    let a = start .args in
+    let pre = start .pre in (
       omega arith,
       put-word .kept .0 ∙ entries .inv .1,
       put-word .ensures
           ∙ put-next (a .readings .now) (entries .e) (a .buffer .now) (entries .buffer)
           (to-bits .result) (entries .inv .2) (omega arith)
-          (to-bits .ensures ∙ ap (ofZ w32) (bits-again (getD (a .readings .now) (entries .e) (pos 0)) (t8 .given)))
+          (to-bits .ensures ∙ ap (ofZ w32) (bits-again (getD (a .readings .now) (entries .e) (pos 0)) (read .t8 .given)))
           pre,
     )
 

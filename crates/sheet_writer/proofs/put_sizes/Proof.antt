@@ -28,10 +28,10 @@ same-length c = c .before .before .put-word .kept .0 ∙ simp length-set
 
 returns : tie.Need-returns
 returns c =
-    let put-word = c .before .before .put-word in
-    let a = c .before .before .before .before .before .args in
-    let pre = c .before .before .before .before .before .pre in
-    put-word .ensures ∙ sizes-stored (a .settings) (a .buffer .now) (pre)
+    let stored = c .before .before in
+    let start = stored .before .before .before in
+    let a = start .args in
+    stored .put-word .ensures ∙ sizes-stored (a .settings) (a .buffer .now) (start .pre)
 
 pub put-sizes-spec : {M : Type 1} → statement M
 put-sizes-spec =

@@ -2,13 +2,15 @@
 -- the sheet.
 -- Assumes nothing.
 use borrow.Author.Needs.{needs}
-use mathlib.Core.List.{_++_}
+use mathlib.Core.List.{List, _++_}
 use mathlib.Core.Option.{none}
 use mathlib.Core.Path.{_≡_, sym, ap, _∙_}
-use Prim.Native.Nat.{_+_, _*_, _-_, _≤_}
+use Prim.Native.Nat.{ℕ, _+_, _*_, _-_, _≤_}
 use native.Mathlib.Omega.{arith}
+use lib.IntN.{ℤ}
 use lib.ListN.{length, take, drop}
 use Rattle.refusals.specs.Answers.{checkOf}
+use Rattle.model.specs.declared.Settings.{Settings}
 use Rattle.model.specs.RoundSheet.{headerSize, readingBytes, sizeBytes}
 use Rattle.model.specs.Refusals.{firstOf, writeChecks}
 use Rattle.sheet_laws.proofs.Written.{length-sizeBytes}
@@ -19,24 +21,27 @@ use Rattle.sheet_writer.proofs.Stores.{length-tail}
 use Rattle.sheet_writer.proofs.write.Statement.{statement}
 use Rattle.sheet_writer.proofs.write.Tie as tie
 
--- no check refused
-checks :
-    (c : tie.After-enum-told)
-    → firstOf (writeChecks (c .before .before .before .before .before .before .args .settings)
-    (c .before .before .before .before .before .before .args .marks .now)
-    (c .before .before .before .before .before .before .args .readings .now)
-    (length (c .before .before .before .before .before .before .args .buffer .now))) ≡ none
-checks c = sym (c .before .before .check .ensures) ∙ ap checkOf (c .enum-told .given .1)
+-- ---- what is known once no check refused
 
--- the sheet lies in the buffer
-within :
-    (c : tie.After-enum-told)
-    → headerSize + length (c .before .before .before .before .before .before .args .marks .now)
-    + 4 * length (c .before .before .before .before .before .before .args .readings .now)
-    ≤ length (c .before .before .before .before .before .before .args .buffer .now)
-within c =
-    let a = c .before .before .before .before .before .before .args in
-    written-within (a .settings) (a .marks .now) (a .readings .now) (length (a .buffer .now)) (checks c)
+module _ (c : tie.After-enum-told) where
+  abbrev settings : Settings
+  settings = c .before .before .before .before .before .before .args .settings
+
+  abbrev marks : List ℕ
+  marks = c .before .before .before .before .before .before .args .marks .now
+
+  abbrev readings : List ℤ
+  readings = c .before .before .before .before .before .before .args .readings .now
+
+  abbrev buffer : List ℕ
+  buffer = c .before .before .before .before .before .before .args .buffer .now
+
+  checks : firstOf (writeChecks settings marks readings (length buffer)) ≡ none
+  checks = sym (c .before .before .check .ensures) ∙ ap checkOf (c .enum-told .given .1)
+
+  -- the sheet lies in the buffer
+  within : headerSize + length marks + 4 * length readings ≤ length buffer
+  within = written-within settings marks readings (length buffer) checks
 
 sheet-length-requires : tie.Need-sheet-length-requires
 sheet-length-requires c κs = search needs
@@ -87,21 +92,21 @@ same-length c = search needs
 returns-2 : tie.Need-returns-2
 returns-2 c =
     let put-entries = c .before .before .put-entries in
-    let stored = c .before .before .before .before .before .before in
+    let lent = c .before .before .before in
+    let stored = lent .before .before .before in
     let put-sizes = stored .put-sizes in
     let told = stored .before .before in
     let sized = told .before .before .before in
-    let a = sized .before .before .before .args in
-    writer-fills (a .settings) (a .marks .now) (a .readings .now) (a .buffer .now)
+    writer-fills (settings told) (marks told) (readings told) (buffer told)
     (take headerSize (put-sizes .last .1 .0)
     ++ (put-entries .last .1 .1 .0
     ++ drop (length (put-sizes .last .1 .0) - headerSize) (drop headerSize (put-sizes .last .1 .0))))
     (sized .sheet-length .result)
     (checks told)
     (sized .sheet-length .ensures)
-    (tail-written (sizeBytes (a .settings)) ((a .marks .now) ++ readingBytes (a .readings .now)) (a .buffer .now)
+    (tail-written (sizeBytes (settings told)) (marks told ++ readingBytes (readings told)) (buffer told)
     (put-sizes .last .1 .0) (put-entries .last .1 .1 .0) headerSize
-    (length-sizeBytes (a .settings)) (put-sizes .ensures) (put-entries .ensures))
+    (length-sizeBytes (settings told)) (put-sizes .ensures) (put-entries .ensures))
 
 pub write-spec : {M : Type 1} → statement M
 write-spec =

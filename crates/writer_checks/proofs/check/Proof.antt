@@ -35,7 +35,8 @@ check-requires c κs = search needs
 check-missing-requires : tie.Need-check-missing-requires
 check-missing-requires c κs =
     let told = c .before in
-    let a = told .before .before .before .before .args in
+    let checked = told .before .before in
+    let a = checked .before .before .args in
     let w =
     writable (a .settings) (length (a .marks .now)) (length (a .readings .now)) (a .room) (passed told) in (
       w .readingsLong ∙ sym (w .marksLong),
@@ -58,7 +59,8 @@ returns-2 c =
     let missing = c .before in
     let marks = missing .before in
     let told = marks .before in
-    let a = told .before .before .before .before .args in
+    let checked = told .before .before in
+    let a = checked .before .before .args in
     let w =
     writable (a .settings) (length (a .marks .now)) (length (a .readings .now)) (a .room) (passed told) in
     entries-decide (a .settings) (a .marks .now) (a .readings .now) (a .room) w (passed told)

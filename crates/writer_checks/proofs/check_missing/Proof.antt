@@ -56,9 +56,11 @@ returns : tie.Need-returns Inv-entries μ-entries
 unfolding badMissing
 returns c =
     let tested = c .before in
-    let not-zero-arg = tested .before .before .not-zero-arg in
-    let entries = tested .before .before .before .before .before .entries in
-    let a = tested .before .before .before .before .before .before .before .args in
+    let called = tested .before .before in
+    let not-zero-arg = called .not-zero-arg in
+    let looped = called .before .before .before in
+    let entries = looped .entries in
+    let a = looped .before .before .args in
     ap some (c .refuse-at .ensures)
     ∙ check-found (fault (a .marks .now) (a .readings .now)) badMissingNumber (length (a .marks .now)) (entries .e)
     (omega arith) (entries .inv .1)
@@ -74,9 +76,11 @@ entries-less c = omega arith
 
 entries-again : tie.Need-entries-again Inv-entries μ-entries
 entries-again c =
-    let not-zero-arg = c .before .before .not-zero-arg in
-    let entries = c .before .before .before .before .before .entries in
-    let a = c .before .before .before .before .before .before .before .args in (
+    let called = c .before .before in
+    let not-zero-arg = called .not-zero-arg in
+    let looped = called .before .before .before in
+    let entries = looped .entries in
+    let a = looped .before .before .args in (
       omega arith,
       search-more (fault (a .marks .now) (a .readings .now)) (entries .e) (entries .inv .1)
           (ap (λ (z : ℤ). notZero (byte (a .marks .now) (entries .e)) (ofZ w32 z))

@@ -57,8 +57,8 @@ part-small k l small j = go (decLe k j)
 
 -- ---- the text of what settling gives
 
-module _ (input buffer answer left : List ℕ) (end : ℕ) (size : end ≡ min (length input) maxInput) (zeros : answer ≡ listingBuffer)
-    (room : 5138 ≤ length buffer) where
+module _ (input buffer answer left : List ℕ) (end : ℕ) (size : end ≡ min (length input) maxInput)
+    (zeros : answer ≡ listingBuffer) (room : roundCapacity ≤ length buffer) where
   abbrev sheet : List ℕ
   sheet = take maxInput input
 
@@ -72,7 +72,9 @@ module _ (input buffer answer left : List ℕ) (end : ℕ) (size : end ≡ min (
 
   -- a buffer that has room for a round's text has room for a refusal's
   refusal-room : (text : List ℕ) → textIn refusalCapacity text buffer ≡ textIn roundCapacity text buffer
-  refusal-room text = rw (le-ltb (length buffer) 23 (le-trans (lit≤ tt) room), le-ltb (length buffer) 5138 room)
+  refusal-room text =
+      let less = le-ltb (length buffer) refusalCapacity (le-trans (lit≤ tt) room) in
+      rw (less, le-ltb (length buffer) roundCapacity room)
 
   pub refusal-listed : (r : Refusal) → settlingOf (Refused r) left ≡ settle (take end input) answer
       → refusalWritten (r .number) (r .place) buffer ≡ listingIn input buffer
@@ -83,7 +85,8 @@ module _ (input buffer answer left : List ℕ) (end : ℕ) (size : end ≡ min (
       (verdict-here (refused r) e))
       ∙ refusal-room (listing input)
 
-  pub round-listed : ((j : ℕ) → byte input j < 256) → (n : ℕ) → settlingOf (Granted n) left ≡ settle (take end input) answer
+  pub round-listed : ((j : ℕ) → byte input j < 256) → (n : ℕ)
+      → settlingOf (Granted n) left ≡ settle (take end input) answer
       → roundWritten left buffer ≡ listingIn input buffer
   unfolding listingIn
   round-listed small n e =
@@ -102,10 +105,10 @@ module _ (input buffer answer left : List ℕ) (end : ℕ) (size : end ≡ min (
           (verdict-here (granted n) e)
 
 -- the bytes up to the answered length are the listing
-pub listing-shown : (input buffer : List ℕ) → 5138 ≤ length buffer
+pub listing-shown : (input buffer : List ℕ) → roundCapacity ≤ length buffer
     → take (listingIn input buffer .size) (listingIn input buffer .buffer) ≡ listing input
 unfolding listingIn
-listing-shown input buffer room = text-shown 5138 (listing input) buffer room
+listing-shown input buffer room = text-shown roundCapacity (listing input) buffer room
 
 -- a buffer that keeps its length holds the whole listing
 overwrite-fits : (new old : List ℕ) → length (overwrite new old) ≡ length old → length new ≤ length old
@@ -115,7 +118,8 @@ overwrite-fits new old same =
     let rest = length-drop (length new) old in
     omega arith
 
-pub listing-fits : (input buffer new : List ℕ) (size : ℕ) → size ≡ listingIn input buffer .size → new ≡ listingIn input buffer .buffer
+pub listing-fits : (input buffer new : List ℕ) (size : ℕ) → size ≡ listingIn input buffer .size
+    → new ≡ listingIn input buffer .buffer
     → length new ≡ length buffer
     → size ≤ length new
 unfolding listingIn

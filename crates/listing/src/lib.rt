@@ -3,6 +3,7 @@ ghost use mathlib.Core.Path.{_≡_};
 ghost use Prim.Native.Nat.{_≤_, min};
 ghost use lib.ListN.{length};
 ghost use Rattle.model.specs.Listing.{maxInput, listingBuffer};
+ghost use Rattle.text.specs.Text.{roundCapacity};
 ghost use Rattle.listing.specs.Listed.{listingIn};
 use settling::Settled;
 use text::ROUND_CAPACITY;
@@ -20,7 +21,7 @@ fn read_size(size: usize) -> usize
 // Settles what is read into an answer buffer of zeros, and writes the text of the answer sheet or of the refusal.
 fn listing_in(input: &[u8], answer: &mut [u8], text: &mut [u8]) -> usize
     requires { ⌜ now answer ≡ listingBuffer ⌝ }
-    requires { ⌜ 5138 ≤ length (now text) ⌝ }
+    requires { ⌜ roundCapacity ≤ length (now text) ⌝ }
     ensures { λ r. ⌜ r ≡ listingIn (now (input .entry)) (now (text .entry)) .size ⌝ }
     ensures { λ _. ⌜ now (text .exit) ≡ listingIn (now (input .entry)) (now (text .entry)) .buffer ⌝ }
 {

@@ -2,6 +2,8 @@
 // listing.
 ghost use mathlib.Core.Path.{_≡_};
 ghost use lib.ListN.{length};
+ghost use Rattle.model.specs.Listing.{maxInput};
+ghost use Rattle.text.specs.Text.{roundCapacity};
 ghost use Rattle.settle.specs.Sizes.{Within};
 use libc::STDERR_FILENO;
 use libc::STDIN_FILENO;
@@ -17,14 +19,14 @@ enum Input {
 
 // Bytes for what is read.
 fn input_buffer() -> [u8; MAX_INPUT]
-    ensures { λ r. ⌜ 20489 ≡ length r ⌝ }
+    ensures { λ r. ⌜ maxInput ≡ length r ⌝ }
 {
     [0; MAX_INPUT]
 }
 
 // Bytes for the listing.
 fn text_buffer() -> [u8; ROUND_CAPACITY]
-    ensures { λ r. ⌜ 5138 ≡ length r ⌝ }
+    ensures { λ r. ⌜ roundCapacity ≡ length r ⌝ }
 {
     [0; ROUND_CAPACITY]
 }
@@ -76,14 +78,19 @@ fn close_with(is_written: bool) {
     io::write_all(STDERR_FILENO, b"settle: standard output can't be written\n");
 }
 
-// Writes the listing of what is read; says on standard error where reading or writing fails.
+// Writes the listing of a sheet; says on standard error where writing fails.
+fn answer(sheet: &[u8], text: &mut [u8]) {
+    let end = listing::listing(sheet, text);
+    close_with(io::write_all(STDOUT_FILENO, &text[..end]));
+}
+
+// Answers what is read; says on standard error where reading fails.
 fn run(input: &mut [u8], text: &mut [u8]) {
     let Input::Read(size) = read_input(input) else {
         io::write_all(STDERR_FILENO, b"settle: standard input can't be read\n");
         return;
     };
-    let end = listing::listing(&input[..size], text);
-    close_with(io::write_all(STDOUT_FILENO, &text[..end]));
+    answer(&input[..size], text);
 }
 
 fn settle_input() {

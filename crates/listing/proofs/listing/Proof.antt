@@ -3,6 +3,7 @@
 -- Assumes nothing.
 use borrow.Author.Needs.{needs}
 use Rattle.model.specs.Listing.{listing}
+use Rattle.text.specs.Text.{roundCapacity}
 use Rattle.text.proofs.Texts.{text-refused}
 use Rattle.listing.specs.Listed.{listingIn}
 use Rattle.listing.proofs.listing.Statement.{statement}
@@ -12,7 +13,7 @@ returns : tie.Need-returns
 unfolding listingIn
 returns c =
     let args = c .before .before .before .args in
-    text-refused 5138 (listing (args .input .now)) (args .text .now) (c .if1 .taken)
+    text-refused roundCapacity (listing (args .input .now)) (args .text .now) (c .if1 .taken)
 
 slice-aggregate-listing-in : tie.Need-slice-aggregate-listing-in
 slice-aggregate-listing-in c = search needs

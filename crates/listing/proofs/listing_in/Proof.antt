@@ -1,5 +1,5 @@
--- `listing::listing_in` meets its contract: the part that is settled is the part of the input that is read, and the text
--- of the answer sheet, or of the refusal, is the listing.
+-- `listing::listing_in` meets its contract: the part that is settled is the part of the input that is read, and the
+-- text of the answer sheet, or of the refusal, is the listing.
 -- Assumes nothing.
 use borrow.Author.Needs.{needs}
 use mathlib.Core.List.{List}
@@ -36,7 +36,8 @@ module _ (c : tie.After-settle) where
   abbrev left : List ℕ
   left = c .settle .last .1 .0
 
-  settled : (v : Settled) → c .settle .result ≡ v → settlingOf v left ≡ settle (take end input) (start .args .answer .now)
+  settled : (v : Settled) → c .settle .result ≡ v
+      → settlingOf v left ≡ settle (take end input) (start .args .answer .now)
   settled v e = sym (ap (λ (u : Settled). settlingOf u left) e) ∙ c .settle .ensures
 
   round-text : (n : ℕ) → c .settle .result ≡ Granted n → roundWritten left buffer ≡ listingIn input buffer
@@ -64,7 +65,9 @@ read-size-requires c κs = search needs
 
 slice-aggregate-settle : tie.Need-slice-aggregate-settle
 slice-aggregate-settle c =
-    read-length (c .before .before .before .before .before .args .input .now) (c .before .read-size .result) (c .before .read-size .ensures)
+    let sized = c .before in
+    let start = sized .before .before .before .before in
+    read-length (start .args .input .now) (sized .read-size .result) (sized .read-size .ensures)
 
 settle-requires : tie.Need-settle-requires
 settle-requires c κs = search needs
@@ -89,10 +92,12 @@ same-length-2 c = search needs
 
 returns : tie.Need-returns
 returns c =
-    let told = c .before .before .before .before .before .enum-told .given in
-    let same = round-text (c .before .before .before .before .before .before .before .before .before) (told .0 .0) (told .1) in (
-      c .before .before .round-text .ensures .0 ∙ ap (λ (t : Text). t .size) same,
-      c .before .before .round-text .ensures .1 ∙ ap (λ (t : Text). t .buffer) same,
+    let written = c .before .before in
+    let told = written .before .before .before in
+    let given = told .enum-told .given in
+    let same = round-text (told .before .before .before .before) (given .0 .0) (given .1) in (
+      written .round-text .ensures .0 ∙ ap (λ (t : Text). t .size) same,
+      written .round-text .ensures .1 ∙ ap (λ (t : Text). t .buffer) same,
     )
 
 same-length-3 : tie.Need-same-length-3
@@ -103,10 +108,12 @@ same-length-4 c = search needs
 
 returns-2 : tie.Need-returns-2
 returns-2 c =
-    let told = c .before .before .before .before .before .r .given in
-    let same = refusal-text (c .before .before .before .before .before .before .before .before .before) (told .0 .0) (told .1) in (
-      c .before .before .refusal-text .ensures .0 ∙ ap (λ (t : Text). t .size) same,
-      c .before .before .refusal-text .ensures .1 ∙ ap (λ (t : Text). t .buffer) same,
+    let written = c .before .before in
+    let told = written .before .before .before in
+    let given = told .r .given in
+    let same = refusal-text (told .before .before .before .before) (given .0 .0) (given .1) in (
+      written .refusal-text .ensures .0 ∙ ap (λ (t : Text). t .size) same,
+      written .refusal-text .ensures .1 ∙ ap (λ (t : Text). t .buffer) same,
     )
 
 pub listing-in-spec : {M : Type 1} → statement M

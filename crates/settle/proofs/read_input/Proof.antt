@@ -56,11 +56,11 @@ module _ (c : tie.After-more Inv-reads μ-reads) where
 
   more-fits : size + c .more .given .0 .0 ≤ length buffer
   more-fits =
-      rest-room buffer (c .before .before .before .before .read-some .last .0) size (c .more .given .0 .0)
-      (c .before .before .before .before .before .before .before .reads .inv .0)
+      let call = c .before .before .before .before in
+      rest-room buffer (call .read-some .last .0) size (c .more .given .0 .0)
+      (call .before .before .before .reads .inv .0)
       (c .before .before .before .buffer .given .0)
-      (subst (λ (i : Input). Within i (length (c .before .before .before .before .read-some .last .0))) (c .more .given .1)
-      (c .before .before .before .before .read-some .ensures))
+      (subst (λ (i : Input). Within i (length (call .read-some .last .0))) (c .more .given .1) (call .read-some .ensures))
 
 add-size : tie.Need-add-size Inv-reads μ-reads
 add-size c = let h = more-fits (c .before .before) in omega arith
@@ -70,8 +70,9 @@ reads-less c = search needs
 
 reads-again : tie.Need-reads-again Inv-reads μ-reads
 reads-again c =
-    let same = c .before .before .before .before .before .buffer .given .1 in
-    (rw same (more-fits (c .before .before)), same ∙ c .before .before .before .before .before .before .before .before .before .reads .inv .1)
+    let lent = c .before .before .before .before .before in
+    let same = lent .buffer .given .1 in
+    (rw same (more-fits (c .before .before)), same ∙ lent .before .before .before .before .reads .inv .1)
 
 same-length-2 : tie.Need-same-length-2 Inv-reads μ-reads
 same-length-2 c = search needs

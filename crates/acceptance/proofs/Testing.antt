@@ -17,33 +17,36 @@ use Rattle.arithmetic.proofs.Counting.{count-le}
 use Rattle.arithmetic.proofs.Writing.{length-table, length-overwrite}
 use Rattle.model.specs.Ensemble.{maxCabinets}
 use Rattle.acceptance.specs.Values.{acceptedIn, acceptedCount, listsMisfit, countGiven, flagsOf}
-use Rattle.acceptance.specs.Values.{Alike, Remembered}
+use Rattle.acceptance.specs.Values.{Remembered}
 use Rattle.loop_laws.proofs.Loops.{flag, count-next, store-none, store-next, store-ended}
 
-module _ (w need : ℕ) (marks values : List ℕ) (flags₀ : List Bool) where
+module _ (w need : ℕ) (marks values list : List ℕ) (flags₀ : List Bool) where
   abbrev passing : ℕ → Bool
   passing = acceptedIn w need marks values
 
   -- where the readings below r are tested
   pub record Testing (known : List ℕ) (flags : List Bool) (counted r : ℕ) : Type 0 where
     pub upTo : r ≤ length marks
-    pub alike : Alike marks values known
+    pub few : length marks ≤ maxCabinets
+    pub long : length known ≡ 64
     pub room : length marks ≤ length flags₀
-    pub memory : Remembered w need marks values known
+    pub memory : Remembered w need list known
     pub exact : counted ≡ count passing r
     pub written : flags ≡ overwrite (table passing r) flags₀
 
   pub test-none :
       (known : List ℕ)
-      → Alike marks values known
+      → length marks ≤ maxCabinets
+      → length known ≡ 64
       → length marks ≤ length flags₀
-      → Remembered w need marks values known
+      → Remembered w need list known
       → Testing known flags₀ 0 0
   unfolding count
-  test-none known a s m =
+  test-none known f l s m =
       record {
         upTo = zero-le;
-        alike = a;
+        few = f;
+        long = l;
         room = s;
         memory = m;
         exact = refl;
@@ -63,21 +66,22 @@ module _ (w need : ℕ) (marks values : List ℕ) (flags₀ : List Bool) where
         let l = count-le passing r in
         let e = so-far .exact in
         let u = so-far .upTo in
-        let f = so-far .alike .1 in
+        let f = so-far .few in
         omega arith
 
     pub test-one :
         r < length marks
         → (known′ : List ℕ)
         → length known′ ≡ length known
-        → Remembered w need marks values known′
+        → Remembered w need list known′
         → (b : Bool)
         → b ≡ acceptedIn w need marks values r
         → Testing known′ (set flags r b) (c + boolByte b) (r + 1)
     test-one h known′ l m b e =
         record {
           upTo = omega arith;
-          alike = (so-far .alike .0, so-far .alike .1, l ∙ so-far .alike .2);
+          few = so-far .few;
+          long = l ∙ so-far .long;
           room = so-far .room;
           memory = m;
           exact = ap₂ (λ (x y : ℕ). x + y) (so-far .exact) (flag b ∙ ap bit e) ∙ sym (count-next passing r);
@@ -94,8 +98,8 @@ module _ (w need : ℕ) (marks values : List ℕ) (flags₀ : List Bool) where
 
 -- nothing is remembered of any start
 pub remember-none :
-    (w need : ℕ) (marks values : List ℕ) → length marks ≤ maxCabinets → Remembered w need marks values (replicate 64 0)
-remember-none w need marks values few a l = inl (getD-replicate 64 a 0 0 (omega arith))
+    (w need : ℕ) (list : List ℕ) → length list ≤ maxCabinets → Remembered w need list (replicate 64 0)
+remember-none w need list few a l = inl (getD-replicate 64 a 0 0 (omega arith))
 
 -- ---- the answers
 

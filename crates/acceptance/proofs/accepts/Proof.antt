@@ -13,7 +13,8 @@ use Rattle.arithmetic.specs.Counting.{bit}
 use Rattle.arithmetic.specs.Words.{twoTo32}
 use Rattle.arithmetic.proofs.Bools.{and-intro}
 use Rattle.arithmetic.proofs.Counting.{bit-le-one}
-use Rattle.acceptance.specs.Values.{spansAt}
+use Rattle.held.specs.Held.{valueAt}
+use Rattle.acceptance.specs.Values.{inSpan}
 use Rattle.acceptance.proofs.Spans.{Tried, Counted, reach-fits, untried, count-small, tried-holds}
 use Rattle.acceptance.proofs.Spans.{held-spans, count-begin, count-on, count-enough, pass-counted, pass-untried}
 use Rattle.acceptance.proofs.Spans.{known-enough, admitted, not-admitted, remember}
@@ -21,36 +22,34 @@ use Rattle.acceptance.proofs.accepts.Statement.{statement}
 use Rattle.acceptance.proofs.accepts.Tie as tie
 
 abbrev Inv-readings : tie.InvT-readings
-Inv-readings marks values span need known₀ r mark value found₀ s start so-far far count₀ t₀ known found count t =
-    Counted span need marks values r known found s count t
+Inv-readings list span need known₀ value found₀ s start so-far far count₀ t₀ known found count t =
+    Counted span need list value known found s count t
 
 abbrev μ-readings : tie.MeasureT-readings
-μ-readings marks values span need known₀ r mark value found₀ s start so-far far count₀ t₀ known found count t =
-    length marks - t
+μ-readings list span need known₀ value found₀ s start so-far far count₀ t₀ known found count t = length list - t
 
 abbrev Inv-starts : tie.InvT-starts
-Inv-starts marks values span need known₀ r mark value found₀ s₀ known found s =
-    Tried span need marks values r known found s
+Inv-starts list span need known₀ value found₀ s₀ known found s = Tried span need list value known found s
 
 abbrev μ-starts : tie.MeasureT-starts
-μ-starts marks values span need known₀ r mark value found₀ s₀ known found s = length marks - s
+μ-starts list span need known₀ value found₀ s₀ known found s = length list - s
 
 -- ---- places: the call, a turn over starts, one over readings
 
 abbrev call :
     tie.At-starts Inv-readings μ-readings Inv-starts μ-starts
     → tie.Start Inv-readings μ-readings Inv-starts μ-starts
-call c = c .before .before .before .before .before .before
+call c = c .before .before .before
 
 abbrev turn :
     tie.After-tries Inv-readings μ-readings Inv-starts μ-starts
     → tie.In-starts Inv-readings μ-readings Inv-starts μ-starts
-turn c = c .before .before .before .before
+turn c = c .before .before .before
 
 abbrev inner :
     tie.After-held Inv-readings μ-readings Inv-starts μ-starts
     → tie.In-readings Inv-readings μ-readings Inv-starts μ-starts
-inner c = c .before .before .before
+inner c = c .before .before
 
 abbrev outer :
     tie.In-readings Inv-readings μ-readings Inv-starts μ-starts
@@ -60,40 +59,28 @@ outer c = c .before .before .before .before .before
 -- a value has 32 bits
 small :
     (c : tie.At-starts Inv-readings μ-readings Inv-starts μ-starts) (j : ℕ)
-    → getD (call c .args .values .now) j 0 < twoTo32
-small c j = c .before .before .before .before .shared-slice-known2 .given j .fits
+    → getD (call c .args .list .now) j 0 < twoTo32
+small c j = c .before .before .shared-slice-known .given j .fits
 
--- a start that is tried holds r's reading
+-- a start that is tried holds the value
 opened :
     (c : tie.Then1 Inv-readings μ-readings Inv-starts μ-starts)
     → let o = turn (c .before) .before in
     let a = call o .args in
-    spansAt (a .span) (a .marks .now) (a .values .now) (o .starts .s) (a .r) ≡ true
-unfolding spansAt
+    inSpan (a .span) (valueAt (a .list .now) (o .starts .s)) (a .value) ≡ true
 opened c =
     let o = turn (c .before) .before in
     let a = call o .args in
     let s = o .starts .s in
-    tried-holds (a .span) (a .marks .now) (a .values .now) (getD (o .starts .known) s 0) s (a .r)
+    tried-holds (a .span) (a .list .now) (getD (o .starts .known) s 0) s (a .value)
     (c .before .tries .ensures)
     (c .if1 .taken)
 
-shared-slice-read-mark : tie.Need-shared-slice-read-mark Inv-readings μ-readings Inv-starts μ-starts
-shared-slice-read-mark c = search needs
-
-mul-value : tie.Need-mul-value Inv-readings μ-readings Inv-starts μ-starts
-mul-value c = search needs
-
-shared-slice-read-value : tie.Need-shared-slice-read-value Inv-readings μ-readings Inv-starts μ-starts
-shared-slice-read-value c = search needs
-
 starts-holds : tie.Need-starts-holds Inv-readings μ-readings Inv-starts μ-starts
 starts-holds c =
-    let s = c .before .before .before .before .before in
+    let s = c .before .before in
     let a = s .args in
-    untried (a .span) (a .need) (a .marks .now) (a .values .now) (a .r) (a .known .now) (s .pre .0 .0 .1)
-    (s .pre .0 .0 .2)
-    (s .pre .1)
+    untried (a .span) (a .need) (a .list .now) (a .value) (a .known .now) (s .pre .0 .0) (s .pre .0 .1) (s .pre .1)
 
 mul-start : tie.Need-mul-start Inv-readings μ-readings Inv-starts μ-starts
 mul-start c = search needs
@@ -103,9 +90,6 @@ shared-slice-read-start c = search needs
 
 slice-read-so-far : tie.Need-slice-read-so-far Inv-readings μ-readings Inv-starts μ-starts
 slice-read-so-far c = search needs
-
-shared-slice-read-tries : tie.Need-shared-slice-read-tries Inv-readings μ-readings Inv-starts μ-starts
-shared-slice-read-tries c = search needs
 
 tries-requires : tie.Need-tries-requires Inv-readings μ-readings Inv-starts μ-starts
 tries-requires c κs = search needs
@@ -118,7 +102,7 @@ readings-holds c =
     let o = turn (c .before .before .before) in
     let a = call (o .before) .args in
     let s = o .before .starts in
-    count-begin (a .span) (a .need) (a .marks .now) (a .values .now) (a .r) (s .known) (s .found) (s .s)
+    count-begin (a .span) (a .need) (a .list .now) (a .value) (s .known) (s .found) (s .s)
     (o .starts-test .taken)
     (s .inv)
 
@@ -128,15 +112,12 @@ shared-slice-read-held c = search needs
 mul-held : tie.Need-mul-held Inv-readings μ-readings Inv-starts μ-starts
 mul-held c = search needs
 
-shared-slice-read-held-2 : tie.Need-shared-slice-read-held-2 Inv-readings μ-readings Inv-starts μ-starts
-shared-slice-read-held-2 c = search needs
-
 held-requires : tie.Need-held-requires Inv-readings μ-readings Inv-starts μ-starts
 held-requires c κs =
-    let reached = c .before .before .before .before in
+    let reached = c .before .before .before in
     let o = turn (reached .before .before .before) .before in
     let a = call o .args in
-    reach-fits (getD (a .values .now) (o .starts .s) 0) (a .span) (reached .reach .result)
+    reach-fits (getD (a .list .now) (o .starts .s) 0) (a .span) (reached .reach .result)
     (small o (o .starts .s))
     (reached .reach .ensures)
 
@@ -145,17 +126,15 @@ one :
     (c : tie.After-held Inv-readings μ-readings Inv-starts μ-starts)
     → let o = turn (outer (inner c)) .before in
     let a = call o .args in
-    c .held .result ≡ bit
-    (spansAt (a .span) (a .marks .now) (a .values .now) (o .starts .s) (inner c .before .readings .t))
+    let t = inner c .before .readings .t in
+    c .held .result ≡ bit (inSpan (a .span) (valueAt (a .list .now) (o .starts .s)) (valueAt (a .list .now) t))
 one c =
     let reached = inner c .before .before in
     let tried = reached .before .before in
     let o = turn (tried .before) .before in
     let a = call o .args in
-    held-spans (a .span) (a .marks .now) (a .values .now) (o .starts .s) (inner c .before .readings .t) (a .r)
-    (reached .reach .result)
+    held-spans (a .span) (a .list .now) (o .starts .s) (inner c .before .readings .t) (reached .reach .result)
     (c .held .result)
-    (opened tried)
     (small o (inner c .before .readings .t))
     (reached .reach .ensures)
     (c .held .ensures)
@@ -167,7 +146,7 @@ add-count c =
     let i = inner c .before .readings in
     omega (
       arith,
-      count-small (a .span) (a .need) (a .marks .now) (a .values .now) (a .r) (i .known) (i .found)
+      count-small (a .span) (a .need) (a .list .now) (a .value) (i .known) (i .found)
           (o .before .starts .s)
           (o .starts-test .taken)
           (i .inv .tried)
@@ -175,7 +154,7 @@ add-count c =
           (i .t)
           (i .inv),
       one c,
-      bit-le-one (spansAt (a .span) (a .marks .now) (a .values .now) (o .before .starts .s) (i .t)),
+      bit-le-one (inSpan (a .span) (valueAt (a .list .now) (o .before .starts .s)) (valueAt (a .list .now) (i .t))),
     )
 
 slice-write-known : tie.Need-slice-write-known Inv-readings μ-readings Inv-starts μ-starts
@@ -193,7 +172,7 @@ readings-again c =
     let o = turn (outer now) in
     let a = call (o .before) .args in
     let i = now .before .readings in
-    count-on (a .span) (a .need) (a .marks .now) (a .values .now) (a .r) (i .known) (i .found) (o .before .starts .s)
+    count-on (a .span) (a .need) (a .list .now) (a .value) (i .known) (i .found) (o .before .starts .s)
     (o .starts-test .taken)
     (i .inv .tried)
     (i .count)
@@ -214,7 +193,6 @@ starts-less : tie.Need-starts-less Inv-readings μ-readings Inv-starts μ-starts
 starts-less c = search needs
 
 starts-again : tie.Need-starts-again Inv-readings μ-readings Inv-starts μ-starts
-unfolding spansAt
 starts-again c =
     let o = turn (c .before) in
     let a = call (o .before) .args in
@@ -224,7 +202,7 @@ starts-again c =
     (λ u.
     let i = u .3 in
     rw (u .5, u .6)
-    (pass-counted (a .span) (a .need) (a .marks .now) (a .values .now) (a .r) (i .known) (i .found) (s .s) below
+    (pass-counted (a .span) (a .need) (a .list .now) (a .value) (i .known) (i .found) (s .s) below
     (i .inv .tried)
     (i .count)
     (i .t)
@@ -232,7 +210,7 @@ starts-again c =
     (u .4 .left)))
     (λ u.
     rw (u .1, u .2)
-    (pass-untried (a .span) (a .need) (a .marks .now) (a .values .now) (a .r) (s .known) (s .found) (s .s) below
+    (pass-untried (a .span) (a .need) (a .list .now) (a .value) (s .known) (s .found) (s .s) below
     (s .inv)
     (c .before .tries .ensures)
     (u .0 .left)))
@@ -248,7 +226,7 @@ returns c =
     let ended = c .starts-test .left in (
       s .inv .yet
           ∙ sym
-          (not-admitted (a .span) (a .need) (a .marks .now) (a .values .now) (a .r)
+          (not-admitted (a .span) (a .need) (a .list .now) (a .value)
           (λ b l. s .inv .none b (omega (arith, ended)))),
       s .inv .memory,
     )
@@ -263,11 +241,11 @@ returns-2 c =
     let s = o .before .starts in
     let below = o .starts-test .taken in
     let enough =
-    known-enough (a .span) (a .need) (a .marks .now) (a .values .now) (a .r) (s .known) (s .found) (s .s) below
+    known-enough (a .span) (a .need) (a .list .now) (a .value) (s .known) (s .found) (s .s) below
     (s .inv)
     (c .if2 .taken) in (
       sym
-          (admitted (a .span) (a .need) (a .marks .now) (a .values .now) (a .r) (s .s) below
+          (admitted (a .span) (a .need) (a .list .now) (a .value) (s .s) below
           (and-intro (opened (c .before)) enough)),
       s .inv .memory,
     )
@@ -285,7 +263,7 @@ returns-3 c =
     let below = o .starts-test .taken in
     let i = now .before .readings in
     let enough =
-    count-enough (a .span) (a .need) (a .marks .now) (a .values .now) (a .r) (i .known) (i .found) s below
+    count-enough (a .span) (a .need) (a .list .now) (a .value) (i .known) (i .found) s below
     (i .inv .tried)
     (i .count)
     (i .t)
@@ -295,9 +273,9 @@ returns-3 c =
     (one (c .before))
     (c .if3 .taken) in (
       sym
-          (admitted (a .span) (a .need) (a .marks .now) (a .values .now) (a .r) s below
+          (admitted (a .span) (a .need) (a .list .now) (a .value) s below
           (and-intro (opened tried) enough)),
-      remember (a .span) (a .need) (a .marks .now) (a .values .now) (i .known) s 2
+      remember (a .span) (a .need) (a .list .now) (i .known) s 2
           (omega (arith, i .inv .tried .long, i .inv .tried .few))
           (ap (λ (b : Bool). 1 + bit b) (sym enough))
           (i .inv .tried .memory),
@@ -311,20 +289,15 @@ accepts-spec =
     μ-readings
     Inv-starts
     μ-starts
-    shared-slice-read-mark
-    mul-value
-    shared-slice-read-value
     starts-holds
     mul-start
     shared-slice-read-start
     slice-read-so-far
-    shared-slice-read-tries
     tries-requires
     reach-requires
     readings-holds
-    shared-slice-read-held
     mul-held
-    shared-slice-read-held-2
+    shared-slice-read-held
     held-requires
     add-count
     slice-write-known

@@ -1,4 +1,4 @@
--- `acceptance::tries` meets its contract: a difference that wraps is within the span's width just where the reading
+-- `acceptance::tries` meets its contract: a difference that wraps is within the span's width just where the value
 -- lies in the span.
 -- Assumes nothing.
 use borrow.Author.Needs.{needs}
@@ -17,7 +17,7 @@ returns : tie.Need-returns
 returns c =
     let a = c .before .args in
     let d = c .wrapping-sub-u32 in
-    ap (λ (t : Bool). not (eqb (a .known) 1) && (eqb (a .from) 1 && (eqb (a .mark) 1 && t)))
+    ap (λ (t : Bool). not (eqb (a .known) 1) && t)
     (wrapped-from (a .start) (a .value) (d .result) (a .span) (omega arith) (omega arith) (d .ensures))
 
 pub tries-spec : {M : Type 1} → statement M

@@ -1,7 +1,7 @@
 -- `settling::settle_valid` meets its contract: it lends the first N places of its arrays.
 -- Assumes nothing.
 use borrow.Author.Needs.{needs}
-use mathlib.Core.Path.{_≡_, sym}
+use mathlib.Core.Path.{sym}
 use Prim.Native.Nat.{_≤_}
 use Rattle.model.specs.Ensemble.{maxCabinets}
 use Rattle.settling.proofs.Settling.{few-faults, first-places}

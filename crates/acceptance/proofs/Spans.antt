@@ -9,27 +9,27 @@ use Prim.Native.Nat.{ℕ, zero, suc, _+_, _-_, _%_, _≤_, _<_, min, zero-le, su
 use native.Mathlib.Nat.{le-refl, le-of-suc-le-suc, not-suc-le-zero}
 use native.Mathlib.Omega.{arith}
 use borrow.Author.Count.{below-more}
-use borrow.Author.Tests.{le-leb, lt-leb, leb-true, eqb-true, eqb-false}
-use lib.Dec.{leb, eqb}
+use borrow.Author.Tests.{le-leb, lt-leb, leb-true, eqb-true, eqb-false, lt-ltb, le-ltb}
+use lib.Dec.{leb, ltb, eqb}
 use lib.ListN.{length, getD, set, length-set}
 use lib.Seq.{getD-set-same, getD-set-other}
 use Rattle.arithmetic.specs.Counting.{bit, count}
 use Rattle.arithmetic.proofs.Bools.{iff-eq, and-left, and-right, and-intro, and-false, clash}
-use Rattle.arithmetic.proofs.Counting.{split-last, count-le, any-true, any-false}
+use Rattle.arithmetic.proofs.Counting.{split-last, count-le, count-ext, any-true, any-false}
 use Rattle.arithmetic.specs.Words.{twoTo31, twoTo32}
 use Rattle.model.specs.Ensemble.{maxCabinets}
-use Rattle.round_laws.specs.Naturals.{accepted-nat}
+use Rattle.round_laws.specs.Naturals.{spans, accepted-nat}
 use Rattle.round_laws.proofs.Shifted.{accepted-shifted}
 use Rattle.round_laws.proofs.Natural.{accepted-present}
-use Rattle.loop_laws.proofs.Loops.{count-next}
+use Rattle.loop_laws.proofs.Loops.{Counts, count-next}
 use Rattle.held.specs.Held.{valueAt, presentIn}
-use Rattle.acceptance.specs.Values.{acceptedIn, inSpan, enough, acceptsValue, Remembered}
+use Rattle.acceptance.specs.Values.{reachedAt, spansAt, acceptedIn, enoughAt, Remembered, Holds}
 
 -- ---- differences that wrap at 2^32
 
 -- one lies within a reach that does not pass the highest number just where b is no less than a and no more than a + w
 pub wrapped :
-    (a b d w : ℕ) → a + w < twoTo32 → d < twoTo32 → (d + a) % twoTo32 ≡ b → leb d w ≡ inSpan w a b
+    (a b d w : ℕ) → a + w < twoTo32 → d < twoTo32 → (d + a) % twoTo32 ≡ b → leb d w ≡ (leb a b && leb b (a + w))
 wrapped a b d w reach hd e =
     iff-eq (leb d w) (leb a b && leb b (a + w))
     (λ t. let l : d ≤ w = leb-true d w t in and-intro (le-leb a b (omega arith)) (le-leb b (a + w) (omega arith)))
@@ -38,25 +38,36 @@ wrapped a b d w reach hd e =
     let m : b ≤ a + w = leb-true b (a + w) (and-right (leb a b) (leb b (a + w)) t) in
     le-leb d w (omega arith))
 
--- the same of any width, where the start is known to lie at or below b
-wrapped-above : (a b d w : ℕ) → a ≤ b → b < twoTo32 → d < twoTo32 → (d + a) % twoTo32 ≡ b → leb d w ≡ leb b (a + w)
-wrapped-above a b d w h hb hd e =
-    iff-eq (leb d w) (leb b (a + w))
-    (λ t. let l : d ≤ w = leb-true d w t in le-leb b (a + w) (omega arith))
-    (λ t. let m : b ≤ a + w = leb-true b (a + w) t in le-leb d w (omega arith))
-
--- the same of any width, with a test of the start
-pub wrapped-from :
+-- the same of a width that does not pass b
+pub wrapped-below :
     (a b d w : ℕ)
+    → a < twoTo32
+    → w ≤ b
     → b < twoTo32
     → d < twoTo32
     → (d + a) % twoTo32 ≡ b
-    → (leb a b && leb d w) ≡ (leb a b && leb b (a + w))
-wrapped-from a b d w hb hd e = go (leb a b) refl
-  where
-    go : (t : Bool) → leb a b ≡ t → (t && leb d w) ≡ (t && leb b (a + w))
-    go true h = wrapped-above a b d w (leb-true a b h) hb hd e
-    go false h = refl
+    → leb d w ≡ (leb a b && leb b (a + w))
+wrapped-below a b d w ha hw hb hd e =
+    iff-eq (leb d w) (leb a b && leb b (a + w))
+    (λ t. let l : d ≤ w = leb-true d w t in and-intro (le-leb a b (omega arith)) (le-leb b (a + w) (omega arith)))
+    (λ t.
+    let l : a ≤ b = leb-true a b (and-left (leb a b) (leb b (a + w)) t) in
+    let m : b ≤ a + w = leb-true b (a + w) (and-right (leb a b) (leb b (a + w)) t) in
+    le-leb d w (omega arith))
+
+-- no number is as far above another as it is above 0
+pub low-within :
+    (w a b low : ℕ) → low ≡ min w b → (leb a b && leb b (a + low)) ≡ (leb a b && leb b (a + w))
+low-within w a b low e =
+    iff-eq (leb a b && leb b (a + low)) (leb a b && leb b (a + w))
+    (λ t.
+    let l = leb-true a b (and-left (leb a b) _ t) in
+    let m = leb-true b (a + low) (and-right (leb a b) _ t) in
+    and-intro (le-leb a b l) (le-leb b (a + w) (omega arith)))
+    (λ t.
+    let l = leb-true a b (and-left (leb a b) _ t) in
+    let m = leb-true b (a + w) (and-right (leb a b) _ t) in
+    and-intro (le-leb a b l) (le-leb b (a + low) (omega arith)))
 
 pub reach-fits : (a w far : ℕ) → a < twoTo32 → far ≡ min w (twoTo32 - 1 - a) → a + far < twoTo32
 reach-fits a w far h e = omega arith
@@ -89,11 +100,110 @@ count-grows p m (suc n) h =
     (λ e. rw e (le-refl (count p n + bit (p n))))
     (split-last m (suc n) (suc-le-suc h))
 
--- ---- acceptance on naturals
+-- ---- within reach
+
+module _ (start reach : ℕ) (marks values : List ℕ) (t : ℕ) where
+  pub reached-present :
+      eqb (getD marks t 0) 1 ≡ true
+      → reachedAt start reach marks values t ≡ (leb start (valueAt values t) && leb (valueAt values t) (start + reach))
+  unfolding reachedAt
+  reached-present e = rw e
+
+  pub reached-missing : eqb (getD marks t 0) 1 ≡ false → reachedAt start reach marks values t ≡ false
+  unfolding reachedAt
+  reached-missing e = rw e
+
+-- a count with one more
+pub count-bit :
+    (p : ℕ → Bool) (n c t b : ℕ) → Counts p n c t → t < n → b ≡ bit (p t) → Counts p n (c + b) (t + 1)
+count-bit p n c t b so-far h e =
+    record {
+      upTo = omega arith;
+      exact = ap₂ (λ (a b : ℕ). a + b) (so-far .exact) e ∙ sym (count-next p t);
+    }
+
+-- ---- acceptance, start by start
+
+module _ (w : ℕ) (marks values : List ℕ) where
+  -- a start that is present and not too far below a present reading has it in its span
+  pub spans-low :
+      (s r low : ℕ)
+      → presentIn marks r ≡ true
+      → low ≡ min w (valueAt values r)
+      → (presentIn marks s
+      && (leb (valueAt values s) (valueAt values r) && leb (valueAt values r) (valueAt values s + low)))
+      ≡ spansAt w marks values s r
+  unfolding spansAt
+  spans-low s r low p e =
+      let a = valueAt values s in
+      let b = valueAt values r in
+      ap (λ (t : Bool). presentIn marks s && t) (low-within w a b low e)
+      ∙ ap (λ (q : Bool). presentIn marks s && (q && (leb a b && leb b (a + w)))) (sym p)
+
+  -- what is asked of a start before it is tried
+  pub tried-as :
+      (known s r low : ℕ) {b : Bool}
+      → presentIn marks r ≡ true
+      → low ≡ min w (valueAt values r)
+      → b
+      ≡ (not (eqb known 1)
+      && (presentIn marks s
+      && (leb (valueAt values s) (valueAt values r) && leb (valueAt values r) (valueAt values s + low))))
+      → b ≡ (not (eqb known 1) && spansAt w marks values s r)
+  tried-as known s r low p e q = q ∙ ap (λ (t : Bool). not (eqb known 1) && t) (spans-low s r low p e)
+
+  -- a span that is tried holds the reading
+  pub tried-holds :
+      (known s r : ℕ) {b : Bool}
+      → b ≡ (not (eqb known 1) && spansAt w marks values s r)
+      → b ≡ true
+      → spansAt w marks values s r ≡ true
+  tried-holds known s r e t = and-right (not (eqb known 1)) (spansAt w marks values s r) (sym e ∙ t)
+
+  -- a start whose span holds a reading is present
+  start-present : (s r : ℕ) → spansAt w marks values s r ≡ true → presentIn marks s ≡ true
+  unfolding spansAt
+  start-present s r e = and-left (presentIn marks s) _ e
+
+  module _ (s r far : ℕ) (opened : spansAt w marks values s r ≡ true)
+      (reach : far ≡ min w (twoTo32 - 1 - valueAt values s)) where
+    -- within reach of a start is in its span
+    reached-spans :
+        (t : ℕ)
+        → valueAt values t < twoTo32
+        → reachedAt (valueAt values s) far marks values t ≡ spansAt w marks values s t
+    unfolding spansAt reachedAt
+    reached-spans t small =
+        let a = valueAt values s in
+        let b = valueAt values t in
+        ap (λ (c : Bool). presentIn marks t && c) (cut-within w a b far small reach)
+        ∙ ap (λ (p : Bool). p && (presentIn marks t && (leb a b && leb b (a + w)))) (sym (start-present s r opened))
+
+    -- of one reading, and of all
+    pub reached-one :
+        (t h : ℕ)
+        → valueAt values t < twoTo32
+        → h ≡ bit (reachedAt (valueAt values s) far marks values t)
+        → h ≡ bit (spansAt w marks values s t)
+    reached-one t h small e = e ∙ ap bit (reached-spans t small)
+
+    pub reached-all :
+        (h : ℕ)
+        → ((t : ℕ) → valueAt values t < twoTo32)
+        → h ≡ count (reachedAt (valueAt values s) far marks values) (length marks)
+        → h ≡ count (spansAt w marks values s) (length marks)
+    reached-all h small e =
+        e
+        ∙ count-ext (reachedAt (valueAt values s) far marks values) (spansAt w marks values s) (length marks)
+        (λ t _. reached-spans t (small t))
 
 module _ (w need : ℕ) (marks values : List ℕ) where
+  -- the start a accepts r
+  abbrev pub admits : ℕ → ℕ → Bool
+  admits r a = spansAt w marks values a r && enoughAt w need marks values a
+
   -- document 01's test is that of the naturals
-  pub accepted-held :
+  accepted-held :
       (r : ℕ)
       → acceptedIn w need marks values r ≡ accepted-nat w (presentIn marks) (valueAt values) need (length marks) r
   unfolding acceptedIn
@@ -104,118 +214,116 @@ module _ (w need : ℕ) (marks values : List ℕ) where
   held-present r e =
       accepted-present w (presentIn marks) (valueAt values) need (length marks) r (sym (accepted-held r) ∙ e)
 
--- ---- start by start
+  -- what the search over starts asks of a start
+  abbrev asked : ℕ → ℕ → Bool
+  asked r s =
+      spans w (presentIn marks) (valueAt values) s r
+      && leb need (count (spans w (presentIn marks) (valueAt values) s) (length marks))
 
-module _ (w : ℕ) (list : List ℕ) where
-  -- a span that is tried holds the value
-  pub tried-holds :
-      (known s value : ℕ) {b : Bool}
-      → b ≡ (not (eqb known 1) && inSpan w (valueAt list s) value)
-      → b ≡ true
-      → inSpan w (valueAt list s) value ≡ true
-  tried-holds known s value e t = and-right (not (eqb known 1)) (inSpan w (valueAt list s) value) (sym e ∙ t)
-
-  -- what the code counts for t is t's place in the span
-  pub held-spans :
-      (s t far h : ℕ)
-      → valueAt list t < twoTo32
-      → far ≡ min w (twoTo32 - 1 - valueAt list s)
-      → h ≡ bit (inSpan far (valueAt list s) (valueAt list t))
-      → h ≡ bit (inSpan w (valueAt list s) (valueAt list t))
-  held-spans s t far h small e q = q ∙ ap bit (cut-within w (valueAt list s) (valueAt list t) far small e)
-
-module _ (w need : ℕ) (list : List ℕ) where
-  -- t lies in the span that starts at s
-  abbrev from : ℕ → ℕ → Bool
-  from s t = inSpan w (valueAt list s) (valueAt list t)
-
-  -- whether the span that starts at s holds enough
-  abbrev enoughAt : ℕ → Bool
-  enoughAt s = enough w need list (valueAt list s)
-
-  -- the start a accepts the value
-  abbrev pub admits : ℕ → ℕ → Bool
-  admits value a = inSpan w (valueAt list a) value && enoughAt a
-
-  pub admitted : (value a : ℕ) → a < length list → admits value a ≡ true → acceptsValue w need list value ≡ true
-  unfolding acceptsValue
-  admitted value a h e = any-true (admits value) (length list) a h e
+  pub admitted : (r a : ℕ) → a < length marks → admits r a ≡ true → acceptedIn w need marks values r ≡ true
+  unfolding accepted-nat spansAt enoughAt
+  admitted r a h e = accepted-held r ∙ any-true (asked r) (length marks) a h e
 
   pub not-admitted :
-      (value : ℕ) → ((a : ℕ) → a < length list → admits value a ≡ false) → acceptsValue w need list value ≡ false
-  unfolding acceptsValue
-  not-admitted value f = any-false (admits value) (length list) f
+      (r : ℕ) → ((a : ℕ) → a < length marks → admits r a ≡ false) → acceptedIn w need marks values r ≡ false
+  unfolding accepted-nat spansAt enoughAt
+  not-admitted r f = accepted-held r ∙ any-false (asked r) (length marks) f
+
+  -- the start s accepts r
+  pub answered :
+      (r s : ℕ)
+      → s < length marks
+      → spansAt w marks values s r ≡ true
+      → enoughAt w need marks values s ≡ true
+      → (ltb s (length marks) ≡ acceptedIn w need marks values r) × Holds w need marks values s
+  answered r s h o e = (
+    lt-ltb s (length marks) h ∙ sym (admitted r s h (and-intro o e)),
+    λ _. (start-present w marks values s r o, e),
+  )
+
+  -- no start does
+  pub unanswered :
+      (r s : ℕ)
+      → length marks ≤ s
+      → acceptedIn w need marks values r ≡ false
+      → (ltb s (length marks) ≡ acceptedIn w need marks values r) × Holds w need marks values s
+  unanswered r s h e = (le-ltb s (length marks) h ∙ sym e, λ l. absurd (omega (arith, l, h)))
+
+  -- a reading that is not present is not accepted
+  pub missing-not : (r : ℕ) → presentIn marks r ≡ false → acceptedIn w need marks values r ≡ false
+  missing-not r m = go (acceptedIn w need marks values r) refl
+    where
+      go : (b : Bool) → acceptedIn w need marks values r ≡ b → b ≡ false
+      go true e = absurd (clash (held-present r e) m)
+      go false e = refl
 
   -- the start a is stored as what it is
   pub remember :
       (known : List ℕ) (a v : ℕ)
       → a < length known
-      → v ≡ 1 + bit (enoughAt a)
-      → Remembered w need list known
-      → Remembered w need list (set known a v)
+      → v ≡ 1 + bit (enoughAt w need marks values a)
+      → Remembered w need marks values known
+      → Remembered w need marks values (set known a v)
   remember known a v h e f b l = go (eqb b a) refl
     where
       go :
           (t : Bool)
           → eqb b a ≡ t
-          → (getD (set known a v) b 0 ≡ 0) ⊎ (getD (set known a v) b 0 ≡ 1 + bit (enoughAt b))
+          → (getD (set known a v) b 0 ≡ 0) ⊎ (getD (set known a v) b 0 ≡ 1 + bit (enoughAt w need marks values b))
       go true q = let s = eqb-true b a q in rw s (inr (getD-set-same known a v 0 h ∙ e))
       go false q = rw (getD-set-other known a b v 0 (eqb-false b a q)) (f b l)
 
   -- where the starts below s are tried, and the memory is sound
-  pub record Tried (value : ℕ) (known : List ℕ) (found : Bool) (s : ℕ) : Type 0 where
-    pub upTo : s ≤ length list
-    pub few : length list ≤ maxCabinets
+  pub record Tried (r : ℕ) (known : List ℕ) (s : ℕ) : Type 0 where
+    pub upTo : s ≤ length marks
+    pub few : length marks ≤ maxCabinets
     pub long : length known ≡ 64
-    pub yet : found ≡ false
-    pub none : (a : ℕ) → a < s → admits value a ≡ false
-    pub memory : Remembered w need list known
+    pub none : (a : ℕ) → a < s → admits r a ≡ false
+    pub memory : Remembered w need marks values known
 
   -- where the span from s is counted up to t, and is short so far
-  pub record Counted (value : ℕ) (known : List ℕ) (found : Bool) (s counted t : ℕ) : Type 0 where
-    pub tried : Tried value known found s
-    pub upTo : t ≤ length list
-    pub exact : counted ≡ count (from s) t
+  pub record Counted (r : ℕ) (known : List ℕ) (s counted t : ℕ) : Type 0 where
+    pub tried : Tried r known s
+    pub upTo : t ≤ length marks
+    pub exact : counted ≡ count (spansAt w marks values s) t
     pub short : 0 < t → counted < need
 
   -- the loop over starts begins
   pub untried :
-      (value : ℕ) (known : List ℕ)
-      → length list ≤ maxCabinets
+      (r : ℕ) (known : List ℕ)
+      → length marks ≤ maxCabinets
       → length known ≡ 64
-      → Remembered w need list known
-      → Tried value known false 0
-  untried value known f l m =
-      record { upTo = zero-le; few = f; long = l; yet = refl; none = λ a h. absurd (not-suc-le-zero h); memory = m }
+      → Remembered w need marks values known
+      → Tried r known 0
+  untried r known f l m =
+      record { upTo = zero-le; few = f; long = l; none = λ a h. absurd (not-suc-le-zero h); memory = m }
 
-  module _ (value : ℕ) (known : List ℕ) (found : Bool) (s : ℕ) (below : s < length list)
-      (tried : Tried value known found s) where
-    -- a start that does not accept the value is passed
+  module _ (r : ℕ) (known : List ℕ) (s : ℕ) (below : s < length marks) (tried : Tried r known s) where
+    -- a start that does not accept r is passed
     pass :
         (known′ : List ℕ)
         → length known′ ≡ 64
-        → Remembered w need list known′
-        → admits value s ≡ false
-        → Tried value known′ found (s + 1)
+        → Remembered w need marks values known′
+        → admits r s ≡ false
+        → Tried r known′ (s + 1)
     pass known′ l m e =
         record {
           upTo = omega arith;
           few = tried .few;
           long = l;
-          yet = tried .yet;
-          none = below-more (λ (a : ℕ). admits value a ≡ false) s (tried .none) e;
+          none = below-more (λ (a : ℕ). admits r a ≡ false) s (tried .none) e;
           memory = m;
         }
 
-    -- a start that is remembered as short, or whose span does not hold the value
+    -- a start that is remembered as short, or whose span does not hold r's reading
     pub pass-untried :
         {b : Bool}
-        → b ≡ (not (eqb (getD known s 0) 1) && inSpan w (valueAt list s) value)
+        → b ≡ (not (eqb (getD known s 0) 1) && spansAt w marks values s r)
         → b ≡ false
-        → Tried value known found (s + 1)
+        → Tried r known (s + 1)
     pass-untried e f =
         pass known (tried .long) (tried .memory)
-        (go (inSpan w (valueAt list s) value) (enoughAt s) (tried .memory s below) (sym e ∙ f))
+        (go (spansAt w marks values s r) (enoughAt w need marks values s) (tried .memory s below) (sym e ∙ f))
       where
         go :
             (a b : Bool)
@@ -230,9 +338,9 @@ module _ (w need : ℕ) (list : List ℕ) where
             differ k z f = clash (ap (λ (v : ℕ). not (eqb v 1) && true) z ∙ ap (λ (t : Bool). not t && true) f) q
 
     -- a start that is remembered as holding enough
-    pub known-enough : getD known s 0 ≡ 2 → enoughAt s ≡ true
+    pub known-enough : getD known s 0 ≡ 2 → enoughAt w need marks values s ≡ true
     known-enough e =
-        ⊎-elim (λ z. absurd (impossible z)) (λ z. go (enoughAt s) z) (tried .memory s below)
+        ⊎-elim (λ z. absurd (impossible z)) (λ z. go (enoughAt w need marks values s) z) (tried .memory s below)
       where
         impossible : getD known s 0 ≡ 0 → ⊥
         impossible z = omega arith
@@ -241,45 +349,47 @@ module _ (w need : ℕ) (list : List ℕ) where
         go true z = refl
         go false z = absurd (omega arith)
 
-    pub count-begin : Counted value known found s 0 0
+    pub count-begin : Counted r known s 0 0
     unfolding count
     count-begin = record { tried = tried; upTo = zero-le; exact = refl; short = λ h. absurd (not-suc-le-zero h) }
 
-    module _ (c t : ℕ) (so-far : Counted value known found s c t) where
+    module _ (c t : ℕ) (so-far : Counted r known s c t) where
       pub count-small : c ≤ maxCabinets
       count-small =
-          let l = count-le (from s) t in
+          let l = count-le (spansAt w marks values s) t in
           let e = so-far .exact in
           let u = so-far .upTo in
           let f = tried .few in
           omega arith
 
       -- the count reached n: the start is short, and is stored so
-      count-short : length list ≤ t → enoughAt s ≡ false
-      unfolding enough
+      count-short : length marks ≤ t → enoughAt w need marks values s ≡ false
+      unfolding enoughAt
       count-short h =
-          let e : t ≡ length list = omega (arith, so-far .upTo) in
+          let e : t ≡ length marks = omega (arith, so-far .upTo) in
           let l = so-far .short (omega arith) in
-          lt-leb need (count (from s) (length list)) (rw (← e, ← so-far .exact) l)
+          lt-leb need (count (spansAt w marks values s) (length marks)) (rw (← e, ← so-far .exact) l)
 
-      pub pass-counted : length list ≤ t → Tried value (set known s 1) found (s + 1)
+      pub pass-counted : length marks ≤ t → Tried r (set known s 1) (s + 1)
       pass-counted h =
           let e = count-short h in
           let room : s < length known = omega (arith, tried .few, tried .long) in
           pass (set known s 1) (length-set known s 1 ∙ tried .long)
           (remember known s 1 room (ap (λ (b : Bool). 1 + bit b) (sym e)) (tried .memory))
-          (and-false (inSpan w (valueAt list s) value) e)
+          (and-false (spansAt w marks values s r) e)
 
-      module _ (room : t < length list) (h : ℕ) (one : h ≡ bit (from s t)) where
-        next-exact : c + h ≡ count (from s) (t + 1)
-        next-exact = ap₂ (λ (a b : ℕ). a + b) (so-far .exact) one ∙ sym (count-next (from s) t)
+      -- one reading more
+      pub next-exact : (h : ℕ) → h ≡ bit (spansAt w marks values s t) → c + h ≡ count (spansAt w marks values s) (t + 1)
+      next-exact h one =
+          ap₂ (λ (a b : ℕ). a + b) (so-far .exact) one ∙ sym (count-next (spansAt w marks values s) t)
 
-        pub count-on : c + h < need → Counted value known found s (c + h) (t + 1)
-        count-on l = record { tried = tried; upTo = omega arith; exact = next-exact; short = λ _. l }
+    module _ (c t : ℕ) (room : t ≤ length marks) (exact : c ≡ count (spansAt w marks values s) t) where
+      pub count-on : c < need → Counted r known s c t
+      count-on l = record { tried = tried; upTo = room; exact = exact; short = λ _. l }
 
-        pub count-enough : need ≤ c + h → enoughAt s ≡ true
-        unfolding enough
-        count-enough l =
-            let g = count-grows (from s) (t + 1) (length list) (omega arith) in
-            let e = next-exact in
-            le-leb need (count (from s) (length list)) (omega arith)
+      pub count-enough : need ≤ c → enoughAt w need marks values s ≡ true
+      unfolding enoughAt
+      count-enough l =
+          let g = count-grows (spansAt w marks values s) t (length marks) room in
+          let e = exact in
+          le-leb need (count (spansAt w marks values s) (length marks)) (omega arith)

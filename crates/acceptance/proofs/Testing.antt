@@ -1,10 +1,11 @@
 -- The readings tested one after the other; and what `accept` answers.
 -- Assumes nothing.
-use mathlib.Core.Bool.{Bool, true, false, not, _||_}
+use mathlib.Core.Bool.{Bool, true, false, cond, not, _||_}
 use mathlib.Core.List.{List}
 use mathlib.Core.Logic.{inl}
 use mathlib.Core.Path.{_≡_, refl, sym, ap, ap₂, _∙_}
 use Prim.Native.Nat.{ℕ, _+_, _≤_, _<_, zero-le}
+use native.Mathlib.Nat.{lt-irrefl}
 use native.Mathlib.Omega.{arith}
 use borrow.Author.Tests.{ltb-false, eqb-true, not-false}
 use lib.Dec.{ltb, eqb}
@@ -17,43 +18,43 @@ use Rattle.arithmetic.proofs.Counting.{count-le}
 use Rattle.arithmetic.proofs.Writing.{length-table, length-overwrite}
 use Rattle.model.specs.Ensemble.{maxCabinets}
 use Rattle.acceptance.specs.Values.{acceptedIn, acceptedCount, listsMisfit, countGiven, flagsOf}
-use Rattle.acceptance.specs.Values.{Remembered}
+use Rattle.acceptance.specs.Values.{Alike, Remembered, Holds}
 use Rattle.loop_laws.proofs.Loops.{flag, count-next, store-none, store-next, store-ended}
 
-module _ (w need : ℕ) (marks values list : List ℕ) (flags₀ : List Bool) where
+module _ (w need : ℕ) (marks values : List ℕ) (flags₀ : List Bool) where
   abbrev passing : ℕ → Bool
   passing = acceptedIn w need marks values
 
   -- where the readings below r are tested
-  pub record Testing (known : List ℕ) (flags : List Bool) (counted r : ℕ) : Type 0 where
+  pub record Testing (known : List ℕ) (flags : List Bool) (counted earlier r : ℕ) : Type 0 where
     pub upTo : r ≤ length marks
-    pub few : length marks ≤ maxCabinets
-    pub long : length known ≡ 64
+    pub alike : Alike marks values known
     pub room : length marks ≤ length flags₀
-    pub memory : Remembered w need list known
+    pub memory : Remembered w need marks values known
+    pub start : Holds w need marks values earlier
     pub exact : counted ≡ count passing r
     pub written : flags ≡ overwrite (table passing r) flags₀
 
   pub test-none :
       (known : List ℕ)
-      → length marks ≤ maxCabinets
-      → length known ≡ 64
+      → Alike marks values known
       → length marks ≤ length flags₀
-      → Remembered w need list known
-      → Testing known flags₀ 0 0
+      → Remembered w need marks values known
+      → Testing known flags₀ 0 (length marks) 0
   unfolding count
-  test-none known f l s m =
+  test-none known a s m =
       record {
         upTo = zero-le;
-        few = f;
-        long = l;
+        alike = a;
         room = s;
         memory = m;
+        start = λ l. absurd (lt-irrefl (length marks) l);
         exact = refl;
         written = store-none passing flags₀;
       }
 
-  module _ (known : List ℕ) (flags : List Bool) (c r : ℕ) (so-far : Testing known flags c r) where
+  module _ (known : List ℕ) (flags : List Bool) (c earlier r : ℕ)
+      (so-far : Testing known flags c earlier r) where
     pub flags-long : length flags ≡ length flags₀
     flags-long =
         let t = length-table passing r in
@@ -66,27 +67,38 @@ module _ (w need : ℕ) (marks values list : List ℕ) (flags₀ : List Bool) wh
         let l = count-le passing r in
         let e = so-far .exact in
         let u = so-far .upTo in
-        let f = so-far .few in
+        let f = so-far .alike .1 in
         omega arith
 
     pub test-one :
         r < length marks
         → (known′ : List ℕ)
         → length known′ ≡ length known
-        → Remembered w need list known′
-        → (b : Bool)
-        → b ≡ acceptedIn w need marks values r
-        → Testing known′ (set flags r b) (c + boolByte b) (r + 1)
-    test-one h known′ l m b e =
+        → Remembered w need marks values known′
+        → (s : ℕ)
+        → ltb s (length marks) ≡ acceptedIn w need marks values r
+        → Holds w need marks values s
+        → (next : ℕ)
+        → next ≡ cond (ltb s (length marks)) s earlier
+        → Testing known′ (set flags r (ltb s (length marks))) (c + boolByte (ltb s (length marks))) next (r + 1)
+    test-one h known′ l m s e holds next n =
         record {
           upTo = omega arith;
-          few = so-far .few;
-          long = l ∙ so-far .long;
+          alike = (so-far .alike .0, so-far .alike .1, l ∙ so-far .alike .2);
           room = so-far .room;
           memory = m;
-          exact = ap₂ (λ (x y : ℕ). x + y) (so-far .exact) (flag b ∙ ap bit e) ∙ sym (count-next passing r);
-          written = store-next passing r flags₀ flags b (so-far .written) e (omega (arith, so-far .room));
+          start = rw n (go (ltb s (length marks)));
+          exact =
+              ap₂ (λ (x y : ℕ). x + y) (so-far .exact) (flag (ltb s (length marks)) ∙ ap bit e)
+              ∙ sym (count-next passing r);
+          written =
+              store-next passing r flags₀ flags (ltb s (length marks)) (so-far .written) e
+              (omega (arith, so-far .room));
         }
+      where
+        go : (b : Bool) → Holds w need marks values (cond b s earlier)
+        go true = holds
+        go false = so-far .start
 
     pub all-counted : length marks ≤ r → c ≡ acceptedCount w need marks values
     unfolding acceptedCount
@@ -98,8 +110,8 @@ module _ (w need : ℕ) (marks values list : List ℕ) (flags₀ : List Bool) wh
 
 -- nothing is remembered of any start
 pub remember-none :
-    (w need : ℕ) (list : List ℕ) → length list ≤ maxCabinets → Remembered w need list (replicate 64 0)
-remember-none w need list few a l = inl (getD-replicate 64 a 0 0 (omega arith))
+    (w need : ℕ) (marks values : List ℕ) → length marks ≤ maxCabinets → Remembered w need marks values (replicate 64 0)
+remember-none w need marks values few a l = inl (getD-replicate 64 a 0 0 (omega arith))
 
 -- ---- the answers
 

@@ -5,22 +5,24 @@
 --   countGiven, flagsOf    what `accept` counts, and what it leaves in the lent list: at most 64 marks, as many values
 --                          and a list no shorter are asked
 -- What the functions below it give:
---   inSpan, enough         a number lies in the span that starts at another; whether that span holds enough
---   acceptsValue           some span that starts at a listed number holds enough
---   Gathered               a list of the present readings
+--   reachedAt              a reading is present, and within reach of a number
+--   spansAt, enoughAt      a reading lies in the span that starts at another; whether that span holds enough
+--   Holds                  a start's reading is present, and its span holds enough
+--   Alike                  as many values as marks, at most 64, and a memory of 64 starts
 --   Remembered             what the memory of counted spans says of each start
-use mathlib.Core.Bool.{Bool, cond, not, _&&_, _||_}
+use mathlib.Core.Bool.{Bool, true, cond, not, _&&_, _||_}
 use mathlib.Core.List.{List}
 use mathlib.Core.Logic.{_⊎_}
 use mathlib.Core.Path.{_≡_}
 use Prim.Native.Nat.{ℕ, _+_, _≤_, _<_}
 use lib.Dec.{leb, ltb, eqb}
 use lib.ListN.{length, getD}
-use Rattle.arithmetic.specs.Counting.{bit, count, anyBelow}
+use Rattle.arithmetic.specs.Counting.{bit, count}
 use Rattle.arithmetic.specs.Writing.{table, overwrite}
 use Rattle.model.specs.Steps.{accepted}
 use Rattle.model.specs.Ensemble.{maxCabinets}
-use Rattle.held.specs.Held.{readingsIn, valueAt}
+use Rattle.round_laws.specs.Naturals.{spans}
+use Rattle.held.specs.Held.{readingsIn, valueAt, presentIn}
 
 unfoldable pub acceptedIn : ℕ → ℕ → List ℕ → List ℕ → ℕ → Bool
 acceptedIn w need marks values r = accepted w need (length marks) (readingsIn marks values) r
@@ -41,29 +43,29 @@ flagsOf w need marks values old =
 
 -- ---- the functions below it
 
--- b lies in the span of width w that starts at a
-abbrev pub inSpan : ℕ → ℕ → ℕ → Bool
-inSpan w a b = leb a b && leb b (a + w)
+-- t's reading is present, and lies at most `reach` above a start
+unfoldable pub reachedAt : ℕ → ℕ → List ℕ → List ℕ → ℕ → Bool
+reachedAt start reach marks values t =
+    presentIn marks t && (leb start (valueAt values t) && leb (valueAt values t) (start + reach))
 
--- whether the span that starts at a holds enough of the listed numbers
-unfoldable pub enough : ℕ → ℕ → List ℕ → ℕ → Bool
-enough w need list a = leb need (count (λ t. inSpan w a (valueAt list t)) (length list))
+-- t's reading lies in the span of width w that starts at a's
+unfoldable pub spansAt : ℕ → List ℕ → List ℕ → ℕ → ℕ → Bool
+spansAt w marks values a t = spans w (presentIn marks) (valueAt values) a t
 
--- whether a span that starts at a listed number holds v and enough of them
-unfoldable pub acceptsValue : ℕ → ℕ → List ℕ → ℕ → Bool
-acceptsValue w need list v =
-    anyBelow (λ s. inSpan w (valueAt list s) v && enough w need list (valueAt list s)) (length list)
+-- whether the span that starts at a's reading holds enough
+unfoldable pub enoughAt : ℕ → ℕ → List ℕ → List ℕ → ℕ → Bool
+enoughAt w need marks values a = leb need (count (spansAt w marks values a) (length marks))
+
+-- of a start among the readings
+abbrev pub Holds : ℕ → ℕ → List ℕ → List ℕ → ℕ → Type 0
+Holds w need marks values a =
+    a < length marks → (presentIn marks a ≡ true) × (enoughAt w need marks values a ≡ true)
+
+abbrev pub Alike : List ℕ → List ℕ → List ℕ → Type 0
+Alike marks values known =
+    (length values ≡ length marks) × (length marks ≤ maxCabinets) × (length known ≡ 64)
 
 -- 0 for a start that was not counted, 1 for one that is short, 2 for one that holds enough
-abbrev pub Remembered : ℕ → ℕ → List ℕ → List ℕ → Type 0
-Remembered w need list known =
-    (a : ℕ)
-    → a < length list
-    → (getD known a 0 ≡ 0) ⊎ (getD known a 0 ≡ 1 + bit (enough w need list (valueAt list a)))
-
--- the first k of a list are the numbers x of the cabinets below n that are present: a test counts as many of them, and
--- finds one where it finds one
-pub record Gathered (pres : ℕ → Bool) (x : ℕ → ℕ) (list : List ℕ) (k n : ℕ) : Type 0 where
-  pub few : k ≤ n
-  pub counts : (p : ℕ → Bool) → count (λ i. p (valueAt list i)) k ≡ count (λ r. pres r && p (x r)) n
-  pub finds : (p : ℕ → Bool) → anyBelow (λ i. p (valueAt list i)) k ≡ anyBelow (λ r. pres r && p (x r)) n
+abbrev pub Remembered : ℕ → ℕ → List ℕ → List ℕ → List ℕ → Type 0
+Remembered w need marks values known =
+    (a : ℕ) → a < length marks → (getD known a 0 ≡ 0) ⊎ (getD known a 0 ≡ 1 + bit (enoughAt w need marks values a))

@@ -3,53 +3,50 @@
 -- and the readings left.
 -- Assumes nothing.
 use borrow.Author.Needs.{needs}
-use mathlib.Core.Bool.{Bool, true}
+use mathlib.Core.Bool.{Bool, true, not, _&&_}
 use mathlib.Core.Logic.{⊎-elim}
-use mathlib.Core.Path.{_≡_, sym, ap, _∙_}
+use mathlib.Core.Path.{_≡_, sym, ap}
+use native.Mathlib.Nat.{le-refl}
 use native.Mathlib.Omega.{arith}
-use Prim.Native.Nat.{ℕ, _-_, _+_, _<_}
+use Prim.Native.Nat.{ℕ, _-_, _+_, _≤_, _<_}
+use lib.Dec.{eqb}
 use lib.ListN.{length, getD, length-set}
-use Rattle.arithmetic.specs.Counting.{bit}
+use Rattle.arithmetic.specs.Counting.{bit, count}
 use Rattle.arithmetic.specs.Words.{twoTo32}
-use Rattle.arithmetic.proofs.Bools.{and-intro}
 use Rattle.arithmetic.proofs.Counting.{bit-le-one}
-use Rattle.held.specs.Held.{valueAt}
-use Rattle.acceptance.specs.Values.{inSpan}
-use Rattle.acceptance.proofs.Spans.{Tried, Counted, reach-fits, untried, count-small, tried-holds}
-use Rattle.acceptance.proofs.Spans.{held-spans, count-begin, count-on, count-enough, pass-counted, pass-untried}
-use Rattle.acceptance.proofs.Spans.{known-enough, admitted, not-admitted, remember}
+use Rattle.acceptance.specs.Values.{reachedAt, spansAt}
+use Rattle.acceptance.proofs.Spans.{Tried, Counted, reach-fits, untried, count-small, tried-as, tried-holds}
+use Rattle.acceptance.proofs.Spans.{reached-one, reached-all, count-begin, next-exact, count-on, count-enough}
+use Rattle.acceptance.proofs.Spans.{pass-counted, pass-untried, known-enough, answered, unanswered, remember}
+use Rattle.acceptance.proofs.Spans.{not-admitted}
 use Rattle.acceptance.proofs.accepts.Statement.{statement}
 use Rattle.acceptance.proofs.accepts.Tie as tie
 
 abbrev Inv-readings : tie.InvT-readings
-Inv-readings list span need known₀ value found₀ s start so-far far count₀ t₀ known found count t =
-    Counted span need list value known found s count t
+Inv-readings marks values span need known₀ r value below wide s start so-far far count₀ t₀ known count t =
+    Counted span need marks values r known s count t
 
 abbrev μ-readings : tie.MeasureT-readings
-μ-readings list span need known₀ value found₀ s start so-far far count₀ t₀ known found count t = length list - t
+μ-readings marks values span need known₀ r value below wide s start so-far far count₀ t₀ known count t =
+    length marks - t
 
 abbrev Inv-starts : tie.InvT-starts
-Inv-starts list span need known₀ value found₀ s₀ known found s = Tried span need list value known found s
+Inv-starts marks values span need known₀ r value below wide s₀ known s = Tried span need marks values r known s
 
 abbrev μ-starts : tie.MeasureT-starts
-μ-starts list span need known₀ value found₀ s₀ known found s = length list - s
+μ-starts marks values span need known₀ r value below wide s₀ known s = length marks - s
 
 -- ---- places: the call, a turn over starts, one over readings
 
 abbrev call :
     tie.At-starts Inv-readings μ-readings Inv-starts μ-starts
     → tie.Start Inv-readings μ-readings Inv-starts μ-starts
-call c = c .before .before .before
+call c = c .before .before .before .before .before .before
 
 abbrev turn :
     tie.After-tries Inv-readings μ-readings Inv-starts μ-starts
     → tie.In-starts Inv-readings μ-readings Inv-starts μ-starts
-turn c = c .before .before .before
-
-abbrev inner :
-    tie.After-held Inv-readings μ-readings Inv-starts μ-starts
-    → tie.In-readings Inv-readings μ-readings Inv-starts μ-starts
-inner c = c .before .before
+turn c = c .before .before .before .before
 
 abbrev outer :
     tie.In-readings Inv-readings μ-readings Inv-starts μ-starts
@@ -59,28 +56,134 @@ outer c = c .before .before .before .before .before
 -- a value has 32 bits
 small :
     (c : tie.At-starts Inv-readings μ-readings Inv-starts μ-starts) (j : ℕ)
-    → getD (call c .args .list .now) j 0 < twoTo32
-small c j = c .before .before .shared-slice-known .given j .fits
+    → getD (call c .args .values .now) j 0 < twoTo32
+small c j = c .before .before .before .before .shared-slice-known2 .given j .fits
 
--- a start that is tried holds the value
+-- what is asked of a start before it is tried
+asked :
+    (c : tie.After-tries Inv-readings μ-readings Inv-starts μ-starts)
+    → let o = turn c .before in
+    let a = call o .args in
+    let s = o .starts .s in
+    c .tries .result ≡ (not (eqb (getD (o .starts .known) s 0) 1)
+    && spansAt (a .span) (a .marks .now) (a .values .now) s (a .r))
+asked c =
+    let o = turn c .before in
+    let a = call o .args in
+    let s = o .starts .s in
+    tried-as (a .span) (a .marks .now) (a .values .now) (getD (o .starts .known) s 0) s (a .r)
+    (o .before .least .result)
+    (call o .pre .1 .0)
+    (o .before .least .ensures)
+    (c .tries .ensures)
+
+-- a start that is tried holds r's reading
 opened :
     (c : tie.Then1 Inv-readings μ-readings Inv-starts μ-starts)
     → let o = turn (c .before) .before in
     let a = call o .args in
-    inSpan (a .span) (valueAt (a .list .now) (o .starts .s)) (a .value) ≡ true
+    spansAt (a .span) (a .marks .now) (a .values .now) (o .starts .s) (a .r) ≡ true
 opened c =
     let o = turn (c .before) .before in
     let a = call o .args in
     let s = o .starts .s in
-    tried-holds (a .span) (a .list .now) (getD (o .starts .known) s 0) s (a .value)
-    (c .before .tries .ensures)
+    tried-holds (a .span) (a .marks .now) (a .values .now) (getD (o .starts .known) s 0) s (a .r) (asked (c .before))
     (c .if1 .taken)
+
+-- the reach of a start stays within 32 bits
+fits :
+    (c : tie.After-reach Inv-readings μ-readings Inv-starts μ-starts)
+    → let o = turn (c .before .before .before) .before in
+    getD (call o .args .values .now) (o .starts .s) 0 + c .reach .result < twoTo32
+fits c =
+    let o = turn (c .before .before .before) .before in
+    let a = call o .args in
+    reach-fits (getD (a .values .now) (o .starts .s) 0) (a .span) (c .reach .result) (small o (o .starts .s))
+    (c .reach .ensures)
+
+-- what is counted for a reading is its place in the span
+one :
+    (now : tie.In-readings Inv-readings μ-readings Inv-starts μ-starts) (h : ℕ)
+    → let reached = now .before .before in
+    let o = turn (outer now) .before in
+    let a = call o .args in
+    let s = o .starts .s in
+    let t = now .before .readings .t in
+    h ≡ bit (reachedAt (getD (a .values .now) s 0) (reached .reach .result) (a .marks .now) (a .values .now) t)
+    → h ≡ bit (spansAt (a .span) (a .marks .now) (a .values .now) s t)
+one now h e =
+    let reached = now .before .before in
+    let tried = reached .before .before in
+    let o = turn (tried .before) .before in
+    let a = call o .args in
+    let t = now .before .readings .t in
+    reached-one (a .span) (a .marks .now) (a .values .now) (o .starts .s) (a .r) (reached .reach .result)
+    (opened tried)
+    (reached .reach .ensures)
+    t
+    h
+    (small o t)
+    e
+
+-- a turn over readings passes one or all of them, and counts what it passes
+stepped :
+    (c : tie.Joined3 Inv-readings μ-readings Inv-starts μ-starts)
+    → let now = c .before in
+    let o = turn (outer now) .before in
+    let a = call o .args in
+    (now .before .readings .t < c .if3 .t)
+    × (c .if3 .t ≤ length (a .marks .now))
+    × (c .if3 .count ≡ count (spansAt (a .span) (a .marks .now) (a .values .now) (o .starts .s)) (c .if3 .t))
+stepped c =
+    let now = c .before in
+    let reached = now .before .before in
+    let tried = reached .before .before in
+    let o = turn (tried .before) in
+    let a = call (o .before) .args in
+    let s = o .before .starts .s in
+    let i = now .before .readings in
+    let room = now .readings-test .taken in
+    ⊎-elim
+    (λ u.
+    rw (u .2, u .3) (
+      room,
+      le-refl (length (a .marks .now)),
+      reached-all (a .span) (a .marks .now) (a .values .now) s (a .r) (reached .reach .result) (opened tried)
+          (reached .reach .ensures)
+          (u .1 .result)
+          (small (o .before))
+          (u .1 .ensures),
+    ))
+    (λ u.
+    rw (u .2, u .3) (
+      omega arith,
+      omega (arith, room),
+      next-exact (a .span) (a .need) (a .marks .now) (a .values .now) (a .r) (i .known) s (o .starts-test .taken)
+          (i .inv .tried)
+          (i .count)
+          (i .t)
+          (i .inv)
+          (u .1 .result)
+          (one now (u .1 .result) (u .1 .ensures)),
+    ))
+    (c .if3 .came)
+
+mul-value : tie.Need-mul-value Inv-readings μ-readings Inv-starts μ-starts
+mul-value c = search needs
+
+shared-slice-read-value : tie.Need-shared-slice-read-value Inv-readings μ-readings Inv-starts μ-starts
+shared-slice-read-value c = search needs
+
+least-requires : tie.Need-least-requires Inv-readings μ-readings Inv-starts μ-starts
+least-requires c κs = search needs
 
 starts-holds : tie.Need-starts-holds Inv-readings μ-readings Inv-starts μ-starts
 starts-holds c =
-    let s = c .before .before in
+    let s = c .before .before .before .before .before in
     let a = s .args in
-    untried (a .span) (a .need) (a .list .now) (a .value) (a .known .now) (s .pre .0 .0) (s .pre .0 .1) (s .pre .1)
+    untried (a .span) (a .need) (a .marks .now) (a .values .now) (a .r) (a .known .now) (s .pre .0 .0 .1)
+    (s .pre .0 .0 .2)
+    (s .pre .1 .1)
 
 mul-start : tie.Need-mul-start Inv-readings μ-readings Inv-starts μ-starts
 mul-start c = search needs
@@ -90,6 +193,9 @@ shared-slice-read-start c = search needs
 
 slice-read-so-far : tie.Need-slice-read-so-far Inv-readings μ-readings Inv-starts μ-starts
 slice-read-so-far c = search needs
+
+shared-slice-read-tries : tie.Need-shared-slice-read-tries Inv-readings μ-readings Inv-starts μ-starts
+shared-slice-read-tries c = search needs
 
 tries-requires : tie.Need-tries-requires Inv-readings μ-readings Inv-starts μ-starts
 tries-requires c κs = search needs
@@ -102,86 +208,65 @@ readings-holds c =
     let o = turn (c .before .before .before) in
     let a = call (o .before) .args in
     let s = o .before .starts in
-    count-begin (a .span) (a .need) (a .list .now) (a .value) (s .known) (s .found) (s .s)
-    (o .starts-test .taken)
+    count-begin (a .span) (a .need) (a .marks .now) (a .values .now) (a .r) (s .known) (s .s) (o .starts-test .taken)
     (s .inv)
 
-shared-slice-read-held : tie.Need-shared-slice-read-held Inv-readings μ-readings Inv-starts μ-starts
-shared-slice-read-held c = search needs
-
-mul-held : tie.Need-mul-held Inv-readings μ-readings Inv-starts μ-starts
-mul-held c = search needs
-
-held-requires : tie.Need-held-requires Inv-readings μ-readings Inv-starts μ-starts
-held-requires c κs =
+held-of-all-requires : tie.Need-held-of-all-requires Inv-readings μ-readings Inv-starts μ-starts
+held-of-all-requires c κs =
     let reached = c .before .before .before in
-    let o = turn (reached .before .before .before) .before in
-    let a = call o .args in
-    reach-fits (getD (a .list .now) (o .starts .s) 0) (a .span) (reached .reach .result)
-    (small o (o .starts .s))
-    (reached .reach .ensures)
+    let alike = call (turn (reached .before .before .before) .before) .pre .0 .0 in
+    ((alike .0, alike .1), fits reached)
 
--- what is counted for a reading is its place in the span
-one :
-    (c : tie.After-held Inv-readings μ-readings Inv-starts μ-starts)
-    → let o = turn (outer (inner c)) .before in
-    let a = call o .args in
-    let t = inner c .before .readings .t in
-    c .held .result ≡ bit (inSpan (a .span) (valueAt (a .list .now) (o .starts .s)) (valueAt (a .list .now) t))
-one c =
-    let reached = inner c .before .before in
-    let tried = reached .before .before in
-    let o = turn (tried .before) .before in
-    let a = call o .args in
-    held-spans (a .span) (a .list .now) (o .starts .s) (inner c .before .readings .t) (reached .reach .result)
-    (c .held .result)
-    (small o (inner c .before .readings .t))
-    (reached .reach .ensures)
-    (c .held .ensures)
+held-of-one-requires : tie.Need-held-of-one-requires Inv-readings μ-readings Inv-starts μ-starts
+held-of-one-requires c κs =
+    let reached = c .before .before .before in
+    let alike = call (turn (reached .before .before .before) .before) .pre .0 .0 in
+    ((alike .0, c .before .readings-test .taken), fits reached)
 
 add-count : tie.Need-add-count Inv-readings μ-readings Inv-starts μ-starts
 add-count c =
-    let o = turn (outer (inner c)) in
+    let now = c .before .before in
+    let o = turn (outer now) in
     let a = call (o .before) .args in
-    let i = inner c .before .readings in
+    let i = now .before .readings in
     omega (
       arith,
-      count-small (a .span) (a .need) (a .list .now) (a .value) (i .known) (i .found)
-          (o .before .starts .s)
+      count-small (a .span) (a .need) (a .marks .now) (a .values .now) (a .r) (i .known) (o .before .starts .s)
           (o .starts-test .taken)
           (i .inv .tried)
           (i .count)
           (i .t)
           (i .inv),
-      one c,
-      bit-le-one (inSpan (a .span) (valueAt (a .list .now) (o .before .starts .s)) (valueAt (a .list .now) (i .t))),
+      one now (c .held-of-one .result) (c .held-of-one .ensures),
+      bit-le-one (spansAt (a .span) (a .marks .now) (a .values .now) (o .before .starts .s) (i .t)),
     )
-
-slice-write-known : tie.Need-slice-write-known Inv-readings μ-readings Inv-starts μ-starts
-slice-write-known c = search needs
 
 add-t : tie.Need-add-t Inv-readings μ-readings Inv-starts μ-starts
 add-t c = search needs
 
+slice-write-known : tie.Need-slice-write-known Inv-readings μ-readings Inv-starts μ-starts
+slice-write-known c = search needs
+
 readings-less : tie.Need-readings-less Inv-readings μ-readings Inv-starts μ-starts
-readings-less c = search needs
+readings-less c =
+    let step = stepped (c .before) in
+    omega (arith, step .0, step .1)
 
 readings-again : tie.Need-readings-again Inv-readings μ-readings Inv-starts μ-starts
 readings-again c =
-    let now = inner (c .before) in
+    let now = c .before .before in
     let o = turn (outer now) in
     let a = call (o .before) .args in
     let i = now .before .readings in
-    count-on (a .span) (a .need) (a .list .now) (a .value) (i .known) (i .found) (o .before .starts .s)
+    let step = stepped (c .before) in
+    count-on (a .span) (a .need) (a .marks .now) (a .values .now) (a .r) (i .known) (o .before .starts .s)
     (o .starts-test .taken)
     (i .inv .tried)
-    (i .count)
-    (i .t)
-    (i .inv)
-    (now .readings-test .taken)
-    (c .before .held .result)
-    (one (c .before))
-    (c .if3 .left)
+    (c .before .if3 .count)
+    (c .before .if3 .t)
+    (step .1)
+    (step .2)
+    (c .if4 .left)
 
 slice-write-known-2 : tie.Need-slice-write-known-2 Inv-readings μ-readings Inv-starts μ-starts
 slice-write-known-2 c = search needs
@@ -201,18 +286,16 @@ starts-again c =
     ⊎-elim
     (λ u.
     let i = u .3 in
-    rw (u .5, u .6)
-    (pass-counted (a .span) (a .need) (a .list .now) (a .value) (i .known) (i .found) (s .s) below
-    (i .inv .tried)
+    rw (u .5)
+    (pass-counted (a .span) (a .need) (a .marks .now) (a .values .now) (a .r) (i .known) (s .s) below (i .inv .tried)
     (i .count)
     (i .t)
     (i .inv)
     (u .4 .left)))
     (λ u.
-    rw (u .1, u .2)
-    (pass-untried (a .span) (a .need) (a .list .now) (a .value) (s .known) (s .found) (s .s) below
-    (s .inv)
-    (c .before .tries .ensures)
+    rw (u .1)
+    (pass-untried (a .span) (a .need) (a .marks .now) (a .values .now) (a .r) (s .known) (s .s) below (s .inv)
+    (asked (c .before))
     (u .0 .left)))
     (c .if1 .came)
 
@@ -223,13 +306,12 @@ returns : tie.Need-returns Inv-readings μ-readings Inv-starts μ-starts
 returns c =
     let a = call (c .before) .args in
     let s = c .before .starts in
-    let ended = c .starts-test .left in (
-      s .inv .yet
-          ∙ sym
-          (not-admitted (a .span) (a .need) (a .list .now) (a .value)
-          (λ b l. s .inv .none b (omega (arith, ended)))),
-      s .inv .memory,
-    )
+    let ended = c .starts-test .left in
+    let answer =
+    unanswered (a .span) (a .need) (a .marks .now) (a .values .now) (a .r) (s .s) ended
+    (not-admitted (a .span) (a .need) (a .marks .now) (a .values .now) (a .r)
+    (λ b l. s .inv .none b (omega (arith, ended)))) in
+    (answer .0, (answer .1, s .inv .memory))
 
 same-length-2 : tie.Need-same-length-2 Inv-readings μ-readings Inv-starts μ-starts
 same-length-2 c = search needs
@@ -240,45 +322,42 @@ returns-2 c =
     let a = call (o .before) .args in
     let s = o .before .starts in
     let below = o .starts-test .taken in
-    let enough =
-    known-enough (a .span) (a .need) (a .list .now) (a .value) (s .known) (s .found) (s .s) below
-    (s .inv)
-    (c .if2 .taken) in (
-      sym
-          (admitted (a .span) (a .need) (a .list .now) (a .value) (s .s) below
-          (and-intro (opened (c .before)) enough)),
-      s .inv .memory,
-    )
+    let answer =
+    answered (a .span) (a .need) (a .marks .now) (a .values .now) (a .r) (s .s) below (opened (c .before))
+    (known-enough (a .span) (a .need) (a .marks .now) (a .values .now) (a .r) (s .known) (s .s) below (s .inv)
+    (c .if2 .taken)) in
+    (answer .0, (answer .1, s .inv .memory))
 
 same-length-3 : tie.Need-same-length-3 Inv-readings μ-readings Inv-starts μ-starts
-same-length-3 c = simp length-set (omega (arith, inner (c .before) .before .readings .inv .tried .long))
+same-length-3 c = simp length-set (omega (arith, c .before .before .before .readings .inv .tried .long))
 
 returns-3 : tie.Need-returns-3 Inv-readings μ-readings Inv-starts μ-starts
 returns-3 c =
-    let now = inner (c .before) in
+    let now = c .before .before in
     let tried = now .before .before .before .before in
     let o = turn (tried .before) in
     let a = call (o .before) .args in
     let s = o .before .starts .s in
     let below = o .starts-test .taken in
     let i = now .before .readings in
+    let step = stepped (c .before) in
     let enough =
-    count-enough (a .span) (a .need) (a .list .now) (a .value) (i .known) (i .found) s below
-    (i .inv .tried)
-    (i .count)
-    (i .t)
-    (i .inv)
-    (now .readings-test .taken)
-    (c .before .held .result)
-    (one (c .before))
-    (c .if3 .taken) in (
-      sym
-          (admitted (a .span) (a .need) (a .list .now) (a .value) s below
-          (and-intro (opened tried) enough)),
-      remember (a .span) (a .need) (a .list .now) (i .known) s 2
-          (omega (arith, i .inv .tried .long, i .inv .tried .few))
-          (ap (λ (b : Bool). 1 + bit b) (sym enough))
-          (i .inv .tried .memory),
+    count-enough (a .span) (a .need) (a .marks .now) (a .values .now) (a .r) (i .known) s below (i .inv .tried)
+    (c .before .if3 .count)
+    (c .before .if3 .t)
+    (step .1)
+    (step .2)
+    (c .if4 .taken) in
+    let answer =
+    answered (a .span) (a .need) (a .marks .now) (a .values .now) (a .r) s below (opened tried) enough in (
+      answer .0,
+      (
+        answer .1,
+        remember (a .span) (a .need) (a .marks .now) (a .values .now) (i .known) s 2
+            (omega (arith, i .inv .tried .long, i .inv .tried .few))
+            (ap (λ (b : Bool). 1 + bit b) (sym enough))
+            (i .inv .tried .memory),
+      ),
     )
 
 pub accepts-spec : {M : Type 1} → statement M
@@ -289,19 +368,22 @@ accepts-spec =
     μ-readings
     Inv-starts
     μ-starts
+    mul-value
+    shared-slice-read-value
+    least-requires
     starts-holds
     mul-start
     shared-slice-read-start
     slice-read-so-far
+    shared-slice-read-tries
     tries-requires
     reach-requires
     readings-holds
-    mul-held
-    shared-slice-read-held
-    held-requires
+    held-of-all-requires
+    held-of-one-requires
     add-count
-    slice-write-known
     add-t
+    slice-write-known
     readings-less
     readings-again
     slice-write-known-2

@@ -60,7 +60,8 @@ module _ (c : tie.After-more Inv-reads μ-reads) where
       rest-room buffer (call .read-some .last .0) size (c .more .given .0 .0)
       (call .before .before .before .reads .inv .0)
       (c .before .before .before .buffer .given .0)
-      (subst (λ (i : Input). Within i (length (call .read-some .last .0))) (c .more .given .1) (call .read-some .ensures))
+      (subst (λ (i : Input). Within i (length (call .read-some .last .0))) (c .more .given .1)
+      (call .read-some .ensures))
 
 add-size : tie.Need-add-size Inv-reads μ-reads
 add-size c = let h = more-fits (c .before .before) in omega arith

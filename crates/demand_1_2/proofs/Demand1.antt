@@ -30,6 +30,9 @@ use Rattle.model.specs.Refusals.{settleChecks, planChecks, stepChecks, targetCh
 use Rattle.model.specs.Calls.{Verdict, granted, refused, verdict, lent, marksOf, ticksOf, read, write, settle}
 use Rattle.model.specs.Calls.{plan, step, Target}
 use Rattle.refusal_laws.proofs.Checks.{none-at}
+use Rattle.refusal_laws.proofs.Numbers.{no-refusal, Plain, check-more, no-checks, plain-append, plain-one}
+use Rattle.refusal_laws.proofs.Numbers.{plain-first, plain-settings, plain-sheet, length-says, room-says, faults-says}
+use Rattle.refusal_laws.proofs.Numbers.{plan-says, target-says, each}
 use Rattle.sheet_laws.proofs.Answer.{length-answerBytes}
 use Rattle.sheet_laws.proofs.Checks.{length-passed, room-passed}
 use Rattle.sheet_laws.proofs.Outcomes.{refused-some, row-refused}
@@ -37,10 +40,9 @@ use Rattle.sheet_laws.proofs.Written.{written-length}
 use Rattle.planner_laws.proofs.Targets.{start-refuses-target, target-missed, target-reached}
 use Rattle.demand_1_2.specs.Demand1.{InOrder, Gives, Leaves, Placed}
 use Rattle.demand_1_2.specs.Demand1.{OfSettle, OfRead, OfWrite, OfRow, OfPlan, OfStep, OfTarget, Demand1}
-use Rattle.demand_1_2.proofs.Orders.{no-refusal, Plain, check-more, no-checks, first-applies, applies-first}
-use Rattle.demand_1_2.proofs.Orders.{plain-append, plain-order, plain-one, plain-first, plain-settings}
-use Rattle.demand_1_2.proofs.Orders.{plain-sheet, length-says, room-says, faults-says, plan-says}
-use Rattle.demand_1_2.proofs.Orders.{target-says, each, entry-order, entry-placed}
+use Rattle.demand_1_2.proofs.Orders.{first-applies, applies-first}
+use Rattle.demand_1_2.proofs.Orders.{plain-order}
+use Rattle.demand_1_2.proofs.Orders.{entry-order, entry-placed}
 
 -- ---- any call
 

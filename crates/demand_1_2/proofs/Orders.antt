@@ -1,12 +1,12 @@
 -- The checks of each call refuse under the numbers of the table, in its order, with the place that document 01 says.
 --   Plain numbers checks    each of the checks refuses under the number at its place, and with the place 0
 -- Assumes nothing.
-use mathlib.Core.Bool.{Bool, true, false, not, _&&_, _||_}
+use mathlib.Core.Bool.{Bool, true, false, not, _&&_}
 use mathlib.Core.List.{List, [], _∷_, _++_}
-use mathlib.Core.Logic.{_⊎_, inl, inr, ⊎-elim}
-use mathlib.Core.Option.{Option, none, some}
+use mathlib.Core.Logic.{_⊎_, ⊎-elim}
+use mathlib.Core.Option.{none, some}
 use mathlib.Core.Path.{_≡_, refl, sym, ap, _∙_}
-use Prim.Native.Nat.{ℕ, zero, suc, _+_, _*_, _<_}
+use Prim.Native.Nat.{ℕ, zero, suc, _+_, _<_}
 use native.Mathlib.Nat.{not-suc-le-zero, le-of-suc-le-suc}
 use native.Mathlib.Omega.{arith}
 use borrow.Author.Tests.{ltb-true, lt-ltb, eqb-true, eq-eqb, ne-eqb}
@@ -15,21 +15,14 @@ use lib.ListN.{length, getD}
 use Rattle.arithmetic.specs.Counting.{lowest}
 use Rattle.arithmetic.proofs.Bools.{clash, and-left, and-right, and-intro}
 use Rattle.arithmetic.proofs.Counting.{lowest-found}
-use Rattle.model.specs.declared.Settings.{Settings}
 use Rattle.model.specs.declared.Refusal.{Refusal}
-use Rattle.model.specs.Refusals.{refusal, Check, refuseIf, atEntry, orNext, firstOf, tooShort, badCabinets, badFaults}
-use Rattle.model.specs.Refusals.{badMethod, badWindow, badLength, noRoom, badMark, badMissing, tooManyFaults, badPlan}
-use Rattle.model.specs.Refusals.{targetMissed, settingsChecks, sheetChecks, badMarkNumber, badMissingNumber}
-use Rattle.model.specs.Ensemble.{maxCabinets, maxWindow}
-use Rattle.model.specs.RoundSheet.{headerSize, settingsAt, sheetLength}
-use Rattle.model.specs.Refusals.{noRoomNumber, tooManyFaultsNumber, badCabinetsNumber, badFaultsNumber, badPlanNumber}
-use Rattle.model.specs.Refusals.{badLengthNumber, badMethodNumber, badWindowNumber, targetMissedNumber, unknownMethod}
-use Rattle.model.specs.Refusals.{tooShortNumber}
+use Rattle.model.specs.Refusals.{refusal, Check, orNext, firstOf}
+use Rattle.model.specs.Refusals.{badMark, badMissing}
+use Rattle.model.specs.Refusals.{badMarkNumber, badMissingNumber}
+use Rattle.refusal_laws.proofs.Numbers.{no-refusal, entry-says, Plain, no-checks, check-more, plain-first}
+use Rattle.refusal_laws.proofs.Numbers.{each, each-at, mark-number, missing-number}
 use Rattle.sheet_laws.proofs.Checks.{marks-passed}
 use Rattle.demand_1_2.specs.Demand1.{FirstThatApplies, InOrder, LowestAtFault, Placed}
-
-pub no-refusal {ℓ} : {X : Type ℓ} {r : Refusal} → _≡_ {A = Check} none (some r) → X
-no-refusal e = let z : _≡_ {A = ℕ} 0 1 = cc in absurd (omega arith)
 
 -- ---- the first check that applies
 
@@ -68,37 +61,7 @@ all-pass [] h = refl
 all-pass (x ∷ checks) h =
     ap (λ (y : Check). orNext y (firstOf checks)) (h 0 (omega arith)) ∙ all-pass checks (λ i l. h (suc i) (omega arith))
 
--- ---- one check
-
--- what a check says that has no entry to point at
-abbrev pub Says : ℕ → Check → Type 0
-Says number x = (r : Refusal) → x ≡ some r → r ≡ refusal number 0
-
-says-if : (b : Bool) (number : ℕ) → Says number (refuseIf b number)
-says-if true number r e = cc
-says-if false number r e = no-refusal e
-
-entry-says :
-    (o : Option ℕ) (number : ℕ) (r : Refusal) → atEntry o number ≡ some r
-    → (o ≡ some (r .place)) × (r .number ≡ number)
-entry-says none number r e = no-refusal e
-entry-says (some i) number r e =
-    (ap {B = Option ℕ} (λ (x : Refusal). some (x .place)) same, ap (λ (x : Refusal). x .number) (sym same))
-  where
-    same : refusal number i ≡ r
-    same = cc
-
 -- ---- checks that have no entry to point at
-
-pub data Plain : List ℕ → List Check → Type 0 where
-  no-checks : Plain [] []
-  check-more :
-      {number : ℕ} {x : Check} {numbers : List ℕ} {checks : List Check} → Says number x → Plain numbers checks
-      → Plain (number ∷ numbers) (x ∷ checks)
-
-pub plain-append : {ns ms : List ℕ} {xs ys : List Check} → Plain ns xs → Plain ms ys → Plain (ns ++ ms) (xs ++ ys)
-plain-append no-checks q = q
-plain-append (check-more f p) q = check-more f (plain-append p q)
 
 no-order : InOrder [] []
 no-order = record { asMany = refl; says = λ i r e. no-refusal e }
@@ -125,77 +88,6 @@ plain-order no-checks = no-order
 plain-order (check-more {number} {x} {numbers} {checks} f p) =
     order-more number x numbers checks (λ r e. ap (λ (y : Refusal). y .number) (f r e)) (plain-order p)
 
--- the first refusal of plain checks, if there is one, and else that of the checks behind them
-pub plain-first :
-    {ns : List ℕ} {xs : List Check} → Plain ns xs → (ys : List Check) (r : Refusal) → firstOf (xs ++ ys) ≡ some r
-    → ((i : ℕ) × (r ≡ refusal (getD ns i 0) 0)) ⊎ (firstOf ys ≡ some r)
-unfolding firstOf
-plain-first no-checks ys r h = inr h
-plain-first (check-more {number} {x} {numbers} {checks} f p) ys r h = go x f h (plain-first p ys r)
-  where
-    Out : List ℕ → Type 0
-    Out ns = ((i : ℕ) × (r ≡ refusal (getD ns i 0) 0)) ⊎ (firstOf ys ≡ some r)
-
-    go :
-        (x : Check) → Says number x → orNext x (firstOf (checks ++ ys)) ≡ some r
-        → (firstOf (checks ++ ys) ≡ some r → Out numbers) → Out (number ∷ numbers)
-    go none f h ih = ⊎-elim (λ w. inl (suc (w .0), w .1)) (λ e. inr e) (ih h)
-    go (some y) f h ih = inl (0, f r h)
-
--- a test that passes of 0 and of every number of a list passes of the number at any place
-unfoldable pub each : (ℕ → Bool) → List ℕ → Bool
-each p [] = true
-each p (n ∷ ns) = p n && each p ns
-
-pub each-at : (p : ℕ → Bool) (ns : List ℕ) → p 0 ≡ true → each p ns ≡ true → (i : ℕ) → p (getD ns i 0) ≡ true
-unfolding each
-each-at p [] z h i = z
-each-at p (n ∷ ns) z h zero = and-left (p n) (each p ns) h
-each-at p (n ∷ ns) z h (suc i) = each-at p ns z (and-right (p n) (each p ns) h) i
-
--- ---- the checks of the table
-
-pub short-says : (s : List ℕ) → Says tooShortNumber (tooShort s)
-unfolding tooShort
-short-says s = says-if (ltb (length s) headerSize) tooShortNumber
-
-pub length-says : (given wanted : ℕ) → Says badLengthNumber (badLength given wanted)
-unfolding badLength
-length-says given wanted = says-if (not (eqb given wanted)) badLengthNumber
-
-pub room-says : (given wanted : ℕ) → Says noRoomNumber (noRoom given wanted)
-unfolding noRoom
-room-says given wanted = says-if (ltb given wanted) noRoomNumber
-
-pub faults-says : (accepted : ℕ) → Says tooManyFaultsNumber (tooManyFaults accepted)
-unfolding tooManyFaults
-faults-says accepted = says-if (eqb accepted 0) tooManyFaultsNumber
-
-pub plan-says : (b : Bool) → Says badPlanNumber (badPlan b)
-unfolding badPlan
-plan-says b = says-if b badPlanNumber
-
-pub target-says : (last target : ℕ) → Says targetMissedNumber (targetMissed last target)
-unfolding targetMissed
-target-says last target = says-if (ltb target last) targetMissedNumber
-
-pub plain-settings : (c : Settings) → Plain (2 ∷ 3 ∷ 4 ∷ 5 ∷ []) (settingsChecks c)
-unfolding settingsChecks badCabinets badFaults badMethod badWindow
-plain-settings c =
-    check-more (says-if (eqb (c .n) 0 || ltb maxCabinets (c .n)) badCabinetsNumber)
-    (check-more (says-if (ltb (c .n) (3 * c .m + 1)) badFaultsNumber)
-    (check-more (says-if (unknownMethod (c .rule) (c .estimator)) badMethodNumber)
-    (check-more (says-if (ltb maxWindow (c .window)) badWindowNumber) no-checks)))
-
-pub plain-one : {number : ℕ} {x : Check} → Says number x → Plain (number ∷ []) (x ∷ [])
-plain-one f = check-more f no-checks
-
-pub plain-sheet : (s : List ℕ) → Plain (1 ∷ 2 ∷ 3 ∷ 4 ∷ 5 ∷ 6 ∷ []) (sheetChecks s)
-unfolding sheetChecks
-plain-sheet s =
-    plain-append (check-more (short-says s) (plain-settings (settingsAt s)))
-    (plain-one (length-says (length s) (sheetLength (settingsAt s))))
-
 -- ---- checks 8 and 9
 
 -- a number that has no entry to point at
@@ -203,14 +95,6 @@ abbrev pub neither : ℕ → Bool
 neither k = not (eqb k badMarkNumber) && not (eqb k badMissingNumber)
 
 module _ (mark bits : ℕ → ℕ) (E : ℕ) where
-  mark-number : (r : Refusal) → badMark mark E ≡ some r → r .number ≡ badMarkNumber
-  unfolding badMark
-  mark-number r h = entry-says (lowest (λ e. ltb 1 (mark e)) E) badMarkNumber r h .1
-
-  missing-number : (r : Refusal) → badMissing mark bits E ≡ some r → r .number ≡ badMissingNumber
-  unfolding badMissing
-  missing-number r h = entry-says (lowest (λ e. eqb (mark e) 0 && not (eqb (bits e) 0)) E) badMissingNumber r h .1
-
   mark-place : (r : Refusal) → badMark mark E ≡ some r → LowestAtFault (λ e. 1 < mark e) E (r .place)
   unfolding badMark
   mark-place r h =
@@ -249,8 +133,8 @@ module _ (mark bits : ℕ → ℕ) (E : ℕ) where
     pub entry-order : InOrder (ns ++ (badMarkNumber ∷ badMissingNumber ∷ ms)) (xs ++ (badMark mark E ∷ badMissing mark bits E ∷ ys))
     entry-order =
         plain-then before (badMarkNumber ∷ badMissingNumber ∷ ms) (badMark mark E ∷ badMissing mark bits E ∷ ys)
-        (order-more badMarkNumber (badMark mark E) (badMissingNumber ∷ ms) (badMissing mark bits E ∷ ys) mark-number
-        (order-more badMissingNumber (badMissing mark bits E) ms ys missing-number (plain-order behind)))
+        (order-more badMarkNumber (badMark mark E) (badMissingNumber ∷ ms) (badMissing mark bits E ∷ ys) (mark-number mark bits E)
+        (order-more badMissingNumber (badMissing mark bits E) ms ys (missing-number mark bits E) (plain-order behind)))
 
     plain-placed : (k : ℕ) (r : Refusal) → neither k ≡ true → r ≡ refusal k 0 → Placed mark bits E r
     plain-placed k r h e =
@@ -279,7 +163,7 @@ module _ (mark bits : ℕ → ℕ) (E : ℕ) where
             → Placed mark bits E r
         at-missing pass (some y) p e =
             let is : badMissing mark bits E ≡ some r = p ∙ e in
-            let nine = missing-number r is in
+            let nine = missing-number mark bits E r is in
             record {
               ofMark = λ z. absurd (omega arith);
               ofMissing = λ z. missing-place r is;
@@ -297,7 +181,7 @@ module _ (mark bits : ℕ → ℕ) (E : ℕ) where
             → Placed mark bits E r
         at-mark (some y) p e =
             let is : badMark mark E ≡ some r = p ∙ e in
-            let eight = mark-number r is in
+            let eight = mark-number mark bits E r is in
             record {
               ofMark = λ z. mark-place r is;
               ofMissing = λ z. absurd (omega arith);

@@ -21,11 +21,12 @@ use Rattle.model.specs.Refusals.{sheetChecks, entryChecks, settleChecks, tooMan
 use Rattle.model.specs.Calls.{verdict, settle}
 use Rattle.refusal_laws.proofs.Checks.{first-snoc, none-at, none-left}
 use Rattle.refusal_laws.proofs.Limits.{limits}
+use Rattle.refusal_laws.proofs.Numbers.{no-checks, each, each-at}
 use Rattle.sheet_laws.proofs.Checks.{settings-passed}
 use Rattle.sheet_laws.proofs.Outcomes.{refused-some}
 use Rattle.demand_1_2.specs.Demand1.{InOrder}
 use Rattle.demand_1_2.specs.Demand2.{Passed, NoSpan, TooManyFaults}
-use Rattle.demand_1_2.proofs.Orders.{no-checks, first-applies, all-pass, each, each-at, entry-order}
+use Rattle.demand_1_2.proofs.Orders.{first-applies, all-pass, entry-order}
 use Rattle.demand_1_2.proofs.Demand1.{before-settle}
 use Rattle.demand_1_2.proofs.Spans.{too-many-faults}
 

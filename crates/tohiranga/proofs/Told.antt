@@ -2,37 +2,38 @@
 -- number, 1 to 12, and its place. A refusal has the place of an entry only where the settings pass, and these have at
 -- most 4,096 entries.
 -- Assumes nothing.
-use mathlib.Core.Bool.{Bool, true, false, not, _||_}
-use mathlib.Core.List.{List, [], _∷_}
-use mathlib.Core.Option.{Option, none, some}
-use mathlib.Core.Path.{_≡_, refl, sym, _∙_, subst}
+use mathlib.Core.Bool.{Bool, true, _&&_, _||_}
+use mathlib.Core.List.{List}
+use mathlib.Core.Option.{none, some}
+use mathlib.Core.Path.{_≡_, refl, sym, ap, _∙_}
 use Prim.Native.Nat.{ℕ, _+_, _*_, _≤_, _<_}
 use native.Mathlib.Omega.{arith}
-use lib.Dec.{ltb, eqb}
+use borrow.Author.Tests.{leb-true}
+use lib.Dec.{leb, ltb}
 use lib.IntN.{ℤ}
 use lib.ListN.{length}
 use Rattle.arithmetic.specs.Counting.{lowest}
+use Rattle.arithmetic.proofs.Bools.{and-left, and-right}
 use Rattle.arithmetic.proofs.Counting.{lowest-found}
 use Rattle.arithmetic.specs.Words.{twoTo32}
 use Rattle.model.specs.declared.Refusal.{Refusal}
 use Rattle.model.specs.declared.Settings.{Settings}
-use Rattle.model.specs.RoundSheet.{headerSize, byte, word, settingsAt, entryCount}
+use Rattle.model.specs.RoundSheet.{byte, word, settingsAt, entryCount}
 use Rattle.model.specs.RoundSheet.{sheetLength, markAt, bitsAt, bitsIn}
 use Rattle.model.specs.AnswerSheet.{answerLength, answerHeaderSize}
 use Rattle.model.specs.Steps.{roundAt}
 use Rattle.model.specs.Planner.{Plan, planFrom, advance, after, windowAfter, maxAccuracy, maxRounds}
-use Rattle.model.specs.Refusals.{Check, refusal, refuseIf, atEntry, orNext, firstOf, tooShort, unknownMethod}
-use Rattle.model.specs.Refusals.{badCabinets, badFaults, badMethod, badWindow}
-use Rattle.model.specs.Refusals.{tooShortNumber, badCabinetsNumber, badFaultsNumber, badMethodNumber, badWindowNumber}
-use Rattle.model.specs.Refusals.{badLengthNumber, noRoomNumber, badMarkNumber, badMissingNumber, tooManyFaultsNumber}
-use Rattle.model.specs.Refusals.{badPlanNumber, targetMissedNumber}
-use Rattle.model.specs.Refusals.{badLength, noRoom, notZero, badMark, badMissing, tooManyFaults, badPlan, targetMissed}
+use Rattle.model.specs.Refusals.{Check, refusal, atEntry, orNext, firstOf}
+use Rattle.model.specs.Refusals.{badMarkNumber, badMissingNumber}
+use Rattle.model.specs.Refusals.{badLength, noRoom, notZero, badMark, badMissing}
 use Rattle.model.specs.Refusals.{settingsChecks, sheetChecks, arrayChecks, entryChecks, planningChecks}
 use Rattle.model.specs.Refusals.{readChecks, writeChecks, settleChecks, planChecks, stepChecks, targetChecks}
 use Rattle.model.specs.Calls.{Verdict, granted, refused, verdict, read, write, settle, plan, step, Target}
-use Rattle.model.specs.Ensemble.{maxCabinets, maxWindow}
-use Rattle.refusal_laws.proofs.Checks.{first-append, first-snoc, next-none-left}
+use Rattle.refusal_laws.proofs.Checks.{first-snoc, next-none-left}
 use Rattle.refusal_laws.proofs.Limits.{limits, entries-most}
+use Rattle.refusal_laws.proofs.Numbers.{Says, entry-says, Plain, no-checks, check-more, plain-append, plain-one, each}
+use Rattle.refusal_laws.proofs.Numbers.{length-says, room-says, faults-says, plan-says, target-says, cabinets-say}
+use Rattle.refusal_laws.proofs.Numbers.{plain-settings, plain-sheet, mark-number, missing-number}
 use Rattle.sheet_laws.proofs.Checks.{settings-passed}
 use Rattle.sheet_laws.proofs.Words.{word-fits}
 use Rattle.sheet_laws.proofs.Orders.{read-checks, write-checks, settle-checks}
@@ -58,85 +59,90 @@ record Sound (check : Check) : Type 0 where
 none-sound : Sound none
 none-sound = record { told = λ r e. let clash : _≡_ {A = ℕ} 0 1 = cc in absurd (omega arith) }
 
-some-sound : (number place : ℕ) → 1 ≤ number → number ≤ 12 → place < twoTo32 → Sound (some (refusal number place))
-some-sound number place a b d =
-    record { told = λ r e. let same : refusal number place ≡ r = cc in subst InTable same here }
-  where
-    here : InTable (refusal number place)
-    here = record { first = a; last = b; small = d }
-
 -- the first of two, where the second one is asked only if the first does not refuse
 next-sound : (a b : Check) → Sound a → (a ≡ none → Sound b) → Sound (orNext a b)
 next-sound none b x y = y refl
 next-sound (some r) b x y = x
 
--- the last of a list
-last-sound : (a : Check) → Sound a → Sound (orNext a none)
-last-sound a x = next-sound a none x λ _. none-sound
+-- a number of the table
+abbrev listed : ℕ → Bool
+listed number = leb 1 number && leb number 12
 
-test-sound : (fails : Bool) (number : ℕ) → 1 ≤ number → number ≤ 12 → Sound (refuseIf fails number)
-test-sound true number a b = some-sound number 0 a b (omega arith)
-test-sound false number a b = none-sound
+in-table : (number : ℕ) (r : Refusal) → listed number ≡ true → r .number ≡ number → r .place < twoTo32 → InTable r
+in-table number r h e small =
+    let first = leb-true 1 number (and-left (leb 1 number) (leb number 12) h) in
+    let last = leb-true number 12 (and-right (leb 1 number) (leb number 12) h) in
+    record { first = omega arith; last = omega arith; small = small }
 
-entry-sound : (p : ℕ → Bool) (E number : ℕ) → E ≤ 4096 → 1 ≤ number → number ≤ 12 → Sound (atEntry (lowest p E) number)
-entry-sound p E number few a b = go (lowest p E) refl
-  where
-    go : (o : Option ℕ) → lowest p E ≡ o → Sound (atEntry o number)
-    go none e = none-sound
-    go (some i) e =
-        let here = lowest-found p E i e .inRange in
-        some-sound number i a b (omega arith)
+-- checks that have no entry to point at
+says-sound : {number : ℕ} {x : Check} → Says number x → listed number ≡ true → Sound x
+says-sound {number} f h =
+    record {
+      told = λ r e.
+          let place = ap (λ (y : Refusal). y .place) (f r e) in
+          in-table number r h (ap (λ (y : Refusal). y .number) (f r e)) (omega arith);
+    }
+
+plain-sound : {numbers : List ℕ} {checks : List Check} → Plain numbers checks → each listed numbers ≡ true
+    → Sound (firstOf checks)
+unfolding firstOf each
+plain-sound no-checks h = none-sound
+plain-sound (check-more {number} {x} {numbers} {checks} f p) h =
+    next-sound x (firstOf checks) (says-sound f (and-left (listed number) (each listed numbers) h)) λ _.
+    plain-sound p (and-right (listed number) (each listed numbers) h)
 
 -- ---- The checks
 
 module _ (c : Settings) where
   settings-sound : Sound (firstOf (settingsChecks c))
-  unfolding firstOf settingsChecks badCabinets badFaults badMethod badWindow
-  settings-sound =
-      let cabinets = eqb (c .n) 0 || ltb maxCabinets (c .n) in
-      let faults = ltb (c .n) (3 * c .m + 1) in
-      let method = unknownMethod (c .rule) (c .estimator) in
-      next-sound (badCabinets c) _ (test-sound cabinets badCabinetsNumber (omega arith) (omega arith)) λ _.
-      next-sound (badFaults c) _ (test-sound faults badFaultsNumber (omega arith) (omega arith)) λ _.
-      next-sound (badMethod c) _ (test-sound method badMethodNumber (omega arith) (omega arith)) λ _.
-      last-sound (badWindow c) (test-sound (ltb maxWindow (c .window)) badWindowNumber (omega arith) (omega arith))
+  settings-sound = plain-sound (plain-settings c) (unfold each in refl)
 
   few-entries : firstOf (settingsChecks c) ≡ none → entryCount c ≤ 4096
   few-entries pass = entries-most c (limits c pass .cabinets)
 
   planning-sound : (fails : Bool) → Sound (firstOf (planningChecks c fails))
-  unfolding firstOf badPlan
   planning-sound fails =
-      rw (first-append (settingsChecks c) (badPlan fails ∷ []))
-      (next-sound (firstOf (settingsChecks c)) _ settings-sound λ _.
-      last-sound (badPlan fails) (test-sound fails badPlanNumber (omega arith) (omega arith)))
+      plain-sound (plain-append (plain-settings c) (plain-one (plan-says fails))) (unfold each in refl)
 
 length-sound : (given wanted : ℕ) → Sound (badLength given wanted)
-unfolding badLength
-length-sound given wanted = test-sound (not (eqb given wanted)) badLengthNumber (omega arith) (omega arith)
+length-sound given wanted = says-sound (length-says given wanted) refl
 
 room-sound : (given wanted : ℕ) → Sound (noRoom given wanted)
-unfolding noRoom
-room-sound given wanted = test-sound (ltb given wanted) noRoomNumber (omega arith) (omega arith)
+room-sound given wanted = says-sound (room-says given wanted) refl
 
-array-sound : (mark bits : ℕ → ℕ) (E : ℕ) → E ≤ 4096 → Sound (firstOf (arrayChecks mark bits E))
-unfolding firstOf badMark badMissing
-array-sound mark bits E few =
-    let marked : ℕ → Bool = λ e. ltb 1 (mark e) in
-    let missing : ℕ → Bool = λ e. notZero (mark e) (bits e) in
-    next-sound (badMark mark E) _ (entry-sound marked E badMarkNumber few (omega arith) (omega arith)) λ _.
-    last-sound (badMissing mark bits E) (entry-sound missing E badMissingNumber few (omega arith) (omega arith))
+-- 8 and 9 point at an entry
+module _ (mark bits : ℕ → ℕ) (E : ℕ) (few : E ≤ 4096) where
+  entry-place : (p : ℕ → Bool) (number : ℕ) (r : Refusal) → atEntry (lowest p E) number ≡ some r → r .place < twoTo32
+  entry-place p number r h =
+      let here = lowest-found p E (r .place) (entry-says (lowest p E) number r h .0) .inRange in
+      omega arith
+
+  mark-sound : Sound (badMark mark E)
+  unfolding badMark
+  mark-sound =
+      record {
+        told = λ r e.
+            in-table badMarkNumber r refl (mark-number mark bits E r e) (entry-place (λ i. ltb 1 (mark i)) badMarkNumber r e);
+      }
+
+  missing-sound : Sound (badMissing mark bits E)
+  unfolding badMissing
+  missing-sound =
+      record {
+        told = λ r e.
+            in-table badMissingNumber r refl (missing-number mark bits E r e)
+            (entry-place (λ i. notZero (mark i) (bits i)) badMissingNumber r e);
+      }
+
+  array-sound : Sound (firstOf (arrayChecks mark bits E))
+  unfolding firstOf
+  array-sound =
+      next-sound (badMark mark E) _ mark-sound λ _.
+      next-sound (badMissing mark bits E) none missing-sound λ _. none-sound
 
 module _ (s : List ℕ) where
   sheet-sound : Sound (firstOf (sheetChecks s))
-  unfolding sheetChecks firstOf tooShort
-  sheet-sound =
-      let c = settingsAt s in
-      let short = ltb (length s) headerSize in
-      let first =
-      next-sound (tooShort s) _ (test-sound short tooShortNumber (omega arith) (omega arith)) λ _. settings-sound c in
-      rw (first-snoc (tooShort s ∷ settingsChecks c) (badLength (length s) (sheetLength c)))
-      (next-sound (firstOf (tooShort s ∷ settingsChecks c)) _ first λ _. length-sound (length s) (sheetLength c))
+  sheet-sound = plain-sound (plain-sheet s) (unfold each in refl)
 
   few-passed : firstOf (sheetChecks s) ≡ none → entryCount (settingsAt s) ≤ 4096
   few-passed pass = few-entries (settingsAt s) (settings-passed s pass)
@@ -147,14 +153,13 @@ module _ (s : List ℕ) where
       array-sound (markAt s) (bitsAt s (entryCount (settingsAt s))) (entryCount (settingsAt s)) (few-passed pass)
 
   settle-sound : (room : ℕ) → Sound (firstOf (settleChecks s room))
-  unfolding tooManyFaults
   settle-sound room =
       let wanted = answerLength (settingsAt s .n) in
       rw (settle-checks s room)
       (next-sound (firstOf (sheetChecks s)) _ sheet-sound λ pass.
       next-sound (noRoom room wanted) _ (room-sound room wanted) λ _.
       next-sound (firstOf (entryChecks s)) _ (entries-sound pass) λ _.
-      test-sound (eqb (roundAt s .count) 0) tooManyFaultsNumber (omega arith) (omega arith))
+      says-sound (faults-says (roundAt s .count)) refl)
 
   read-sound : (marks readings : ℕ) → Sound (firstOf (readChecks s marks readings))
   read-sound marks readings =
@@ -177,14 +182,12 @@ write-sound c marks readings room =
     array-sound (byte marks) (bitsIn readings) E (few-entries c pass))
 
 target-sound : (c : Settings) (κ target : ℕ) → Sound (firstOf (targetChecks c κ target))
-unfolding targetChecks firstOf badPlan targetMissed
+unfolding targetChecks
 target-sound c κ target =
-    let last = windowAfter maxRounds c κ in
-    let start = ltb maxAccuracy κ in
-    rw (first-append (settingsChecks c) (badPlan start ∷ targetMissed last target ∷ []))
-    (next-sound (firstOf (settingsChecks c)) _ (settings-sound c) λ _.
-    next-sound (badPlan start) _ (test-sound start badPlanNumber (omega arith) (omega arith)) λ _.
-    last-sound (targetMissed last target) (test-sound (ltb target last) targetMissedNumber (omega arith) (omega arith)))
+    plain-sound
+    (plain-append (plain-settings c)
+    (check-more (plan-says (ltb maxAccuracy κ)) (plain-one (target-says (windowAfter maxRounds c κ) target))))
+    (unfold each in refl)
 
 -- ---- What is packed
 
@@ -272,12 +275,11 @@ target-tells c κ target answer (refused r) same t =
 
 module _ (a : List ℕ) where
   answer-sound : Sound (firstOf (answerChecks a))
-  unfolding answerChecks firstOf badCabinets
+  unfolding answerChecks
   answer-sound =
-      let cabinets = eqb (byte a 0) 0 || ltb maxCabinets (byte a 0) in
-      let wanted = answerLength (byte a 0) in
-      next-sound (badCabinets (settingsAt a)) _ (test-sound cabinets badCabinetsNumber (omega arith) (omega arith)) λ _.
-      last-sound (badLength (length a) wanted) (length-sound (length a) wanted)
+      plain-sound
+      (check-more (cabinets-say (settingsAt a)) (plain-one (length-says (length a) (answerLength (byte a 0)))))
+      (unfold each in refl)
 
   cabinet-sound : (r : ℕ) → Sound (firstOf (cabinetChecks a r))
   unfolding cabinetChecks

@@ -168,7 +168,7 @@ module _ (w : ℕ) (marks values : List ℕ) where
   module _ (s r far : ℕ) (opened : spansAt w marks values s r ≡ true)
       (reach : far ≡ min w (twoTo32 - 1 - valueAt values s)) where
     -- within reach of a start is in its span
-    reached-spans :
+    pub reached-spans :
         (t : ℕ)
         → valueAt values t < twoTo32
         → reachedAt (valueAt values s) far marks values t ≡ spansAt w marks values s t
@@ -178,14 +178,6 @@ module _ (w : ℕ) (marks values : List ℕ) where
         let b = valueAt values t in
         ap (λ (c : Bool). presentIn marks t && c) (cut-within w a b far small reach)
         ∙ ap (λ (p : Bool). p && (presentIn marks t && (leb a b && leb b (a + w)))) (sym (start-present s r opened))
-
-    -- of one reading, and of all
-    pub reached-one :
-        (t h : ℕ)
-        → valueAt values t < twoTo32
-        → h ≡ bit (reachedAt (valueAt values s) far marks values t)
-        → h ≡ bit (spansAt w marks values s t)
-    reached-one t h small e = e ∙ ap bit (reached-spans t small)
 
     pub reached-all :
         (h : ℕ)
@@ -379,9 +371,19 @@ module _ (w need : ℕ) (marks values : List ℕ) where
           (and-false (spansAt w marks values s r) e)
 
       -- one reading more
-      pub next-exact : (h : ℕ) → h ≡ bit (spansAt w marks values s t) → c + h ≡ count (spansAt w marks values s) (t + 1)
-      next-exact h one =
-          ap₂ (λ (a b : ℕ). a + b) (so-far .exact) one ∙ sym (count-next (spansAt w marks values s) t)
+      pub counted-next :
+          (far : ℕ)
+          → spansAt w marks values s r ≡ true
+          → far ≡ min w (twoTo32 - 1 - valueAt values s)
+          → (n : ℕ)
+          → valueAt values t < twoTo32
+          → n ≡ c + bit (reachedAt (valueAt values s) far marks values t)
+          → n ≡ count (spansAt w marks values s) (t + 1)
+      counted-next far opened reach n small e =
+          e
+          ∙ ap₂ (λ (a b : ℕ). a + b) (so-far .exact)
+          (ap bit (reached-spans w marks values s r far opened reach t small))
+          ∙ sym (count-next (spansAt w marks values s) t)
 
     module _ (c t : ℕ) (room : t ≤ length marks) (exact : c ≡ count (spansAt w marks values s) t) where
       pub count-on : c < need → Counted r known s c t

@@ -80,16 +80,16 @@ fn held_of_all(marks: &[u8], values: &[u32], start: u32, reach: u32) -> u32
     total
 }
 
-// The same of one reading, with a branch on its mark.
-fn held_of_one(marks: &[u8], values: &[u32], start: u32, reach: u32, t: usize) -> u32
+// A count with one reading more, if that is within reach of a start.
+fn counted(count: u32, marks: &[u8], values: &[u32], start: u32, reach: u32, t: usize) -> u32
     requires { ⌜ (length (now values) ≡ length (now marks)) × (t < length (now marks)) ⌝ }
-    requires { ⌜ start + reach < twoTo32 ⌝ }
-    ensures { λ r. ⌜ r ≡ bit (reachedAt start reach (now (marks .entry)) (now (values .entry)) t) ⌝ }
+    requires { ⌜ (count ≤ maxCabinets) × (start + reach < twoTo32) ⌝ }
+    ensures { λ r. ⌜ r ≡ count + bit (reachedAt start reach (now (marks .entry)) (now (values .entry)) t) ⌝ }
 {
     if marks[t] == PRESENT {
-        (std::num::wrapping_sub_u32(values[t], start) <= reach) as u32
+        count + (std::num::wrapping_sub_u32(values[t], start) <= reach) as u32
     } else {
-        0
+        count
     }
 }
 
@@ -125,7 +125,7 @@ fn accepts(marks: &[u8], values: &[u32], span: u32, need: u32, known: &mut [u8],
                     count = held_of_all(marks, values, start, far);
                     t = marks.len();
                 } else {
-                    count += held_of_one(marks, values, start, far, t);
+                    count = counted(count, marks, values, start, far, t);
                     t += 1;
                 }
                 if need <= count {

@@ -13,10 +13,9 @@ use lib.Dec.{eqb}
 use lib.ListN.{length, getD, length-set}
 use Rattle.arithmetic.specs.Counting.{bit, count}
 use Rattle.arithmetic.specs.Words.{twoTo32}
-use Rattle.arithmetic.proofs.Counting.{bit-le-one}
-use Rattle.acceptance.specs.Values.{reachedAt, spansAt}
+use Rattle.acceptance.specs.Values.{spansAt}
 use Rattle.acceptance.proofs.Spans.{Tried, Counted, reach-fits, untried, count-small, tried-as, tried-holds}
-use Rattle.acceptance.proofs.Spans.{reached-one, reached-all, count-begin, next-exact, count-on, count-enough}
+use Rattle.acceptance.proofs.Spans.{reached-all, count-begin, counted-next, count-on, count-enough}
 use Rattle.acceptance.proofs.Spans.{pass-counted, pass-untried, known-enough, answered, unanswered, remember}
 use Rattle.acceptance.proofs.Spans.{not-admitted}
 use Rattle.acceptance.proofs.accepts.Statement.{statement}
@@ -101,30 +100,6 @@ fits c =
     reach-fits (getD (a .values .now) (o .starts .s) 0) (a .span) (c .reach .result) (small o (o .starts .s))
     (c .reach .ensures)
 
--- what is counted for a reading is its place in the span
-one :
-    (now : tie.In-readings Inv-readings μ-readings Inv-starts μ-starts) (h : ℕ)
-    → let reached = now .before .before in
-    let o = turn (outer now) .before in
-    let a = call o .args in
-    let s = o .starts .s in
-    let t = now .before .readings .t in
-    h ≡ bit (reachedAt (getD (a .values .now) s 0) (reached .reach .result) (a .marks .now) (a .values .now) t)
-    → h ≡ bit (spansAt (a .span) (a .marks .now) (a .values .now) s t)
-one now h e =
-    let reached = now .before .before in
-    let tried = reached .before .before in
-    let o = turn (tried .before) .before in
-    let a = call o .args in
-    let t = now .before .readings .t in
-    reached-one (a .span) (a .marks .now) (a .values .now) (o .starts .s) (a .r) (reached .reach .result)
-    (opened tried)
-    (reached .reach .ensures)
-    t
-    h
-    (small o t)
-    e
-
 -- a turn over readings passes one or all of them, and counts what it passes
 stepped :
     (c : tie.Joined3 Inv-readings μ-readings Inv-starts μ-starts)
@@ -158,13 +133,17 @@ stepped c =
     rw (u .2, u .3) (
       omega arith,
       omega (arith, room),
-      next-exact (a .span) (a .need) (a .marks .now) (a .values .now) (a .r) (i .known) s (o .starts-test .taken)
+      counted-next (a .span) (a .need) (a .marks .now) (a .values .now) (a .r) (i .known) s (o .starts-test .taken)
           (i .inv .tried)
           (i .count)
           (i .t)
           (i .inv)
+          (reached .reach .result)
+          (opened tried)
+          (reached .reach .ensures)
           (u .1 .result)
-          (one now (u .1 .result) (u .1 .ensures)),
+          (small (o .before) (i .t))
+          (u .1 .ensures),
     ))
     (c .if3 .came)
 
@@ -217,29 +196,22 @@ held-of-all-requires c κs =
     let alike = call (turn (reached .before .before .before) .before) .pre .0 .0 in
     ((alike .0, alike .1), fits reached)
 
-held-of-one-requires : tie.Need-held-of-one-requires Inv-readings μ-readings Inv-starts μ-starts
-held-of-one-requires c κs =
-    let reached = c .before .before .before in
-    let alike = call (turn (reached .before .before .before) .before) .pre .0 .0 in
-    ((alike .0, c .before .readings-test .taken), fits reached)
-
-add-count : tie.Need-add-count Inv-readings μ-readings Inv-starts μ-starts
-add-count c =
-    let now = c .before .before in
-    let o = turn (outer now) in
-    let a = call (o .before) .args in
+counted-requires : tie.Need-counted-requires Inv-readings μ-readings Inv-starts μ-starts
+counted-requires c κs =
+    let now = c .before in
+    let reached = now .before .before in
+    let o = turn (reached .before .before .before) in
+    let call = call (o .before) in
+    let a = call .args in
     let i = now .before .readings in
-    omega (
-      arith,
-      count-small (a .span) (a .need) (a .marks .now) (a .values .now) (a .r) (i .known) (o .before .starts .s)
-          (o .starts-test .taken)
-          (i .inv .tried)
-          (i .count)
-          (i .t)
-          (i .inv),
-      one now (c .held-of-one .result) (c .held-of-one .ensures),
-      bit-le-one (spansAt (a .span) (a .marks .now) (a .values .now) (o .before .starts .s) (i .t)),
-    )
+    let few =
+    count-small (a .span) (a .need) (a .marks .now) (a .values .now) (a .r) (i .known) (o .before .starts .s)
+    (o .starts-test .taken)
+    (i .inv .tried)
+    (i .count)
+    (i .t)
+    (i .inv) in
+    ((call .pre .0 .0 .0, now .readings-test .taken), (few, fits reached))
 
 add-t : tie.Need-add-t Inv-readings μ-readings Inv-starts μ-starts
 add-t c = search needs
@@ -380,8 +352,7 @@ accepts-spec =
     reach-requires
     readings-holds
     held-of-all-requires
-    held-of-one-requires
-    add-count
+    counted-requires
     add-t
     slice-write-known
     readings-less

@@ -34,12 +34,16 @@ pub fn inspect(sheet: &[u8]) -> Opened
         ⌜ openedOf r
         ≡ verdict (firstOf (sheetChecks (now (sheet .entry)))) (settingsAt (now (sheet .entry))) ⌝ }
 {
+    if sheet.len() < HEADER_SIZE {
+        return Opened::Refused(refusals::refuse(TOO_SHORT));
+    }
     let settings = sheet_sizes::settings_at(sheet);
     let wanted = sheet_sizes::sheet_length(settings);
-    let short = refusals::refuse_if(sheet.len() < HEADER_SIZE, TOO_SHORT);
     let length = refusals::refuse_if(sheet.len() != wanted, BAD_LENGTH);
-    let later = refusals::first_of(settings_checks::screen(settings), length);
-    unless_refused(refusals::first_of(short, later), settings)
+    unless_refused(
+        refusals::first_of(settings_checks::screen(settings), length),
+        settings,
+    )
 }
 
 // Checks 1 to 6, 8 and 9.

@@ -5,20 +5,20 @@
 use mathlib.Core.Bool.{true, false}
 use mathlib.Core.List.{List, [], _∷_, _++_}
 use mathlib.Core.Option.{none, some}
-use Prim.Native.Nat.{ℕ, zero, suc, _+_, _/_, _%_}
+use Prim.Native.Nat.{ℕ, zero, suc, _+_, _*_, _/_, _%_}
 use lib.Dec.{ltb}
 use lib.ListN.{length, replicate, take}
 use lib.IntN.{ℤ, pos, negsuc}
 use Rattle.model.specs.declared.Refusal.{Refusal}
 use Rattle.model.specs.Ensemble.{maxCabinets}
-use Rattle.model.specs.RoundSheet.{settingsAt}
+use Rattle.model.specs.RoundSheet.{headerSize, settingsAt}
 use Rattle.model.specs.AnswerSheet.{answerLength}
 use Rattle.model.specs.Steps.{Round, roundAt}
 use Rattle.model.specs.Refusals.{Check, firstOf, settleChecks}
 
--- `settle` "reads one round sheet from standard input, at most 20,489 bytes"
+-- `settle` "reads one round sheet from standard input, at most 20,489 bytes": the longest sheet and a byte
 abbrev pub maxInput : ℕ
-maxInput = 20_489
+maxInput = headerSize + 5 * (maxCabinets * maxCabinets) + 1
 
 -- the digits of x, at most as many as the first argument says
 unfoldable pub digitsUpTo : ℕ → ℕ → List ℕ

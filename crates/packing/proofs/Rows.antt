@@ -11,7 +11,7 @@ use lib.ListN.{length, drop, length-drop}
 use lib.Seq.{length-take-le}
 use Rattle.arithmetic.specs.Words.{twoTo32}
 use Rattle.model.specs.declared.Settings.{Settings}
-use Rattle.model.specs.RoundSheet.{cca, rowEntries, rowStart, rowLength, rowPart}
+use Rattle.model.specs.RoundSheet.{cca, rowEntries, rowStart, rowLength, rowPart, headerSize}
 use Rattle.model.specs.Calls.{row}
 use Rattle.sheet_laws.proofs.Inspection.{Validated}
 use Rattle.sheet_laws.proofs.Shown.{row-within, row-part}
@@ -31,7 +31,7 @@ module _ (s : List ℕ) (c : Settings) (v : Validated s c) (r : ℕ) (h : r < c 
       let room = row-within c r h in
       omega arith
 
-  pub row-starts : rowStart c r ≤ 20488
+  pub row-starts : rowStart c r ≤ headerSize + 20480
   row-starts =
       let few = v .sizes .few in
       let room = row-few in

@@ -4,10 +4,10 @@
 use borrow.Author.Needs.{needs}
 use mathlib.Core.List.{List}
 use mathlib.Core.Path.{sym, ap, _∙_}
-use Prim.Native.Nat.{ℕ, _≤_, _<_}
+use Prim.Native.Nat.{ℕ, _+_, _≤_, _<_}
 use native.Mathlib.Omega.{arith}
 use Rattle.model.specs.declared.Settings.{Settings}
-use Rattle.model.specs.RoundSheet.{settingsAt}
+use Rattle.model.specs.RoundSheet.{settingsAt, headerSize}
 use Rattle.model.specs.Refusals.{firstOf, rowChecks}
 use Rattle.sheet_checks.specs.Answers.{openedOf}
 use Rattle.sheet_laws.proofs.Outcomes.{refused-some, row-refused}
@@ -45,7 +45,7 @@ module _ (c : tie.After-row-entries) where
   here = chosen .before .if1 .left
 
   -- both are small
-  start-few : chosen .row-start .result ≤ 20488
+  start-few : chosen .row-start .result ≤ headerSize + 20480
   start-few = rw (chosen .row-start .ensures) (row-starts sheet settings seen (start .args .cabinet) here)
 
   width-few : c .row-entries .result ≤ 4096

@@ -5,6 +5,7 @@ use mathlib.Core.Path.{_≡_}
 use native.Mathlib.Omega.{arith}
 use Prim.Native.Nat.{ℕ, _+_, _*_, _-_, _≤_}
 use Rattle.model.specs.declared.Settings.{Settings}
+use Rattle.model.specs.RoundSheet.{headerSize}
 use Rattle.sheet_sizes.proofs.Bounds.{byte-entries-most}
 use Rattle.rows.proofs.Parts.{row-entries-most, row-most, past-last, past-end, row-lies}
 use Rattle.rows.proofs.row_part.Statement.{statement}
@@ -21,7 +22,7 @@ module _ (c : tie.After-row-entries) where
   small : settings .n ≤ 255
   small = omega arith
 
-  start : c .before .row-start .result ≤ 325133
+  start : c .before .row-start .result ≤ headerSize + 325125
   start =
       let entries = byte-entries-most settings small in
       let rows = row-most settings small r (c .before .before .if1 .left) in

@@ -21,13 +21,18 @@ word-at-requires c κs = search needs
 
 returns : tie.Need-returns
 returns c =
+    let window = c in
+    let estimator = window .before in
+    let rule = estimator .before in
+    let m = rule .before in
+    let n = m .before in
     λ i.
     record {
-      n = c .before .before .before .before .byte-at .ensures i;
-      m = c .before .before .before .byte-at2 .ensures i;
-      rule = c .before .before .byte-at3 .ensures i;
-      estimator = c .before .byte-at4 .ensures i;
-      window = c .word-at .ensures i;
+      n = n .byte-at .ensures i;
+      m = m .byte-at2 .ensures i;
+      rule = rule .byte-at3 .ensures i;
+      estimator = estimator .byte-at4 .ensures i;
+      window = window .word-at .ensures i;
     }
 
 pub settings-at-spec : {M : Type 1} → statement M

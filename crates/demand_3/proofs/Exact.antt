@@ -15,11 +15,12 @@ use Rattle.model.specs.Steps.{mean}
 use Rattle.round_laws.specs.Naturals.{mean-nat}
 use Rattle.value_laws.proofs.Means.{mean-shift}
 use Rattle.limit_laws.proofs.Means.{rise, fall, fall-room, fall-least, rise-ceil, rise-fall-ceil}
-use Rattle.demand_3.specs.Guarantee.{Station, N, m, δ, κ, Start, Sends, Allowed, Each, start}
+use Rattle.run.specs.Run.{Station, N, m, δ, κ, Start, Sends, Allowed, start}
+use Rattle.demand_3.specs.Guarantee.{Each}
 use Rattle.demand_3.specs.Guarantee.{apart, Good, bad, First, Wide, wideGap}
 use Rattle.demand_3.specs.Exact.{excess, exactGap, exactError, Exact, Sharper, ExactFirst, ExactLimits}
 use Rattle.demand_3.proofs.Distances.{mean-above-zero, mean-below-zero}
-use Rattle.demand_3.proofs.Ready.{ready-start, some-n}
+use Rattle.run.proofs.Ready.{ready-start, some-n}
 use Rattle.demand_3.proofs.Round.{many-precise, many-accurate}
 
 -- what the mean makes of x, and of -x

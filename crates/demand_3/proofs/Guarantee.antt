@@ -11,11 +11,13 @@ use lib.IntN.{ℤ}
 use lib.ListN.{length}
 use Rattle.model.specs.declared.Settings.{Settings}
 use Rattle.model.specs.Planner.{Plan, advance, nextWindow, growth, withWindow, maxRounds}
-use Rattle.demand_3.specs.Guarantee.{Station, m, Start, Sends, Allowed, State, start, next, newValue, apart}
+use Rattle.run.specs.Run.{Station, m, Start, Sends, Allowed, State, start, next}
+use Rattle.demand_3.specs.Guarantee.{newValue, apart}
 use Rattle.demand_3.specs.Guarantee.{Good}
 use Rattle.demand_3.specs.Guarantee.{bad, Every, closeGap, closeError, Close, Each, Demand3}
-use Rattle.demand_3.proofs.Ready.{Ready, plan-settings, next-plan, orderly, ready-next, ready-start}
-use Rattle.demand_3.proofs.Ready.{every-orderly}
+use Rattle.run.proofs.Ready.{Ready, plan-settings, next-plan, ready-next, ready-start}
+use Rattle.demand_3.proofs.Orderly.{orderly}
+use Rattle.demand_3.proofs.Orderly.{every-orderly}
 use Rattle.demand_3.proofs.Round.{stationAt, faults-bad, round-unrefused, round-precise, round-accurate}
 use Rattle.demand_3.proofs.Round.{round-present}
 use Rattle.demand_3.proofs.Exact.{exact-limits, exact-wide}

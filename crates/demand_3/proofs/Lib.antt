@@ -1,10 +1,7 @@
 pub mod Computed
 pub mod Distances
-pub mod Entries
-pub mod Filled
-pub mod Link
 pub mod Received
-pub mod Ready
+pub mod Orderly
 pub mod Round
 pub mod Exact
 pub mod Guarantee

@@ -18,7 +18,8 @@ use Rattle.planner_laws.proofs.Rounds.{settings-after}
 use Rattle.planner_laws.proofs.Verdicts.{granted-check}
 use Rattle.round_laws.specs.Naturals.{mean-nat}
 use Rattle.limit_laws.proofs.Means.{rise, fall-rise}
-use Rattle.demand_3.specs.Guarantee.{Station, N, δ, κ, Sends, State, start, next, bad, Every, First, Close}
+use Rattle.run.specs.Run.{Station, N, δ, κ, Sends, State, start, next}
+use Rattle.demand_3.specs.Guarantee.{bad, Every, First, Close}
 use Rattle.demand_3.specs.Guarantee.{Wide, wideGap, wideError, Guarantee}
 use Rattle.demand_3.specs.Exact.{excess, exactGap, exactError, ExactFirst}
 use Rattle.demand_3.specs.Regulator.{SevenPlannedForTwo, nearestSeventh, ManyBad, sevenths, windowOf, accuracyOf}

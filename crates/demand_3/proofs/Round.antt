@@ -32,12 +32,13 @@ use Rattle.limit_laws.proofs.Settled.{Receiver, accepts, valueBy, CloseValues, 
 use Rattle.limit_laws.proofs.Settled.{Reads, Truth}
 use Rattle.limit_laws.proofs.Limits.{Accurate, accuracy-many, precision-many, unrefused, accuracy-few, precision-few}
 use Rattle.limit_laws.proofs.Limits.{precision-median}
-use Rattle.demand_3.specs.Guarantee.{IsReading, Station, N, m, Start, Sends, Allowed, State, settled, next}
+use Rattle.run.specs.Run.{IsReading, Station, N, m, Start, Sends, Allowed, State, settled, next}
 use Rattle.demand_3.specs.Guarantee.{newValue, Unrefused, apart, Good, bad}
 use Rattle.demand_3.proofs.Distances.{dist-above, dist-below, dist-of, fits-mag}
-use Rattle.demand_3.proofs.Entries.{seen, seen-held, seen-held-or-not, seen-alike}
-use Rattle.demand_3.proofs.Link.{found}
-use Rattle.demand_3.proofs.Ready.{Ready, planned, reads, grants, new-value, accepts-some}
+use Rattle.run.proofs.Entries.{seen, seen-held, seen-held-or-not, seen-alike}
+use Rattle.run.proofs.Link.{found}
+use Rattle.run.proofs.Ready.{Ready, planned, reads, grants, accepts-some}
+use Rattle.demand_3.proofs.Orderly.{new-value}
 use Rattle.demand_3.proofs.Received.{received, received-count}
 
 abbrev pub stationAt : Station → State → Station

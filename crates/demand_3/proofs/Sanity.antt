@@ -10,13 +10,15 @@ use lib.IntN.{ℤ, pos}
 use lib.ListN.{length}
 use Rattle.arithmetic.proofs.Bools.{clash}
 use Rattle.model.specs.Planner.{maxRounds}
-use Rattle.demand_3.specs.Guarantee.{Station, Start, Sends, Allowed, Each, start, Good}
+use Rattle.run.specs.Run.{Station, Start, Sends, Allowed, start}
+use Rattle.demand_3.specs.Guarantee.{Each, Good}
 use Rattle.demand_3.specs.Guarantee.{Every, First, Orderly, Close, Wide, Guarantee}
 use Rattle.demand_3.specs.Exact.{ExactFirst}
 use Rattle.demand_3.specs.Regulator.{SevenPlannedForTwo, ThreeBad}
-use Rattle.demand_3.specs.Witnesses.{Meets, below, wideStation, wideSends, exactStation, exactSends}
-use Rattle.demand_3.specs.Witnesses.{directStation, directFirst, directSecond}
-use Rattle.demand_3.specs.Witnesses.{crusadersStation, crusadersFirst, crusadersSecond}
+use Rattle.run.specs.Rounds.{below, wideStation, wideSends, exactStation, exactSends}
+use Rattle.demand_3.specs.Witnesses.{Meets}
+use Rattle.run.specs.Rounds.{directStation, directFirst, directSecond}
+use Rattle.run.specs.Rounds.{crusadersStation, crusadersFirst, crusadersSecond}
 use Rattle.demand_3.proofs.Exact.{exact-limits}
 use Rattle.demand_3.proofs.Guarantee.{guarantee}
 use Rattle.demand_3.proofs.Regulator.{regulators-case}

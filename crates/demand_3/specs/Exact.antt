@@ -20,8 +20,10 @@ use lib.IntN.{ℤ, pos, _-ℤ_}
 use lib.ListN.{length}
 use Rattle.model.specs.Steps.{mean}
 use Rattle.model.specs.Planner.{maxRounds}
-use Rattle.demand_3.specs.Guarantee.{Station, N, m, δ, κ, Start, Sends, Allowed, Each, State, start}
-use Rattle.demand_3.specs.Guarantee.{newValue, Unrefused, Sound, apart, Good, bad, First, wideGap, wideError}
+use Rattle.run.specs.Run.{Station, N, m, δ, κ, Start, Sends, Allowed, State, start}
+use Rattle.demand_3.specs.Guarantee.{Each}
+use Rattle.run.specs.Run.{Sound}
+use Rattle.demand_3.specs.Guarantee.{newValue, Unrefused, apart, Good, bad, First, wideGap, wideError}
 
 -- "the mean of N used values to the nearest whole number, a half going up"
 abbrev pub near : Station → ℤ → ℤ

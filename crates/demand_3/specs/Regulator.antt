@@ -30,8 +30,10 @@ use Rattle.model.specs.RoundSheet.{cca, median}
 use Rattle.model.specs.AnswerSheet.{answerLength}
 use Rattle.model.specs.Planner.{ceilDiv, planFrom, after, maxRounds}
 use Rattle.model.specs.Calls.{granted}
-use Rattle.demand_3.specs.Guarantee.{Station, N, m, δ, κ, Start, Sends, Allowed, Each, State, start, next}
-use Rattle.demand_3.specs.Guarantee.{settled, newValue, Unrefused, Sound, apart, Good, bad, First}
+use Rattle.run.specs.Run.{Station, N, m, δ, κ, Start, Sends, Allowed, State, start, next}
+use Rattle.demand_3.specs.Guarantee.{Each}
+use Rattle.run.specs.Run.{settled, Sound}
+use Rattle.demand_3.specs.Guarantee.{newValue, Unrefused, apart, Good, bad, First}
 
 pub record SevenPlannedForTwo (st : Station) : Type 0 where
   pub seven : N st ≡ 7

@@ -15,7 +15,8 @@ use Rattle.model.specs.declared.Refusal.{Refusal}
 use Rattle.model.specs.Ensemble.{missing}
 use Rattle.model.specs.RoundSheet.{fca, median}
 use Rattle.model.specs.Refusals.{Check, firstOf, planChecks}
-use Rattle.demand_3.specs.Guarantee.{Station, wideGap, wideError}
+use Rattle.run.specs.Run.{Station}
+use Rattle.demand_3.specs.Guarantee.{wideGap, wideError}
 use Rattle.demand_3.specs.Exact.{exactGap, exactError}
 use Rattle.limits.specs.declared.Limits.{Limits}
 use Rattle.limits.specs.declared.Wider.{Wider}

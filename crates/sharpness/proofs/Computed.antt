@@ -16,8 +16,8 @@ use Rattle.model.specs.Refusals.{firstOf, tooShort, badCabinets, badFaults, bad
 use Rattle.model.specs.Refusals.{badMark, badMissing, tooManyFaults, badPlan, settingsChecks, sheetChecks, entryChecks}
 use Rattle.model.specs.Refusals.{writeChecks, settleChecks, planChecks, stepChecks}
 use Rattle.model.specs.Calls.{write, settle, step}
-use Rattle.demand_3.specs.Guarantee.{Station, State, Sends, heard, entryOf, sheetOf, settled, next}
-use Rattle.demand_3.specs.Witnesses.{below, listed}
+use Rattle.run.specs.Run.{Station, State, Sends, heard, entryOf, sheetOf, settled, next}
+use Rattle.run.specs.Rounds.{below, listed}
 use Rattle.sharpness.specs.Sharpness.{Covered, Reached}
 use Rattle.sharpness.proofs.Worst.{spread, firstReading, worstStation, worstSends, trueValue}
 use Rattle.sharpness.proofs.Run.{meets}

@@ -25,9 +25,11 @@ use Rattle.model.specs.AnswerSheet.{answerLength}
 use Rattle.model.specs.Planner.{ceilDiv}
 use Rattle.model.specs.Cases.{settings, at}
 use Rattle.planner_laws.proofs.Checks.{MayStart, none-may-start}
-use Rattle.demand_3.specs.Guarantee.{IsReading, Start, Allowed, start, heard, Good, bad}
-use Rattle.demand_3.specs.Witnesses.{below, listed, Meets}
-use Rattle.demand_3.proofs.Entries.{heard-sound, seen, seen-direct}
+use Rattle.run.specs.Run.{IsReading, Start, Allowed, start, heard}
+use Rattle.demand_3.specs.Guarantee.{Good, bad}
+use Rattle.run.specs.Rounds.{below, listed}
+use Rattle.demand_3.specs.Witnesses.{Meets}
+use Rattle.run.proofs.Entries.{heard-sound, seen, seen-direct}
 use Rattle.sharpness.specs.Sharpness.{Covered}
 use Rattle.sharpness.proofs.Worst.{needed, spread, firstReading, worstStation, worstSends, trueValue}
 use Rattle.sharpness.proofs.Intervals.{count-below}

@@ -15,7 +15,8 @@ use Rattle.model.specs.Ensemble.{maxWindow}
 use Rattle.model.specs.Planner.{maxAccuracy}
 use Rattle.round_laws.specs.Naturals.{mean-nat}
 use Rattle.planner_laws.proofs.Checks.{may-start-none}
-use Rattle.demand_3.specs.Guarantee.{Station, apart}
+use Rattle.run.specs.Run.{Station}
+use Rattle.demand_3.specs.Guarantee.{apart}
 use Rattle.demand_3.specs.Exact.{exactGap, exactError}
 use Rattle.demand_3.specs.Regulator.{nearestSeventh}
 use Rattle.sharpness.specs.Sharpness.{Covered, Reached, SevenAt, SevenReached}

@@ -21,10 +21,11 @@ use Rattle.model.specs.Cases.{settings}
 use Rattle.round_laws.specs.Naturals.{mean-nat}
 use Rattle.value_laws.proofs.Means.{mean-mono, mean-lower}
 use Rattle.limit_laws.proofs.Settled.{Receiver, accepts, usedBy, valueBy}
-use Rattle.demand_3.specs.Guarantee.{Station, State, Sends, start, next, newValue, apart}
-use Rattle.demand_3.specs.Witnesses.{below}
-use Rattle.demand_3.proofs.Ready as ready
-use Rattle.demand_3.proofs.Ready.{ready-start}
+use Rattle.run.specs.Run.{Station, State, Sends, start, next}
+use Rattle.demand_3.specs.Guarantee.{newValue, apart}
+use Rattle.run.specs.Rounds.{below}
+use Rattle.demand_3.proofs.Orderly as orderly
+use Rattle.run.proofs.Ready.{ready-start}
 use Rattle.demand_3.proofs.Received.{received-count}
 use Rattle.sharpness.specs.Sharpness.{Covered, AlwaysReached}
 use Rattle.sharpness.proofs.Worst.{needed, spread, worstStation, worstSends, trueValue}
@@ -55,7 +56,7 @@ module _ (n m t δ κ : ℕ) (h : Covered n m t δ κ) where
         → next st now x .held p ≡ present (down K (valueBy n m δ (reader p)))
     unfolding worstStation has
     holds p some-acc =
-        ready.new-value st (starts n m t δ κ h) 0 now (ready-start st (starts n m t δ κ h)) x (allowed n m t δ κ h) p
+        orderly.new-value st (starts n m t δ κ h) 0 now (ready-start st (starts n m t δ κ h)) x (allowed n m t δ κ h) p
         (subst⁻¹ (λ (a : ℕ). 0 < a)
         (received-count (settings n m fca median δ) (sees n m t δ κ p) (reads n m t δ κ h p) K far)
         some-acc)

@@ -18,10 +18,10 @@ use Rattle.model.specs.Ensemble.{Reading, present, isPresent, ticks}
 use Rattle.model.specs.RoundSheet.{fca, median}
 use Rattle.model.specs.Cases.{settings}
 use Rattle.limit_laws.proofs.Settled.{Receiver}
-use Rattle.demand_3.specs.Guarantee.{IsReading, start}
-use Rattle.demand_3.specs.Witnesses.{listed}
-use Rattle.demand_3.proofs.Ready as ready
-use Rattle.demand_3.proofs.Ready.{ready-start}
+use Rattle.run.specs.Run.{IsReading, start}
+use Rattle.run.specs.Rounds.{listed}
+use Rattle.run.proofs.Ready as ready
+use Rattle.run.proofs.Ready.{ready-start}
 use Rattle.demand_3.proofs.Received.{received}
 use Rattle.sharpness.specs.Sharpness.{Covered}
 use Rattle.sharpness.proofs.Worst.{needed, spread, firstReading, worstStation, worstSends}

@@ -14,8 +14,8 @@ use Rattle.model.specs.Ensemble.{present}
 use Rattle.model.specs.RoundSheet.{fca, median}
 use Rattle.model.specs.Planner.{ceilDiv}
 use Rattle.model.specs.Cases.{settings, at}
-use Rattle.demand_3.specs.Guarantee.{Station, Sends}
-use Rattle.demand_3.specs.Witnesses.{below, twoFaced}
+use Rattle.run.specs.Run.{Station, Sends}
+use Rattle.run.specs.Rounds.{below, twoFaced}
 
 -- how many sound cabinets the t faulty ones need beside them for a span to hold N-m readings
 abbrev pub needed : ℕ → ℕ → ℕ → ℕ

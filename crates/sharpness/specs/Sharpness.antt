@@ -22,7 +22,8 @@ use Rattle.model.specs.Refusals.{firstOf, planChecks}
 use Rattle.model.specs.Cases.{settings}
 use Rattle.model.specs.Ensemble.{maxWindow}
 use Rattle.model.specs.Planner.{maxAccuracy}
-use Rattle.demand_3.specs.Guarantee.{Station, Sends, start, Unrefused, Sound, bad}
+use Rattle.run.specs.Run.{Station, Sends, start, Sound}
+use Rattle.demand_3.specs.Guarantee.{Unrefused, bad}
 use Rattle.demand_3.specs.Exact.{exactGap, exactError}
 use Rattle.demand_3.specs.Regulator.{nearestSeventh}
 use Rattle.demand_3.specs.Witnesses.{gap, error, Meets}

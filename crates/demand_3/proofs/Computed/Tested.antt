@@ -20,8 +20,10 @@ use Rattle.model.specs.declared.Settings.{Settings}
 use Rattle.model.specs.Ensemble.{Reading, missing, present, isPresent, ticks}
 use Rattle.model.specs.AnswerSheet.{answerLength}
 use Rattle.model.specs.Refusals.{firstOf, planChecks}
-use Rattle.demand_3.specs.Guarantee.{IsReading, Station, N, δ, κ, Sends, Allowed, Each, apart, Good}
-use Rattle.demand_3.specs.Witnesses.{listed, station, twoFaced, Meets}
+use Rattle.run.specs.Run.{IsReading, Station, N, δ, κ, Sends, Allowed}
+use Rattle.demand_3.specs.Guarantee.{Each, apart, Good}
+use Rattle.run.specs.Rounds.{listed, station, twoFaced}
+use Rattle.demand_3.specs.Witnesses.{Meets}
 
 -- ---- readings of 32 bits
 

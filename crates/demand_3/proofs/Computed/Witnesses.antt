@@ -1,43 +1,41 @@
--- The limits are reached: the claims of specs/Witnesses.antt, computed from the first readings to the last byte.
+-- The limits are reached: the claims of specs/Witnesses.antt. What cabinets hold was computed through every byte
+-- (`rounds-computed` of crate run); here it is laid beside the limits.
 -- Assumes nothing.
-use mathlib.Core.List.{[], _∷_}
-use mathlib.Core.Path.{refl}
+use mathlib.Core.List.{List, [], _∷_}
+use mathlib.Core.Path.{_≡_, refl, sym, ap, ap₂, _∙_}
+use Prim.Native.Nat.{ℕ, _<_}
 use lib.Dec.{lit<}
-use lib.IntN.{pos}
-use Rattle.arithmetic.specs.Counting.{count, anyBelow, lowest, sum}
-use Rattle.arithmetic.specs.Writing.{table, overwrite}
-use Rattle.model.specs.RoundSheet.{word, entryCount, entryAt, bytes4, readingBytes, sizeBytes, sheetBytes}
-use Rattle.model.specs.AnswerSheet.{answerHeader, answerBytes}
-use Rattle.model.specs.Steps.{decideRow, readingsOf, accepted, acceptedAt, numbered, averageOf, medianOf, midpointOf}
-use Rattle.model.specs.Steps.{estimate, mean, roundOf, roundAt}
-use Rattle.model.specs.Planner.{ceilDiv, windowFactor, nextWindow, growth, advance}
-use Rattle.model.specs.Refusals.{firstOf, tooShort, badCabinets, badFaults, badMethod, badWindow, badLength, noRoom}
-use Rattle.model.specs.Refusals.{badMark, badMissing, tooManyFaults, badPlan, settingsChecks, sheetChecks, entryChecks}
-use Rattle.model.specs.Refusals.{writeChecks, settleChecks, planChecks, stepChecks}
-use Rattle.model.specs.Calls.{write, settle, step}
-use Rattle.demand_3.specs.Guarantee.{Station, State, Sends, heard, entryOf, sheetOf, settled, next}
-use Rattle.demand_3.specs.Witnesses.{below, listed, Meets, wideStation, wideSends, WideReached}
-use Rattle.demand_3.specs.Witnesses.{exactStation, exactSends, ExactReached, halfStation, halfSends, HalfReached}
-use Rattle.demand_3.specs.Witnesses.{bothStation, bothSends, BothKindsCounted}
-use Rattle.demand_3.specs.Witnesses.{closeStation, closeSends, CloseReached}
-use Rattle.demand_3.specs.Witnesses.{medianStation, medianSends, MedianReached}
-use Rattle.demand_3.specs.Witnesses.{averageStation, averageSends, AverageReached}
-use Rattle.demand_3.specs.Witnesses.{mixedStation, mixedSends, MixedRefused}
-use Rattle.demand_3.specs.Witnesses.{directStation, directFirst, directSecond, directNext, DirectRounds}
-use Rattle.demand_3.specs.Witnesses.{crusadersStation, crusadersFirst, crusadersSecond, crusadersNext}
-use Rattle.demand_3.specs.Witnesses.{CrusadersRounds}
+use lib.IntN.{ℤ, pos}
+use lib.ListN.{getD}
+use Rattle.arithmetic.proofs.Writing.{getD-table}
+use Rattle.model.specs.Ensemble.{Reading, missing, ticks}
+use Rattle.run.specs.Run.{Station, State, Sends, start, next}
+use Rattle.run.specs.Rounds.{below, heldAfter, wideStation, wideSends, exactStation, exactSends, halfStation, halfSends}
+use Rattle.run.specs.Rounds.{closeStation, closeSends, medianStation, medianSends, averageStation, averageSends}
+use Rattle.run.specs.Rounds.{bothStation, bothSends, mixedStation, mixedSends}
+use Rattle.run.specs.Rounds.{directStation, directFirst, directSecond, directNext}
+use Rattle.run.specs.Rounds.{crusadersStation, crusadersFirst, crusadersSecond, crusadersNext}
+use Rattle.run.proofs.Computed.{computed, rounds-computed}
+use Rattle.demand_3.specs.Guarantee.{apart}
+use Rattle.demand_3.specs.Witnesses.{gap, error, Meets, WideReached, ExactReached, HalfReached, CloseReached}
+use Rattle.demand_3.specs.Witnesses.{MedianReached, AverageReached, BothKindsCounted, MixedRefused}
+use Rattle.demand_3.specs.Witnesses.{DirectRounds, CrusadersRounds}
 use Rattle.demand_3.proofs.Computed.Tested.{sends-tested, meets-tested}
 
--- a round, with all that it computes by: whoever unfolds it unfolds its line
-computed : Station → State → Sends → State
-unfolding count anyBelow lowest sum table overwrite
-    word entryCount entryAt bytes4 readingBytes sizeBytes sheetBytes answerHeader answerBytes
-    decideRow readingsOf accepted acceptedAt numbered averageOf medianOf midpointOf estimate mean roundOf roundAt
-    ceilDiv windowFactor nextWindow growth advance
-    firstOf tooShort badCabinets badFaults badMethod badWindow badLength noRoom badMark badMissing tooManyFaults badPlan
-    settingsChecks sheetChecks entryChecks writeChecks settleChecks planChecks stepChecks
-    write settle step heard entryOf sheetOf settled next listed
-computed = next
+-- from what the first k cabinets hold
+module _ (st : Station) (now : State) (x : Sends) (k : ℕ) {held : List Reading} (h : heldAfter st now x k ≡ held) where
+  value-of : (p : ℕ) → p < k → ticks (next st now x .held p) ≡ ticks (getD held p missing)
+  value-of p l =
+      ap ticks
+      (sym (getD-table (next st now x .held) k p missing l) ∙ ap (λ (rs : List Reading). getD rs p missing) h)
+
+  gap-of :
+      (p q : ℕ) → p < k → q < k
+      → gap st now x p q ≡ apart (ticks (getD held p missing)) (ticks (getD held q missing))
+  gap-of p q lp lq = ap₂ apart (value-of p lp) (value-of q lq)
+
+  error-of : (p : ℕ) (truth : ℤ) → p < k → error st now x p truth ≡ apart (ticks (getD held p missing)) truth
+  error-of p truth l = ap (λ (z : ℤ). apart z truth) (value-of p l)
 
 -- ---- m < t < N-m
 
@@ -53,9 +51,8 @@ wide-reached =
     record {
       meets = wide-meets;
       counts = refl;
-      values = refl;
-      widest = refl;
-      farthest = refl;
+      widest = gap-of wideStation (start wideStation) wideSends 4 (rounds-computed .wide) 0 1 (lit< tt) (lit< tt);
+      farthest = error-of wideStation (start wideStation) wideSends 4 (rounds-computed .wide) 1 (pos 0) (lit< tt);
       same-gap = refl;
       same-error = refl;
     }
@@ -72,10 +69,9 @@ exact-reached =
     record {
       meets = exact-meets;
       counts = refl;
-      values = refl;
-      widest = refl;
+      widest = gap-of exactStation (start exactStation) exactSends 4 (rounds-computed .exact) 0 1 (lit< tt) (lit< tt);
       document-gap = refl;
-      farthest = refl;
+      farthest = error-of exactStation (start exactStation) exactSends 4 (rounds-computed .exact) 1 (pos 0) (lit< tt);
       document-error = refl;
     }
 
@@ -87,7 +83,13 @@ half-meets =
 
 pub half-reached : HalfReached
 unfolding computed halfStation halfSends
-half-reached = record { meets = half-meets; counts = refl; values = refl; widest = refl; farthest = refl }
+half-reached =
+    record {
+      meets = half-meets;
+      counts = refl;
+      widest = gap-of halfStation (start halfStation) halfSends 2 (rounds-computed .half) 0 1 (lit< tt) (lit< tt);
+      farthest = error-of halfStation (start halfStation) halfSends 2 (rounds-computed .half) 1 (pos 1) (lit< tt);
+    }
 
 -- ---- t ≤ m
 
@@ -99,7 +101,13 @@ close-meets =
 
 pub close-reached : CloseReached
 unfolding computed closeStation closeSends
-close-reached = record { meets = close-meets; counts = refl; values = refl; widest = refl; farthest = refl }
+close-reached =
+    record {
+      meets = close-meets;
+      counts = refl;
+      widest = gap-of closeStation (start closeStation) closeSends 3 (rounds-computed .close) 0 1 (lit< tt) (lit< tt);
+      farthest = error-of closeStation (start closeStation) closeSends 3 (rounds-computed .close) 1 (pos 0) (lit< tt);
+    }
 
 median-meets : Meets medianStation (medianSends ∷ []) (below 3) (pos 0)
 unfolding medianStation medianSends
@@ -109,7 +117,12 @@ median-meets =
 
 pub median-reached : MedianReached
 unfolding computed medianStation medianSends
-median-reached = record { meets = median-meets; counts = refl; values = refl; widest = refl }
+median-reached =
+    record {
+      meets = median-meets;
+      counts = refl;
+      widest = gap-of medianStation (start medianStation) medianSends 3 (rounds-computed .median) 0 1 (lit< tt) (lit< tt);
+    }
 
 average-meets : Meets averageStation (averageSends ∷ []) (below 3) (pos 1)
 unfolding averageStation averageSends
@@ -119,7 +132,13 @@ average-meets =
 
 pub average-reached : AverageReached
 unfolding computed averageStation averageSends
-average-reached = record { meets = average-meets; counts = refl; values = refl; widest = refl; above = lit< tt }
+average-reached =
+    record {
+      meets = average-meets;
+      counts = refl;
+      widest = gap-of averageStation (start averageStation) averageSends 3 (rounds-computed .average) 0 1 (lit< tt) (lit< tt);
+      above = rw (gap-of averageStation (start averageStation) averageSends 3 (rounds-computed .average) 0 1 (lit< tt) (lit< tt)) (lit< tt);
+    }
 
 -- ---- what t counts
 
@@ -132,7 +151,13 @@ both-meets =
 pub both-kinds-counted : BothKindsCounted
 unfolding computed bothStation bothSends
 both-kinds-counted =
-    record { meets = both-meets; counts = refl; faulty = refl; values = refl; widest = refl; above = lit< tt }
+    record {
+      meets = both-meets;
+      counts = refl;
+      faulty = refl;
+      widest = gap-of bothStation (start bothStation) bothSends 6 (rounds-computed .both) 0 1 (lit< tt) (lit< tt);
+      above = rw (gap-of bothStation (start bothStation) bothSends 6 (rounds-computed .both) 0 1 (lit< tt) (lit< tt)) (lit< tt);
+    }
 
 mixed-meets : Meets mixedStation (mixedSends ∷ []) (below 2) (pos 0)
 unfolding mixedStation mixedSends
@@ -142,7 +167,13 @@ mixed-meets =
 
 pub mixed-refused : MixedRefused
 unfolding computed mixedStation mixedSends
-mixed-refused = record { meets = mixed-meets; counts = refl; faulty = refl; refuses = refl }
+mixed-refused =
+    record {
+      meets = mixed-meets;
+      counts = refl;
+      faulty = refl;
+      refuses = rounds-computed .mixed;
+    }
 
 -- ---- two rounds
 
@@ -155,7 +186,11 @@ direct-meets =
 pub direct-rounds : DirectRounds
 unfolding computed directStation directFirst directSecond directNext
 direct-rounds =
-    record { meets = direct-meets; counts = refl; first = refl; second = refl; widest = refl; repeated = refl }
+    record {
+      meets = direct-meets;
+      counts = refl;
+      widest = gap-of directStation directNext directSecond 3 (rounds-computed .direct-second) 0 1 (lit< tt) (lit< tt);
+    }
 
 crusaders-meets : Meets crusadersStation (crusadersFirst ∷ crusadersSecond ∷ []) (below 3) (pos 0)
 unfolding crusadersStation crusadersFirst crusadersSecond
@@ -169,10 +204,7 @@ crusaders-rounds =
     record {
       meets = crusaders-meets;
       counts = refl;
-      first = refl;
-      widest = refl;
-      farthest = refl;
-      second = refl;
+      widest = gap-of crusadersStation (start crusadersStation) crusadersFirst 3 (rounds-computed .crusaders-first) 0 1 (lit< tt) (lit< tt);
+      farthest = error-of crusadersStation (start crusadersStation) crusadersFirst 3 (rounds-computed .crusaders-first) 0 (pos 0) (lit< tt);
       limit = refl;
-      repeated = refl;
     }

@@ -3,18 +3,14 @@
 -- plan's step is granted; and the next state is ready.
 -- Assumes nothing.
 use mathlib.Core.Bool.{true}
-use mathlib.Core.List.{List, [], _∷_}
 use mathlib.Core.Logic.{_⊎_, inl, inr}
 use mathlib.Core.Option.{none}
 use mathlib.Core.Path.{_≡_, refl, sym, ap, _∙_, subst, subst⁻¹}
-use Prim.Native.Nat.{ℕ, zero, suc, _+_, _*_, _≤_, _<_}
+use Prim.Native.Nat.{ℕ, zero, suc, _*_, _<_}
 use native.Mathlib.Omega.{arith}
-use lib.ListN.{length}
 use mir.Syntax.{w32}
 use mir.Val.{SFits}
 use Rattle.arithmetic.proofs.Bools.{clash}
-use Rattle.arithmetic.specs.Naturals.{down}
-use Rattle.arithmetic.specs.Words.{twoTo31}
 use Rattle.model.specs.declared.Settings.{Settings}
 use Rattle.model.specs.Ensemble.{missing, present, isPresent, ticks}
 use Rattle.model.specs.RoundSheet.{entryCount}
@@ -27,12 +23,11 @@ use Rattle.planner_laws.proofs.Checks.{none-may-start}
 use Rattle.planner_laws.proofs.Rounds.{settings-after}
 use Rattle.planner_laws.proofs.Steps.{start-step-granted}
 use Rattle.planner_laws.proofs.Windows.{passes-after}
-use Rattle.limit_laws.proofs.Settled.{valueBy}
-use Rattle.demand_3.specs.Guarantee.{IsReading, Station, N, m, κ, Start, Sends, Allowed, State, start, entryOf}
-use Rattle.demand_3.specs.Guarantee.{settled, holds, next, Sound, Every, Orderly, Each}
-use Rattle.demand_3.proofs.Entries.{seen, seen-reading, entry-fits}
-use Rattle.demand_3.proofs.Link.{found, settled-refused, settled-granted, settled-holds}
-use Rattle.demand_3.proofs.Received.{received, received-value, new-value-fits}
+use Rattle.value_laws.proofs.Fits as values
+use Rattle.run.specs.Run.{IsReading, Station, N, m, κ, Start, Sends, Allowed, State, start, entryOf}
+use Rattle.run.specs.Run.{settled, holds, next, Sound}
+use Rattle.run.proofs.Entries.{reading-fits, seen, seen-reading, entry-fits}
+use Rattle.run.proofs.Link.{found, settled-refused, settled-granted, settled-holds}
 
 -- j rounds are done before
 pub record Ready (st : Station) (j : ℕ) (now : State) : Type 0 where
@@ -68,7 +63,7 @@ module _ (st : Station) (begins : Start st) (j : ℕ) (now : State) (ready : Rea
   pass : firstOf (settingsChecks c) ≡ none
   pass = limits-pass c limits-hold
 
-  plan-steps : j < maxRounds → step (now .plan) ≡ granted (advance (now .plan))
+  pub plan-steps : j < maxRounds → step (now .plan) ≡ granted (advance (now .plan))
   unfolding after
   plan-steps early =
       subst⁻¹ (λ (p : Plan). step p ≡ granted (advance p)) (ready .plan)
@@ -89,32 +84,26 @@ module _ (st : Station) (begins : Start st) (j : ℕ) (now : State) (ready : Rea
     -- ---- a cabinet's sheet
 
     module _ (p : ℕ) where
-      refuses : found st now x w p .count ≡ 0 → settled st now x p .verdict ≡ refused (refusal tooManyFaultsNumber 0)
+      pub refuses : found st now x w p .count ≡ 0 → settled st now x p .verdict ≡ refused (refusal tooManyFaultsNumber 0)
       refuses = settled-refused st now x w p plan-settings pass allowed (fits p)
 
       pub grants : 0 < found st now x w p .count → settled st now x p .verdict ≡ granted (answerLength (N st))
       grants = settled-granted st now x w p plan-settings pass allowed (fits p)
 
       -- where no reading is accepted p holds nothing, and else the round's new value
-      holds-nothing : found st now x w p .count ≡ 0 → next st now x .held p ≡ missing
+      pub holds-nothing : found st now x w p .count ≡ 0 → next st now x .held p ≡ missing
       unfolding next
       holds-nothing e = ap (λ (v : Verdict ℕ). holds v (settled st now x p .buffer)) (refuses e)
 
       module _ (some-acc : 0 < found st now x w p .count) where
         value-fits : SFits w32 (found st now x w p .value)
-        value-fits = new-value-fits c (seen st now x w p) (reads p) some-n some-acc
+        value-fits =
+            values.value-fits c (seen st now x w p) (λ r l. reading-fits (seen st now x w p r) (reads p r l))
+            some-acc some-n
 
-        holds-value : next st now x .held p ≡ present (found st now x w p .value)
+        pub holds-value : next st now x .held p ≡ present (found st now x w p .value)
         unfolding next
         holds-value = settled-holds st now x w p plan-settings pass allowed (fits p) some-acc value-fits
-
-        -- as a natural, moved down by k
-        pub new-value :
-            (k : ℕ) → twoTo31 ≤ k
-            → next st now x .held p
-            ≡ present (down k (valueBy (N st) (m st) w (received c (seen st now x w p) (reads p) k)))
-        new-value k h =
-            holds-value ∙ ap present (received-value c (seen st now x w p) (reads p) k h some-n some-acc)
 
       -- by what p accepts
       either : {A : Type 0} → (found st now x w p .count ≡ 0 → A) → (0 < found st now x w p .count → A) → A
@@ -127,7 +116,7 @@ module _ (st : Station) (begins : Start st) (j : ℕ) (now : State) (ready : Rea
       pub accepts-some : isPresent (next st now x .held p) ≡ true → 0 < found st now x w p .count
       accepts-some e = either (λ h. clash e (ap isPresent (holds-nothing h))) (λ h. h)
 
-      passes :
+      pub passes :
           (settled st now x p .verdict ≡ granted (answerLength (N st)))
           ⊎ (settled st now x p .verdict ≡ refused (refusal tooManyFaultsNumber 0))
       passes = either (λ h. inr (refuses h)) (λ h. inl (grants h))
@@ -145,9 +134,6 @@ module _ (st : Station) (begins : Start st) (j : ℕ) (now : State) (ready : Rea
       unfolding next
       next-plan = rw (plan-steps early)
 
-      pub orderly : Orderly st now x
-      orderly = record { passes = λ p s. passes p; steps = plan-steps early ∙ ap granted (sym next-plan) }
-
       pub ready-next : Ready st (suc j) (next st now x)
       unfolding after
       ready-next = record { plan = next-plan ∙ ap advance (ready .plan); readings = λ p s. holds-reading p }
@@ -156,14 +142,3 @@ module _ (st : Station) (begins : Start st) where
   pub ready-start : Ready st 0 (start st)
   unfolding after
   ready-start = record { plan = refl; readings = λ r s. begins .readings r }
-
-  pub every-orderly :
-      (rounds : List Sends) (now : State) (j : ℕ) → j + length rounds ≤ maxRounds → Each (Allowed st) rounds
-      → Ready st j now → Every st (Orderly st) now rounds
-  every-orderly [] now j l each ready = tt
-  every-orderly (x ∷ xs) now j l each ready =
-      let early : j < maxRounds = omega arith in (
-        orderly st begins j now ready x (each .0) early,
-        every-orderly xs (next st now x) (suc j) (omega arith) (each .1)
-            (ready-next st begins j now ready x (each .0) early),
-      )

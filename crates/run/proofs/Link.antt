@@ -30,11 +30,11 @@ use Rattle.model.specs.Steps.{Round, decidedReading, readingsOf, roundOf, round
 use Rattle.round_laws.proofs.Local.{EqualBelow, EqualRounds, round-local, answer-local}
 use Rattle.sheet_laws.proofs.Answer.{answer-value}
 use Rattle.sheet_laws.proofs.Checks.{room-pass}
-use Rattle.demand_3.proofs.Filled.{marksFrom, ticksFrom, filled-well-formed, filled-entry, filled-write}
+use Rattle.run.proofs.Filled.{marksFrom, ticksFrom, filled-well-formed, filled-entry, filled-write}
 use Rattle.sheet_laws.proofs.Orders.{settle-checks}
 use Rattle.sheet_laws.proofs.Written.{WellFormed, settings-back, sheet-passes, entries-pass}
-use Rattle.demand_3.specs.Guarantee.{Station, N, Sends, Allowed, State, entryOf, sheetOf, settled, holds}
-use Rattle.demand_3.proofs.Entries.{seen}
+use Rattle.run.specs.Run.{Station, N, Sends, Allowed, State, entryOf, sheetOf, settled, holds}
+use Rattle.run.proofs.Entries.{seen}
 
 -- readings depend on the entries below E alone
 pub readings-local :

@@ -21,8 +21,12 @@ use Rattle.model.specs.Ensemble.{Reading, missing, present, Readings, ticks}
 use Rattle.model.specs.RoundSheet.{cca, entryCount}
 use Rattle.model.specs.Planner.{withWindow}
 use Rattle.model.specs.Steps.{decideRow, decidedReading, readingsOf}
-use Rattle.demand_3.specs.Guarantee.{IsReading, Station, N, m, Sends, Allowed, State}
-use Rattle.demand_3.specs.Guarantee.{heard, copy, entryOf}
+use Rattle.run.specs.Run.{IsReading, Station, N, m, Sends, Allowed, State}
+use Rattle.run.specs.Run.{heard, copy, entryOf}
+
+pub reading-fits : (y : Reading) → IsReading y → SFits w32 (ticks y)
+reading-fits missing i = record { sfits = omega arith }
+reading-fits (present z) i = i
 
 module _ (st : Station) (now : State) (x : Sends) where
   pub heard-sound : (r s : ℕ) → st .sound r ≡ true → heard st now x r s ≡ now .held r
@@ -115,10 +119,6 @@ module _ (st : Station) (now : State) (x : Sends) where
   is-reading-present : (z : ℤ) (y : Reading) → y ≡ present z → IsReading y → SFits w32 z
   is-reading-present z y e i = subst IsReading e i
 
-  ticks-fit : (y : Reading) → IsReading y → SFits w32 (ticks y)
-  ticks-fit missing i = record { sfits = omega arith }
-  ticks-fit (present z) i = i
-
   is-reading-cond :
       (b : Bool) (y z : Reading) → (b ≡ true → IsReading y) → (b ≡ false → IsReading z)
       → IsReading (cond b y z)
@@ -163,4 +163,4 @@ module _ (st : Station) (now : State) (x : Sends) where
         (λ b. heard-reading e p (rw b at l))
 
     pub entry-fits : (p e : ℕ) → e < entryCount (st .settings) → 0 < N st → SFits w32 (ticks (entryOf st now x p e))
-    entry-fits p e l some = ticks-fit (entryOf st now x p e) (entry-reading p e l some)
+    entry-fits p e l some = reading-fits (entryOf st now x p e) (entry-reading p e l some)

@@ -1,0 +1,5 @@
+pub mod Computed
+pub mod Entries
+pub mod Filled
+pub mod Link
+pub mod Ready

@@ -17,6 +17,9 @@ pub const HEADER_SIZE: usize = 8;
 
 pub const ANSWER_HEADER_SIZE: usize = 10;
 
+// The bytes of a trace before its first role.
+pub const TRACE_HEADER_SIZE: usize = 9;
+
 // The rules.
 pub const FCA: u8 = 0;
 
@@ -53,6 +56,12 @@ pub const TOO_MANY_FAULTS: u8 = 10;
 pub const BAD_PLAN: u8 = 11;
 
 pub const TARGET_MISSED: u8 = 12;
+
+pub const BAD_TRACE: u8 = 13;
+
+pub const BAD_ROLES: u8 = 14;
+
+pub const OVERLOADED: u8 = 15;
 
 // What a round sheet's sizes say. Nothing is presumed checked: any bytes may stand here.
 #[repr(C)]

@@ -1,2 +1,4 @@
+pub mod Replay
 pub mod Rounds
 pub mod Run
+pub mod Trace

@@ -1,5 +1,5 @@
 -- Document 01, "Limits for sound cabinets" (docs/FORMAT.md, 10): the run, written out. Demand 3 speaks of it
--- (crates/demand_3/specs/Guarantee.antt).
+-- (crates/demand_3/specs/Guarantee.antt), and a replay is it (Replay.antt).
 --
 -- A round settles with `settle`, steps with `step` and fills sheets with `write` of crates/model/specs/Calls.antt: the
 -- same definitions that the functions' promises are equations with.
@@ -9,12 +9,13 @@
 --   Sends, Allowed                   what faulty cabinets do in a round, with the answer buffers lent in it
 --   State, start                     the plan, and what each sound cabinet holds, between rounds
 --   heard, copy, entryOf, sheetOf, settled, next     a round, step by step
+--   stateAfter                       the state after some rounds
 --   Sound                            one of the N, and sound
 use mathlib.Core.Bool.{Bool, true, cond}
 use mathlib.Core.List.{List}
 use mathlib.Core.Option.{none}
 use mathlib.Core.Path.{_≡_}
-use Prim.Native.Nat.{ℕ, _/_, _%_, _≤_, _<_}
+use Prim.Native.Nat.{ℕ, zero, suc, _/_, _%_, _≤_, _<_}
 use lib.Dec.{eqb}
 use lib.ListN.{length, replicate}
 use mir.Syntax.{w32}
@@ -138,6 +139,11 @@ next st now x =
       plan = stepped (step (now .plan)) (now .plan);
       held = λ p. holds (settled st now x p .verdict) (settled st now x p .buffer);
     }
+
+-- the state after k rounds, of which `sends` says, from 0, what happens in each
+unfoldable pub stateAfter : Station → (ℕ → Sends) → ℕ → State
+stateAfter st sends zero = start st
+stateAfter st sends (suc k) = next st (stateAfter st sends k) (sends k)
 
 -- p is one of the N, and sound
 abbrev pub Sound : Station → ℕ → Type 0

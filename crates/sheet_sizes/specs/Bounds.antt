@@ -1,5 +1,5 @@
--- The most entries that sizes of a byte make: N × N with N 255.
+-- The most entries of a sheet or of a trace: 32 rounds of 64 × 64, and so more than N × N with N a byte.
 use Prim.Native.Nat.{ℕ}
 
 abbrev pub mostEntries : ℕ
-mostEntries = 65025
+mostEntries = 131072

@@ -8,8 +8,8 @@ use model::CCA;
 use model::HEADER_SIZE;
 use model::Settings;
 
-// The most entries that sizes of a byte make.
-pub const MAX_ENTRIES: usize = 65_025;
+// The most entries of a sheet or of a trace; sizes of a byte make no more.
+pub const MAX_ENTRIES: usize = 131_072;
 
 // The sizes, bytes 0 to 7. Bytes past the end are 0.
 pub fn settings_at(sheet: &[u8]) -> Settings

@@ -3,3 +3,4 @@ pub mod Entries
 pub mod Filled
 pub mod Link
 pub mod Ready
+pub mod Traced

@@ -6,13 +6,14 @@ use native.Mathlib.Nat.{mul-le-mul}
 use native.Mathlib.Omega.{arith}
 use Prim.Native.Nat.{ℕ, _+_, _*_, _≤_}
 use Rattle.model.specs.RoundSheet.{headerSize}
+use Rattle.sheet_sizes.specs.Bounds.{mostEntries}
 use Rattle.sheet_sizes.proofs.Bounds.{byte-entries-most}
 use Rattle.rows.proofs.Parts.{row-entries-most}
 use Rattle.rows.proofs.row_start.Statement.{statement}
 use Rattle.rows.proofs.row_start.Tie as tie
 
 module _ (c : tie.After-entry-count) where
-  entries : c .entry-count .result ≤ 65025
+  entries : c .entry-count .result ≤ mostEntries
   entries = rw (c .entry-count .ensures) (byte-entries-most (c .before .before .args .settings) (omega arith))
 
   width : c .before .row-entries .result ≤ 255

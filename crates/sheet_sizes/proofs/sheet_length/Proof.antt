@@ -5,11 +5,12 @@ use mathlib.Core.Path.{ap}
 use native.Mathlib.Omega.{arith}
 use Prim.Native.Nat.{ℕ, _+_, _*_, _≤_}
 use Rattle.model.specs.RoundSheet.{headerSize}
+use Rattle.sheet_sizes.specs.Bounds.{mostEntries}
 use Rattle.sheet_sizes.proofs.Bounds.{byte-entries-most}
 use Rattle.sheet_sizes.proofs.sheet_length.Statement.{statement}
 use Rattle.sheet_sizes.proofs.sheet_length.Tie as tie
 
-few : (c : tie.After-entry-count) → c .entry-count .result ≤ 65025
+few : (c : tie.After-entry-count) → c .entry-count .result ≤ mostEntries
 few c = rw (c .entry-count .ensures) (byte-entries-most (c .before .args .settings) (omega arith))
 
 entry-count-requires : tie.Need-entry-count-requires

@@ -22,7 +22,7 @@ module _ (c : tie.After-row-entries) where
   small : settings .n ≤ 255
   small = omega arith
 
-  start : c .before .row-start .result ≤ headerSize + 325125
+  start : c .before .row-start .result ≤ headerSize + 391172
   start =
       let entries = byte-entries-most settings small in
       let rows = row-most settings small r (c .before .before .if1 .left) in

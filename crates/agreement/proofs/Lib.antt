@@ -1,3 +1,4 @@
 pub mod Kept
 pub mod Agreeing
+pub mod Holding
 pub mod Rounds

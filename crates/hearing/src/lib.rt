@@ -77,7 +77,7 @@ fn hear_each(
 }
 
 // Whether there are at most 64 roles, p is one of them, and everything else is as long as they ask.
-fn fits(
+pub fn fits(
     n: usize,
     held: usize,
     sent: usize,
@@ -92,7 +92,9 @@ fn fits(
         return false;
     }
     let pairs = n * n;
-    (p < n) & (((held == n) & (sent == pairs) & (readings == 4 * pairs)) & ((marks == n) & (values == n)))
+    (p < n)
+        & (((held == n) & (sent == pairs) & (readings == 4 * pairs))
+            & ((marks == n) & (values == n)))
 }
 
 // Fills the lists with what receiver p hears. Where the sizes do not fit it changes nothing, and answers false.

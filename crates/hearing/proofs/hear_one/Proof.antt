@@ -73,9 +73,9 @@ returns-2 c =
     let spoke =
     faulty-speaks (a .role) (a .value) (a .sent .now) (a .readings .now) (a .e) (ne-eqb (a .role) 1 (faulty .if1 .left)) in (
       c .before .entry-mark .ensures ∙ ap (λ (bits : ℕ). heldMark (entryReading mark bits)) (read joined)
-      ∙ ap heldMark (sym spoke),
+          ∙ ap heldMark (sym spoke),
       c .entry-value .ensures ∙ ap (λ (bits : ℕ). heldValue (entryReading mark bits)) (read joined)
-      ∙ ap heldValue (sym spoke),
+          ∙ ap heldValue (sym spoke),
     )
 
 pub hear-one-spec : {M : Type 1} → statement M

@@ -1,0 +1,3 @@
+pub mod Settled
+pub mod Passing
+pub mod Fitting

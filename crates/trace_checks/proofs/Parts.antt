@@ -21,7 +21,8 @@ use Rattle.run.specs.Trace.{traceHeaderSize, roleAt, soundAt, senderOf, traceEn
 use Rattle.sheet_sizes.specs.Bounds.{mostEntries}
 use Rattle.mark_checks.specs.Marks.{marksIn}
 use Rattle.missing_checks.specs.Missing.{missingIn}
-use Rattle.role_checks.specs.Roles.{strangeIn, sentAt, sentIn, rolesIn}
+use Rattle.sender_checks.specs.Senders.{sentAt, sentIn}
+use Rattle.role_checks.specs.Roles.{strangeIn, rolesIn}
 use Rattle.entry_checks.proofs.Body.{word-drop}
 use Rattle.trace_checks.specs.Bodies.{Shaped, rolesOf, bodyOf}
 

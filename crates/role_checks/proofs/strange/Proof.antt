@@ -10,7 +10,7 @@ use lib.ListN.{length}
 use Rattle.arithmetic.specs.Counting.{anyBelow}
 use Rattle.model.specs.RoundSheet.{byte}
 use Rattle.role_checks.specs.Roles.{strangeIn}
-use Rattle.role_checks.proofs.Any.{any-none, any-next, any-ended}
+use Rattle.sender_checks.proofs.Any.{any-none, any-next, any-ended}
 use Rattle.role_checks.proofs.strange.Statement.{statement}
 use Rattle.role_checks.proofs.strange.Tie as tie
 

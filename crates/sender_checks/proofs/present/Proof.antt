@@ -1,4 +1,4 @@
--- `role_checks::present` meets its contract. The loop's invariant: the flag says whether one of those passed is such. The
+-- `sender_checks::present` meets its contract. The loop's invariant: the flag says whether one of those passed is such. The
 -- measure is what is left of the marks.
 -- Assumes nothing.
 use borrow.Author.Needs.{needs}
@@ -9,10 +9,10 @@ use lib.Dec.{eqb}
 use lib.ListN.{length}
 use Rattle.arithmetic.specs.Counting.{anyBelow}
 use Rattle.model.specs.RoundSheet.{byte}
-use Rattle.role_checks.specs.Roles.{presentIn}
-use Rattle.role_checks.proofs.Any.{any-none, any-next, any-ended}
-use Rattle.role_checks.proofs.present.Statement.{statement}
-use Rattle.role_checks.proofs.present.Tie as tie
+use Rattle.sender_checks.specs.Senders.{presentIn}
+use Rattle.sender_checks.proofs.Any.{any-none, any-next, any-ended}
+use Rattle.sender_checks.proofs.present.Statement.{statement}
+use Rattle.sender_checks.proofs.present.Tie as tie
 
 abbrev Inv-entries : tie.InvT-entries
 Inv-entries marks found₀ e₀ found e = (e ≤ length marks) × (found ≡ anyBelow (λ i. eqb (byte marks i) 1) e)

@@ -1,9 +1,9 @@
--- `role_checks::row_sent` meets its contract: the row of a sender that is not sound is not looked at.
+-- `sender_checks::row_sent` meets its contract: the row of a sender that is not sound is not looked at.
 -- Assumes nothing.
 use borrow.Author.Needs.{needs}
 use borrow.Author.Tests.{eq-eqb, ne-eqb}
-use Rattle.role_checks.proofs.row_sent.Statement.{statement}
-use Rattle.role_checks.proofs.row_sent.Tie as tie
+use Rattle.sender_checks.proofs.row_sent.Statement.{statement}
+use Rattle.sender_checks.proofs.row_sent.Tie as tie
 
 present-requires : tie.Need-present-requires
 present-requires c κs = search needs

@@ -1,10 +1,10 @@
--- `role_checks::next_sender` meets its contract: each arm is the case that its test picks.
+-- `sender_checks::next_sender` meets its contract: each arm is the case that its test picks.
 -- Assumes nothing.
 use borrow.Author.Needs.{needs}
 use borrow.Author.Tests.{lt-ltb, le-ltb}
 use Prim.Native.Nat.{_+_}
-use Rattle.role_checks.proofs.next_sender.Statement.{statement}
-use Rattle.role_checks.proofs.next_sender.Tie as tie
+use Rattle.sender_checks.proofs.next_sender.Statement.{statement}
+use Rattle.sender_checks.proofs.next_sender.Tie as tie
 
 add-if1 : tie.Need-add-if1
 add-if1 c = search needs

@@ -1,4 +1,4 @@
--- `role_checks::sound_sent` meets its contract. The loop's invariant: the flag says whether a sound sender's mark among
+-- `sender_checks::sound_sent` meets its contract. The loop's invariant: the flag says whether a sound sender's mark among
 -- those passed is 1, and the row that comes is the sender's. The measure is what is left of the marks.
 -- Assumes nothing.
 use borrow.Author.Needs.{needs}
@@ -6,9 +6,9 @@ use mathlib.Core.Path.{_≡_, refl}
 use Prim.Native.Nat.{ℕ, zero, suc, _-_, _<_}
 use native.Mathlib.Nat.{zero-lt-suc}
 use lib.ListN.{length}
-use Rattle.role_checks.proofs.Rows.{Passed, no-sender, passed-none, passed-row, passed-all}
-use Rattle.role_checks.proofs.sound_sent.Statement.{statement}
-use Rattle.role_checks.proofs.sound_sent.Tie as tie
+use Rattle.sender_checks.proofs.Rows.{Passed, no-sender, passed-none, passed-row, passed-all}
+use Rattle.sender_checks.proofs.sound_sent.Statement.{statement}
+use Rattle.sender_checks.proofs.sound_sent.Tie as tie
 
 positive : (n : ℕ) → (n ≡ 0 → ⊥) → 0 < n
 positive zero h = absurd (h refl)

@@ -16,8 +16,8 @@ use Rattle.arithmetic.specs.Counting.{anyBelow}
 use Rattle.arithmetic.proofs.Counting.{any-ext, any-false}
 use Rattle.model.specs.RoundSheet.{byte}
 use Rattle.run.specs.Trace.{senderOf}
-use Rattle.role_checks.specs.Roles.{presentIn, sentAt, sentIn}
-use Rattle.role_checks.proofs.Any.{any-none, any-ended, any-parts, any-both}
+use Rattle.sender_checks.specs.Senders.{presentIn, sentAt, sentIn}
+use Rattle.sender_checks.proofs.Any.{any-none, any-ended, any-parts, any-both}
 
 -- who sent an entry of row k × n + sender
 row-sender : (n k sender j : ℕ) → sender < n → j < n → senderOf n ((k * n + sender) * n + j) ≡ sender

@@ -4,20 +4,27 @@
 use mathlib.Core.List.{List, [], _∷_, _++_, append-assoc}
 use mathlib.Core.Option.{none, some}
 use mathlib.Core.Path.{_≡_, refl, sym, ap, ap₂, _∙_}
-use Prim.Native.Nat.{ℕ, _*_}
+use Prim.Native.Nat.{ℕ, _*_, _≤_}
+use native.Mathlib.Nat.{mul-le-mul}
 use Rattle.model.specs.declared.Settings.{Settings}
 use Rattle.model.specs.declared.Refusal.{Refusal}
+use Rattle.model.specs.Ensemble.{maxCabinets}
+use Rattle.model.specs.Planner.{maxRounds}
 use Rattle.model.specs.RoundSheet.{settingsAt}
 use Rattle.model.specs.Refusals.{Check, orNext, firstOf, tooShort, settingsChecks, noRoom}
 use Rattle.model.specs.Calls.{Verdict, granted, refused, verdict}
 use Rattle.refusal_laws.proofs.Checks.{first-append, next-none-left, next-none-right}
 use Rattle.sheet_laws.proofs.Outcomes.{granted-none, granted-same}
-use Rattle.run.specs.Trace.{roundsAt}
+use Rattle.run.specs.Trace.{roundsAt, traceEntries}
 use Rattle.run.specs.Replay.{badTrace, strangeRole, soundSent, badRoles, traceChecks}
-use Rattle.trace_sizes.proofs.Bounds.{most-entries}
+use Rattle.sheet_sizes.specs.Bounds.{mostEntries}
 use Rattle.trace_heads.specs.Heads.{headChecks}
 use Rattle.trace_heads.proofs.Heads.{Headed, headed}
 use Rattle.trace_checks.specs.Bodies.{Shaped, rolesOf, bodyOf}
+
+-- 32 rounds of 64 × 64 entries are as many as a list may have
+most-entries : (n rounds : ℕ) → n ≤ maxCabinets → rounds ≤ maxRounds → traceEntries n rounds ≤ mostEntries
+most-entries n rounds small few = mul-le-mul few (mul-le-mul small small)
 
 module _ (s : List ℕ) (room : ℕ) where
   -- the checks of the entries

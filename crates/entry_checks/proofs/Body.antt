@@ -29,7 +29,7 @@ use Rattle.mark_checks.specs.Marks.{marksIn}
 use Rattle.missing_checks.specs.Missing.{missingIn}
 
 -- a number read in what is left of a list
-word-drop : (s : List ℕ) (k i : ℕ) → word (drop k s) i ≡ word s (k + i)
+pub word-drop : (s : List ℕ) (k i : ℕ) → word (drop k s) i ≡ word s (k + i)
 word-drop s k i = word-ext (drop k s) s i (k + i) (λ b h. getD-drop k s (i + b) 0 ∙ ap (byte s) (sym (add-assoc k i b)))
 
 -- the bytes behind the marks

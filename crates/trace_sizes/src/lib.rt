@@ -1,0 +1,34 @@
+// Document 02, "Paper 1. Replay of a station run": how many entries a trace has, where its arrays begin, and its length.
+ghost use mathlib.Core.Path.{_≡_};
+ghost use Prim.Native.Nat.{_+_, _*_};
+ghost use Rattle.run.specs.Trace.{traceHeaderSize, traceEntries, traceLength};
+use model::TRACE_HEADER_SIZE;
+
+// The entries of so many rounds.
+pub fn trace_entries(n: u8, rounds: u8) -> usize
+    ensures { λ r. ⌜ r ≡ traceEntries n rounds ⌝ }
+{
+    let cabinets = n as usize;
+    (rounds as usize) * (cabinets * cabinets)
+}
+
+// The bytes before the first mark.
+pub fn marks_start(n: u8) -> usize
+    ensures { λ r. ⌜ r ≡ traceHeaderSize + 5 * n ⌝ }
+{
+    TRACE_HEADER_SIZE + 5 * (n as usize)
+}
+
+// The bytes before the readings of the entries.
+pub fn readings_start(n: u8, rounds: u8) -> usize
+    ensures { λ r. ⌜ r ≡ traceHeaderSize + 5 * n + traceEntries n rounds ⌝ }
+{
+    marks_start(n) + trace_entries(n, rounds)
+}
+
+// The bytes of a trace.
+pub fn trace_length(n: u8, rounds: u8) -> usize
+    ensures { λ r. ⌜ r ≡ traceLength n rounds ⌝ }
+{
+    marks_start(n) + 5 * trace_entries(n, rounds)
+}

@@ -61,7 +61,7 @@ pub const BAD_TRACE: u8 = 13;
 
 pub const BAD_ROLES: u8 = 14;
 
-pub const OVERLOADED: u8 = 15;
+pub const RUN_STOPPED: u8 = 15;
 
 // What a round sheet's sizes say. Nothing is presumed checked: any bytes may stand here.
 #[repr(C)]

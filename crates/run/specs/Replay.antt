@@ -1,5 +1,5 @@
 -- Document 02, "Paper 1. Replay of a station run" (docs/FORMAT.md, 11): its checks, and what a replay gives.
---   badTrace, badRoles, overloaded   checks 13, 14 and 15
+--   badTrace, badRoles, runStopped   checks 13, 14 and 15
 --   traceChecks, replayChecks        the checks of a trace and a buffer; with 15, those of a replay
 --   stateTo, refusedIn               the run's state after some rounds; who meets too many faults in a round
 --   valuesTo                         the values shown after some rounds
@@ -17,7 +17,7 @@ use Rattle.model.specs.Ensemble.{ticks, maxCabinets}
 use Rattle.model.specs.RoundSheet.{fca, settingsAt, readingBytes}
 use Rattle.model.specs.Planner.{maxRounds}
 use Rattle.model.specs.Refusals.{Check, refusal, refuseIf, orNext, firstOf, tooShort, settingsChecks, noRoom}
-use Rattle.model.specs.Refusals.{arrayChecks, tooManyFaultsNumber, badTraceNumber, badRolesNumber, overloadedNumber}
+use Rattle.model.specs.Refusals.{arrayChecks, tooManyFaultsNumber, badTraceNumber, badRolesNumber, runStoppedNumber}
 use Rattle.model.specs.Calls.{Verdict, granted, refused, Outcome, writtenAfter}
 use Rattle.run.specs.Run.{State, settled, stateAfter}
 use Rattle.run.specs.Trace.{roundsAt, roleAt, traceEntries, senderOf, tracedMark, tracedBits, traceLength}
@@ -58,15 +58,15 @@ refusedIn s k p = soundAt s p && tooMany (settled (tracedStation s 0) (stateTo s
 -- 15: "a sound cabinet met "too many faults", last, its place 64 × the first such round (from 1) plus that round's
 -- lowest such cabinet", of the first k rounds
 abbrev pub atRound : ℕ → Option ℕ → Check
-atRound k (some p) = some (refusal overloadedNumber (maxCabinets * (k + 1) + p))
+atRound k (some p) = some (refusal runStoppedNumber (maxCabinets * (k + 1) + p))
 atRound k none = none
 
 abbrev pub inRound : List ℕ → ℕ → Check
 inRound s k = atRound k (lowest (refusedIn s k) (settingsAt s .n))
 
-unfoldable pub overloaded : List ℕ → ℕ → Check
-overloaded s zero = none
-overloaded s (suc k) = orNext (overloaded s k) (inRound s k)
+unfoldable pub runStopped : List ℕ → ℕ → Check
+runStopped s zero = none
+runStopped s (suc k) = orNext (runStopped s k) (inRound s k)
 
 -- "Checks 1 to 5, 7, 8 and 9 apply first", 13 "in the place of 6", 14 "after 9"; the buffer has this length
 unfoldable pub traceChecks : List ℕ → ℕ → List Check
@@ -82,7 +82,7 @@ traceChecks s buffer =
 
 -- 15 "last"
 unfoldable pub replayChecks : List ℕ → ℕ → ℕ → List Check
-replayChecks s k buffer = traceChecks s buffer ++ (overloaded s k ∷ [])
+replayChecks s k buffer = traceChecks s buffer ++ (runStopped s k ∷ [])
 
 -- "The final sound values must equal the definition iterated on planned windows; places of faulty cabinets read 0"
 abbrev pub shownAfter : List ℕ → ℕ → ℕ → ℤ

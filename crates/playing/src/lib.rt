@@ -1,0 +1,180 @@
+// Plays a trace: its checks, and its rounds one after the other. What sound cabinets hold is held as ticks moved up by
+// 2^31.
+ghost use mathlib.Core.Path.{_≡_};
+ghost use mathlib.Core.Bool.{cond};
+ghost use mathlib.Core.Option.{none};
+ghost use Prim.Native.Nat.{_+_, _≤_, _<_, min};
+ghost use lib.Dec.{eqb};
+ghost use lib.ListN.{length, getD};
+ghost use Rattle.arithmetic.specs.Naturals.{up};
+ghost use Rattle.arithmetic.specs.Words.{twoTo31};
+ghost use Rattle.arithmetic.specs.Writing.{table};
+ghost use Rattle.model.specs.Ensemble.{maxCabinets};
+ghost use Rattle.model.specs.RoundSheet.{settingsAt};
+ghost use Rattle.model.specs.Refusals.{firstOf};
+ghost use Rattle.model.specs.Calls.{verdict, step};
+ghost use Rattle.planner.specs.Answers.{planOf};
+ghost use Rattle.refusals.specs.Answers.{checkOf};
+ghost use Rattle.sheet_checks.specs.Answers.{openedOf};
+ghost use Rattle.run.specs.Run.{stepped};
+ghost use Rattle.run.specs.Trace.{roundsAt, firstAt};
+ghost use Rattle.run.specs.Replay.{stateTo, replayChecks};
+ghost use Rattle.playing.specs.Playing.{HeldTo, Playable, RoundPlayed, stoppedAt, RoundsPlayed};
+use model::HEADER_SIZE;
+use model::RUN_STOPPED;
+use model::Settings;
+use model::TRACE_HEADER_SIZE;
+use planner::Plan;
+use planner::Planned;
+use refusals::Screened;
+use sheet_checks::Opened;
+
+// The role of a sound cabinet.
+const SOUND: u8 = 1;
+
+// What each cabinet first reads.
+fn first_readings(trace: &[u8], held: &mut [u32])
+    requires { ⌜ length (now held) ≤ maxCabinets ⌝ }
+    ensures { λ _. ⌜
+        now (held .exit)
+        ≡ table (λ p. up twoTo31 (firstAt (now (trace .entry)) (length (now (held .entry))) p))
+        (length (now (held .entry))) ⌝ }
+{
+    let start = TRACE_HEADER_SIZE + held.len();
+    let mut p: usize = 0;
+    'cabinets: while p < held.len() {
+        held[p] = held::bias(words::word_at(trace, start + 4 * p));
+        p += 1;
+    }
+}
+
+// The next value of a sound cabinet; a faulty one keeps what it had.
+fn later(role: u8, next: u32, old: u32) -> u32
+    ensures { λ r. ⌜ r ≡ cond (eqb role 1) next old ⌝ }
+{
+    if role == SOUND { next } else { old }
+}
+
+// Sound cabinets take their next values over.
+fn take_over(roles: &[u8], next: &[u32], held: &mut [u32])
+    requires { ⌜ (length (now next) ≡ length (now roles)) × (length (now held) ≡ length (now roles)) ⌝ }
+    ensures { λ _. ⌜
+        now (held .exit)
+        ≡ table (λ p. cond (eqb (getD (now (roles .entry)) p 0) 1) (getD (now (next .entry)) p 0)
+        (getD (now (held .entry)) p 0))
+        (length (now (roles .entry))) ⌝ }
+{
+    let mut p: usize = 0;
+    'cabinets: while p < roles.len() {
+        held[p] = later(roles[p], next[p], held[p]);
+        p += 1;
+    }
+}
+
+// Plays round k, from 0: the first cabinet that meets too many faults, or else the number of cabinets, which then hold
+// their next values.
+fn play_round(trace: &[u8], settings: Settings, rounds: u8, k: usize, held: &mut [u32]) -> usize
+    requires { ⌜ Playable (now trace) ⌝ }
+    requires { ⌜ settings ≡ stateTo (now trace) k .plan .settings ⌝ }
+    requires { ⌜ (rounds ≡ roundsAt (now trace)) × (k < rounds) × (length (now held) ≡ settings .n) ⌝ }
+    requires { ⌜ HeldTo (now trace) k (now held) ⌝ }
+    ensures { λ r. ⌜ RoundPlayed (now (trace .entry)) k r (now (held .exit)) ⌝ }
+{
+    let n = settings.n as usize;
+    let pairs = n * n;
+    let marks = trace_sizes::marks_start(settings.n) + k * pairs;
+    let readings = trace_sizes::readings_start(settings.n, rounds) + 4 * (k * pairs);
+    let roles = &trace[TRACE_HEADER_SIZE..TRACE_HEADER_SIZE + n];
+    let mut next = [0u32; 64];
+    let refused = station_rounds::settle_round(
+        settings,
+        roles,
+        &*held,
+        &trace[marks..marks + pairs],
+        &trace[readings..readings + 4 * pairs],
+        &mut next[..n],
+    );
+    if refused < n {
+        return refused;
+    }
+    take_over(roles, &next[..n], held);
+    refused
+}
+
+// The plan one round on; one that can go no further stays.
+fn stepped(plan: Plan) -> Plan
+    ensures { λ r. ⌜ planOf r ≡ stepped (step (planOf plan)) (planOf plan) ⌝ }
+{
+    match plan.step() {
+        Planned::Granted(next) => next,
+        Planned::Refused(_) => plan,
+    }
+}
+
+// Plays the first rounds, each at its planned window: the place of check 15, or 0 where no sound cabinet meets too many
+// faults.
+fn play_rounds(trace: &[u8], settings: Settings, rounds: u8, most: u8, held: &mut [u32]) -> u32
+    requires { ⌜ Playable (now trace) × (settings ≡ settingsAt (now trace)) ⌝ }
+    requires { ⌜ (rounds ≡ roundsAt (now trace)) × (most ≤ rounds) × (length (now held) ≡ settings .n) ⌝ }
+    requires { ⌜ HeldTo (now trace) 0 (now held) ⌝ }
+    ensures { λ r. ⌜ RoundsPlayed (now (trace .entry)) most r (now (held .exit)) ⌝ }
+{
+    let n = settings.n as u32;
+    let mut plan = Plan {
+        settings,
+        accuracy: 0,
+        rounds: 0,
+    };
+    let mut k: u32 = 0;
+    'rounds: while k < (most as u32) {
+        let planned = plan.settings;
+        let refused = play_round(trace, planned, rounds, k as usize, &mut *held) as u32;
+        if refused < n {
+            return 64 * (k + 1) + refused;
+        }
+        plan = stepped(plan);
+        k += 1;
+    }
+    0
+}
+
+// Check 15 by its place.
+fn stopped(place: u32) -> Screened
+    ensures { λ r. ⌜ checkOf r ≡ stoppedAt place ⌝ }
+{
+    if place == 0 {
+        return Screened::Passed;
+    }
+    Screened::Refused(refusals::refuse_at(RUN_STOPPED, place))
+}
+
+fn lower(a: u8, b: u8) -> u8
+    ensures { λ r. ⌜ r ≡ min a b ⌝ }
+{
+    if a < b { a } else { b }
+}
+
+// Plays the first rounds of a trace, at most as many as it has, for a buffer of this length: its settings, or the first
+// refusal. Where it is granted, the lent list has what sound cabinets hold after them.
+pub fn play(trace: &[u8], room: usize, most: u8, held: &mut [u32; 64]) -> Opened
+    ensures { λ r. ⌜
+        openedOf r
+        ≡ verdict
+        (firstOf (replayChecks (now (trace .entry)) (min most (roundsAt (now (trace .entry)))) room))
+        (settingsAt (now (trace .entry))) ⌝ }
+    ensures { λ _. ⌜
+        (firstOf (replayChecks (now (trace .entry)) (min most (roundsAt (now (trace .entry)))) room) ≡ none
+        → HeldTo (now (trace .entry)) (min most (roundsAt (now (trace .entry)))) (now (held .exit))) ⌝ }
+{
+    match trace_checks::screen(trace, room) {
+        Opened::Refused(r) => Opened::Refused(r),
+        Opened::Granted(settings) => {
+            let n = settings.n as usize;
+            let rounds = words::byte_at(trace, HEADER_SIZE);
+            let first = lower(most, rounds);
+            first_readings(trace, &mut held[..n]);
+            let place = play_rounds(trace, settings, rounds, first, &mut held[..n]);
+            sheet_checks::unless_refused(stopped(place), settings)
+        }
+    }
+}

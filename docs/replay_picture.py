@@ -245,8 +245,14 @@ def main(words):
     try:
         run = traces.read(pathlib.Path(words[0]).read_bytes())
         print(Drawing(Replay(run, sys.stdin.read())).drawn(), end="")
-    except (Mismatch, traces.Fault, OSError) as fault:
-        print(f"replay_picture: {fault}", file=sys.stderr)
+    except OSError as error:
+        print(f"{error.filename}: {error.strerror}", file=sys.stderr)
+        return 1
+    except traces.Fault as fault:
+        print(f"{words[0]}: refused under {fault}", file=sys.stderr)
+        return 1
+    except (Mismatch, ValueError, IndexError) as fault:
+        print(f"{words[0]}: {fault if isinstance(fault, Mismatch) else 'what came in is not what replay --rounds writes'}", file=sys.stderr)
         return 1
     return 0
 

@@ -304,7 +304,7 @@ def main(words):
         print(f"{given}: {'refused under ' if words[0] == '--show' else ''}{fault}", file=sys.stderr)
         return 1
     except OSError as error:
-        print(f"trace.py: {error}", file=sys.stderr)
+        print(f"{error.filename}: {error.strerror}", file=sys.stderr)
         return 1
     return 0
 

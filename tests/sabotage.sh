@@ -155,6 +155,28 @@ sabotage "edits: an ill-typed contract" 'edited "$ill_typed"' tests/check_must_f
 sabotage "edits: one not tried" "sed -i 's/^new: /new: 0 + /' crates/words/must-fail/base_255.edit" tests/check_must_fail_reasons "words/base_255: not tried as it is"
 sabotage "edits: one not in the table" "sed -i '/words.base_255/d' docs/MUST-FAIL.md" tests/check_must_fail_table "words/base_255"
 
+# ---- the replay
+replay=tests/check_replay
+sound "$replay" replay
+sabotage "replay: another final value" "sed -i 's/^0 1 3583$/0 1 3584/' examples/two-faced.txt" "$replay" "two-faced.trace, --rounds: WRONG"
+sabotage "replay: a round left out of a text" "sed -i '/^after 2 /d' examples/too-many-faults.txt" "$replay" "too-many-faults.trace, --rounds: WRONG"
+sabotage "replay: a run whose trace is old" "sed -i 's/0: -1400/0: -1401/' examples/two-faced.run" "$replay" "two-faced.trace as trace.py writes it: WRONG"
+sabotage "replay: a trace without its text" "rm examples/all-well.run" "$replay" "a text and an answer for each .trace: WRONG"
+sabotage "replay: trace.py swaps sender and receiver" "sed -i 's/for s in range(run.n) for entry in sent.get(s, silent)\]/for p in range(run.n) for entry in [sent.get(s, silent)[p] for s in range(run.n)]]/' examples/trace.py" "$replay" "as trace.py writes it: WRONG"
+sabotage "replay: trace.py shows only what all got" "sed -i 's/for p in range(n) if got\[p\] != most\]/for p in range(0)]/' examples/trace.py" "$replay" "shown, and written again: WRONG"
+sabotage "replay: trace.py counts lines from 0" "sed -i 's/enumerate(text.splitlines(), 1)/enumerate(text.splitlines())/' examples/trace.py" "$replay" "a text: cabinets: WRONG"
+sabotage "replay: trace.py lets a sound sender's entry pass" "sed -i 's/mark == 1 and roles\[e .. n % n\] == SOUND/False/' examples/trace.py" "$replay" "a sound sender to a faulty receiver, shown: WRONG"
+sabotage "replay: a byte of docs/FORMAT.md" "sed -i 's/^      f4   01/      f4   02/' docs/FORMAT.md" "$replay" "the trace that is drawn: WRONG"
+sabotage "replay: a listing of docs/FORMAT.md" "sed -i 's/^2 1 6$/2 1 5/' docs/FORMAT.md" "$replay" "the listings: WRONG"
+sabotage "replay: an old picture" "sed -i 's/cabinet 0 after 1: 1600/cabinet 0 after 1: 1601/' docs/replay.svg" "$replay" "docs/replay.svg is the picture"
+sabotage "replay: a picture of other values" "sed -i 's/{replay.after\[k\]\[p\]}/{replay.after[k][p] + 1}/' docs/replay_picture.py" "$replay" "the values: WRONG"
+sabotage "replay: a picture of the first window" "sed -i 's/windows.append(up(.*/windows.append(windows[0])/' docs/replay_picture.py" "$replay" "the windows: WRONG"
+sabotage "replay: a picture of what another was told" "sed -i 's/yield k, s, p, sent\[s\]\[p\]/yield k, s, p, sent[s][self.sound[0]]/' docs/replay_picture.py" "$replay" "the claims: WRONG"
+sabotage "replay: a picture with points out of scale" "sed -i 's/self.y(held\[p\])/self.y(held[p]) - k/' docs/replay_picture.py" "$replay" "values out of scale: WRONG"
+sabotage "replay: a picture with bands out of place" "sed -i 's/replay.middle(k) + side \* window \/ 2) for side in (1, -1)/replay.middle(0) + side * window \/ 2) for side in (1, -1)/' docs/replay_picture.py" "$replay" "bands out of scale: WRONG"
+sabotage "replay: a picture that says how far apart wrongly" "sed -i 's/{max(values) - min(values):,}/{max(values):,}/' docs/replay_picture.py" "$replay" "how far apart, in figures: WRONG"
+sabotage "replay: a picture of any words" "sed -i 's/self.check(lines, rest)$/pass/' docs/replay_picture.py" "$replay" "other first readings: WRONG"
+
 # ---- what users compile in
 if asked "library" && [ -f tests/sabotage_library.sh ]; then
     tried=$((tried + 1))

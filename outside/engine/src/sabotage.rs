@@ -35,6 +35,7 @@ pub const SABOTAGES: &[(&str, &str)] = &[
     ("replay-swapped", "a replay takes senders for receivers"),
     ("replay-at-once", "a replay uses new values within the same round"),
     ("replay-wide", "a replay has the first window in every round"),
+    ("replay-early", "a replay steps the window before the first round"),
     ("replay-late", "a replay steps the window a round late"),
     (
         "replay-tick",

@@ -54,10 +54,11 @@ fn wrong_end(how: &str, bytes: &[u8], given: u64, right: &[u8], values: &mut [u8
 
 /// The run of a trace, wrong in the named way; None when the way is not about the run.
 fn wrong_run(how: &str, trace: &Trace) -> Option<Result<Vec<i32>, Refusal>> {
-    const WAYS: [&str; 9] = [
+    const WAYS: [&str; 10] = [
         "replay-swapped",
         "replay-at-once",
         "replay-wide",
+        "replay-early",
         "replay-late",
         "replay-tick",
         "replay-from-zero",
@@ -70,6 +71,9 @@ fn wrong_run(how: &str, trace: &Trace) -> Option<Result<Vec<i32>, Refusal>> {
     }
     let swapped = if how == "replay-swapped" { swapped(trace) } else { trace.clone() };
     let mut settings = trace.settings;
+    if how == "replay-early" {
+        settings.window = next_window(&settings);
+    }
     let mut held = trace.start();
     let mut stopped = None;
     for round in 0..trace.rounds as usize {
@@ -86,11 +90,10 @@ fn wrong_run(how: &str, trace: &Trace) -> Option<Result<Vec<i32>, Refusal>> {
             settings.window = next_window(&settings);
         }
     }
-    let odd = trace.bytes().iter().map(|&byte| byte as i32).sum::<i32>() % 2;
     for cabinet in 0..trace.n() {
         match how {
             "replay-tick" if trace.sound(cabinet) => {
-                held[cabinet] = held[cabinet].saturating_add(odd)
+                held[cabinet] = held[cabinet].saturating_add(cabinet as i32 % 2);
             }
             "replay-first" if !trace.sound(cabinet) => held[cabinet] = trace.first[cabinet],
             _ => {}

@@ -2,6 +2,7 @@
 //! each with what the documents say of bytes that must survive.
 
 use crate::{draw, traces};
+use engine::traces::redraw_for_faulty;
 use engine::{number, replay_by_hand, words, Engine, Plan, Settings};
 use random::Random;
 use reference::Trace;
@@ -148,7 +149,9 @@ impl<'a> Comparison<'a> {
         let by_hand = (replay_by_hand(self.a, &bytes, &mut tray), tray);
         self.same_replay("by hand", &given, &by_hand, &bytes);
         if let (0 | 15, Ok(trace)) = (number(given.0), Trace::open(&bytes)) {
-            let other = traces::other_for_faulty(random, &trace).bytes();
+            let mut other = trace.clone();
+            redraw_for_faulty(random, &mut other);
+            let other = other.bytes();
             let mut tray = old;
             let again = (self.a.replay(&other, &mut tray), tray);
             self.same_replay("with other readings for faulty cabinets", &given, &again, &bytes);

@@ -1,7 +1,7 @@
 //! Inputs: settings, entries, sheets, and what is wrong with them.
 
 use random::Random;
-use reference::{sheet_bytes, Plan, Settings, CCA, FCA};
+use reference::{marks_and_readings, sheet_bytes, Plan, Settings, CCA, FCA};
 
 /// What a sheet is written from.
 pub struct Paper {
@@ -140,11 +140,8 @@ pub fn paper(random: &Random) -> Paper {
     } else {
         readings
     };
-    Paper {
-        settings,
-        marks: entries.iter().map(|e| e.is_some() as u8).collect(),
-        readings: entries.iter().map(|e| e.unwrap_or(0)).collect(),
-    }
+    let (marks, readings) = marks_and_readings(&entries);
+    Paper { settings, marks, readings }
 }
 
 /// One thing wrong with the settings.

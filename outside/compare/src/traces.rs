@@ -1,8 +1,9 @@
 //! Traces of recorded runs, and what is wrong with them.
 
 use crate::draw;
+use engine::traces;
 use random::Random;
-use reference::{next_window, Settings, Trace, FAULTY, FCA, SOUND};
+use reference::{Settings, Trace, FAULTY, FCA, SOUND};
 
 /// A trace that passes every check but 15. The liars know what the sound cabinets hold.
 pub fn trace(random: &Random) -> Trace {
@@ -12,17 +13,11 @@ pub fn trace(random: &Random) -> Trace {
     let any = |reading: Option<i32>| reading.unwrap_or(random.draw() as i32);
     let first = draw::readings(random, &settings).into_iter().map(any).collect();
     let mut trace = Trace::silent(settings, rounds as u8, roles(random, &settings), first);
-    let mut window = settings.window;
-    let mut held = trace.start();
-    for round in 0..rounds {
+    traces::fill(&mut trace, |trace, round, window, held| {
         for receiver in 0..n {
-            send(random, &mut trace, round, receiver, window, &held);
+            send(random, trace, round, receiver, window, held);
         }
-        if let Ok(next) = trace.round(round, window, &held) {
-            held = next;
-        }
-        window = next_window(&Settings { window, ..settings });
-    }
+    });
     trace
 }
 
@@ -147,20 +142,4 @@ fn speak_for_sound(random: &Random, trace: &mut Trace) {
 /// A trace in bytes, sometimes of wrong length, sometimes of any bytes at all.
 pub fn bytes(random: &Random, trace: &Trace) -> Vec<u8> {
     draw::spoiled(random, trace.bytes())
-}
-
-/// The same run, with other first readings of faulty cabinets and other readings that they received.
-pub fn other_for_faulty(random: &Random, trace: &Trace) -> Trace {
-    let mut other = trace.clone();
-    let faulty = trace.of_role(FAULTY);
-    for &receiver in &faulty {
-        other.first[receiver] = random.draw() as i32;
-        for round in 0..trace.rounds as usize {
-            for &sender in &faulty {
-                let sent = random.pick(&[None, Some(random.draw() as i32)]);
-                other.send(round, sender, receiver, sent);
-            }
-        }
-    }
-    other
 }

@@ -2,7 +2,7 @@
 //! settle and step. The checks before the run are the reference's.
 
 use crate::{number, packed, Engine, Plan, Refusal};
-use reference::{bytes_of, Trace, SOUND};
+use reference::{bytes_of, marks_and_readings, Trace, SOUND};
 
 /// Answers and fills what a replay does.
 pub fn replay_by_hand(engine: &dyn Engine, trace: &[u8], values: &mut [u8]) -> u64 {
@@ -49,8 +49,7 @@ fn one_round(
 
 /// The new value of a cabinet that heard this, or the answer of the call that refused.
 fn settle_heard(engine: &dyn Engine, plan: &Plan, heard: &[Option<i32>]) -> Result<i32, u64> {
-    let marks: Vec<u8> = heard.iter().map(|reading| reading.is_some() as u8).collect();
-    let readings: Vec<i32> = heard.iter().map(|reading| reading.unwrap_or(0)).collect();
+    let (marks, readings) = marks_and_readings(heard);
     let (mut sheet, mut answer) = ([0; 8 + 5 * 64], [0; 10 + 5 * 64]);
     let size = engine.write(&plan.settings, &marks, &readings, &mut sheet);
     if number(size) != 0 {

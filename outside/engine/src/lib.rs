@@ -8,6 +8,7 @@ mod linked;
 #[cfg(feature = "linked")]
 mod recorded;
 pub mod sabotage;
+pub mod traces;
 #[cfg(feature = "linked")]
 #[allow(unsafe_code)]
 mod whole;

@@ -451,8 +451,7 @@ fn settle(
     settings: &Settings,
     entries: &[Reading],
 ) -> Result<i32, u64> {
-    let marks: Vec<u8> = entries.iter().map(|e| e.is_some() as u8).collect();
-    let readings: Vec<i32> = entries.iter().map(|e| e.unwrap_or(0)).collect();
+    let (marks, readings) = reference::marks_and_readings(entries);
     let sheet = reference::sheet_bytes(settings, &marks, &readings);
     let mut tray = [random.draw() as u8; 330];
     let answer = engine.settle(&sheet, &mut tray);

@@ -3,6 +3,7 @@
 use crate::liars::Reading;
 use crate::limits::{gap, GoodSets};
 use crate::run::{hold, Run, Tally};
+use engine::traces::redraw_for_faulty;
 use engine::{number, packed, words, Engine, Plan, Refusal};
 use random::Random;
 use reference::{bytes_of, numbers_in, Trace, FAULTY, FCA, SOUND};
@@ -69,7 +70,7 @@ impl Tape {
         tally: &mut Tally,
         show: bool,
     ) {
-        self.fill_for_faulty(random);
+        redraw_for_faulty(random, &mut self.trace);
         let length = 4 * self.trace.n();
         let old = random.bytes(length + random.below(3));
         let mut values = old.clone();
@@ -93,19 +94,6 @@ impl Tape {
             tally.few_refused_replays += (number(answer) != 0) as u64;
             if number(answer) == 0 && self.trace.rounds > 0 {
                 self.hold_limits(&numbers_in(&values[..length]), end, tally);
-            }
-        }
-    }
-
-    /// First readings of faulty cabinets, and what these send each other, are anything.
-    fn fill_for_faulty(&mut self, random: &Random) {
-        for receiver in self.trace.of_role(FAULTY) {
-            self.trace.first[receiver] = random.draw() as i32;
-            for round in 0..self.trace.rounds as usize {
-                for sender in self.trace.of_role(FAULTY) {
-                    let sent = random.pick(&[None, Some(random.draw() as i32)]);
-                    self.trace.send(round, sender, receiver, sent);
-                }
             }
         }
     }

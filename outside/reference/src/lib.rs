@@ -15,7 +15,8 @@ pub use planner::{counts_that_fit, next_accuracy, next_window, plan, step, targe
 pub use replay::{replay, Run, Trace, FAULTY, SOUND};
 pub use round::{accepted, decide, estimate, mean, settle, settle_readings, Round};
 pub use sheet::{
-    bytes_of, entries_of, numbers_in, read, readings_of, row, settings_of, sheet_bytes, write,
+    bytes_of, entries_of, marks_and_readings, numbers_in, read, readings_of, row, settings_of,
+    sheet_bytes, write,
 };
 pub use text::{replay_text, settle_text, INPUT_LIMIT, TRACE_LIMIT};
 pub use vectors::{answers, replay_answers, settle_answers, Call};

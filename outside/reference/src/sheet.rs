@@ -72,6 +72,13 @@ pub fn readings_of(marks: &[u8], readings: &[i32]) -> Vec<Option<i32>> {
         .collect()
 }
 
+/// The mark and the reading of each entry.
+pub fn marks_and_readings(entries: &[Option<i32>]) -> (Vec<u8>, Vec<i32>) {
+    let marks = entries.iter().map(|entry| entry.is_some() as u8).collect();
+    let readings = entries.iter().map(|entry| entry.unwrap_or(0)).collect();
+    (marks, readings)
+}
+
 /// The reader: fills the two lent arrays from their start and gives back the settings.
 pub fn read(sheet: &[u8], marks: &mut [u8], readings: &mut [i32]) -> Result<Settings, Refusal> {
     let settings = settings_of(sheet)?;

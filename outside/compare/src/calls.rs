@@ -77,7 +77,7 @@ impl<'a> Comparison<'a> {
         self.plan(random);
         self.step(random);
         self.target(random);
-        if now % SHEETS_FOR_A_TRACE == 0 {
+        if now.is_multiple_of(SHEETS_FOR_A_TRACE) {
             self.replay(random);
         }
     }

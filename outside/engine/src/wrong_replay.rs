@@ -90,16 +90,21 @@ fn wrong_run(how: &str, trace: &Trace) -> Option<Result<Vec<i32>, Refusal>> {
             settings.window = next_window(&settings);
         }
     }
-    for cabinet in 0..trace.n() {
+    spoil_values(how, trace, &mut held);
+    Some(stopped.map_or(Ok(held), Err))
+}
+
+/// The final values, wrong in the named way.
+fn spoil_values(how: &str, trace: &Trace, held: &mut [i32]) {
+    for (cabinet, value) in held.iter_mut().enumerate() {
         match how {
             "replay-tick" if trace.sound(cabinet) => {
-                held[cabinet] = held[cabinet].saturating_add(cabinet as i32 % 2);
+                *value = value.saturating_add(cabinet as i32 % 2);
             }
-            "replay-first" if !trace.sound(cabinet) => held[cabinet] = trace.first[cabinet],
+            "replay-first" if !trace.sound(cabinet) => *value = trace.first[cabinet],
             _ => {}
         }
     }
-    Some(stopped.map_or(Ok(held), Err))
 }
 
 /// One round, from 0 on: who refused.

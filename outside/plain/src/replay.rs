@@ -1,5 +1,6 @@
 //! The replay of a recorded FCA run: entries are read in place, and what the cabinets hold stands in
 //! local arrays of 64.
+#![allow(clippy::needless_range_loop)]
 
 use crate::{reading, refusal, sizes, Sizes, Steps, HEADER, MOST};
 

@@ -63,6 +63,7 @@ impl Steps for Tuned {
 }
 
 /// The round of the present readings, of each of which it says whether it is accepted.
+#[inline(always)]
 fn agree(sizes: &Sizes, values: &[i32], accepted: &mut [bool; MOST]) -> Option<Settled> {
     accept(values, sizes.need() as u32, sizes.window, accepted);
     let mut chosen = [0; MOST];
@@ -86,12 +87,12 @@ fn words(bytes: &[u8]) -> impl Iterator<Item = i32> + '_ {
 
 /// Fills in the present readings, decided ones for CCA, and whose they are. Answers how many.
 fn receive(sheet: &Opened, cabinets: &mut [u8; MOST], values: &mut [i32; MOST]) -> usize {
-    let Sizes { n, m, crusaders, .. } = sheet.sizes;
+    let n = sheet.sizes.n;
     let mut count = 0;
-    if crusaders {
+    if sheet.sizes.crusaders {
         let rows = sheet.marks.chunks_exact(n).zip(sheet.readings.chunks_exact(4 * n));
         for (cabinet, (marks, copies)) in rows.enumerate() {
-            if let Some(value) = decide(marks, copies, m) {
+            if let Some(value) = decide(marks, copies, sheet.sizes.m) {
                 (cabinets[count], values[count]) = (cabinet as u8, value);
                 count += 1;
             }

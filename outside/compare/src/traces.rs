@@ -3,7 +3,7 @@
 use crate::draw;
 use engine::traces;
 use random::Random;
-use reference::{Settings, Trace, FAULTY, FCA, SOUND};
+use reference::{Settings, Trace, CCA, FAULTY, FCA, SOUND};
 
 /// A trace that passes every check but 15. The liars know what the sound cabinets hold.
 pub fn trace(random: &Random) -> Trace {
@@ -102,11 +102,12 @@ fn lie(random: &Random, lowest: i64, highest: i64, window: i64) -> Option<i32> {
 pub fn damage(random: &Random, trace: &mut Trace) -> u64 {
     let faults = random.pick(&[0, 0, 0, 0, 0, 0, 1, 2, 2, 3]);
     for _ in 0..faults {
-        match random.below(10) {
-            0 => draw::damage_settings(random, &mut trace.settings),
-            1 => too_many_rounds(random, trace),
-            2..=6 => draw::damage_entries(random, &mut trace.marks, &mut trace.readings),
-            7 => {
+        match random.below(20) {
+            0..=1 => draw::damage_settings(random, &mut trace.settings),
+            2 => trace.settings.rule = CCA,
+            3..=5 => too_many_rounds(random, trace),
+            6..=13 => draw::damage_entries(random, &mut trace.marks, &mut trace.readings),
+            14..=15 => {
                 let cabinet = random.below(trace.roles.len());
                 trace.roles[cabinet] = random.pick(&[2, 2, 255, 2 + random.draw() as u8 % 254]);
             }

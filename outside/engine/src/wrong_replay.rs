@@ -1,7 +1,7 @@
 //! Replays that are wrong in a named way: see `sabotage`.
 
 use crate::{number, packed, Engine, Refusal, Settings};
-use reference::{bytes_of, next_window, settle_readings, Trace, SOUND};
+use reference::{bytes_of, next_window, settle_readings, Trace, CCA, FCA, SOUND};
 
 /// The longest values, 4N bytes.
 const LONGEST: usize = 4 * 64;
@@ -152,44 +152,64 @@ fn wrong_check(
     refused: usize,
     values: &mut [u8],
 ) -> Option<u64> {
-    match (how, refused) {
-        ("replay-stub", 13) if bytes.len() == 8 => return Some(packed(Refusal::new(1))),
-        ("replay-33", 13) => return Some(engine.replay(&without_the_last_round(bytes)?, values)),
-        ("replay-tray", 7) => {
-            let later = engine.replay(bytes, &mut [0; LONGEST]);
-            return matches!(number(later), 8 | 9).then_some(later);
-        }
-        _ => {}
+    match taken_for(how, bytes, refused) {
+        Some(other) => Some(engine.replay(&other, values)),
+        None => other_refusal(engine, how, bytes, refused),
     }
-    let mut trace = Trace::open(bytes).ok()?;
+}
+
+/// The trace that a wrong engine takes a refused one for.
+fn taken_for(how: &str, bytes: &[u8], refused: usize) -> Option<Vec<u8>> {
     match (how, refused) {
+        ("replay-33", 13) => without_the_last_round(bytes),
+        ("replay-cca", 13) if bytes[2] == CCA => Some([&bytes[..2], &[FCA], &bytes[3..]].concat()),
         ("replay-roles", 14) => {
+            let mut trace = Trace::open(bytes).ok()?;
             let bad = trace.roles.iter_mut().filter(|role| **role == 2);
-            bad.for_each(|role| *role = 1);
+            bad.for_each(|role| *role = SOUND);
+            Some(trace.bytes())
         }
-        ("replay-receivers", 14) => blank(&mut trace, |sound, heard| sound && !heard),
-        ("replay-ghosts", 8 | 9) => blank(&mut trace, |_, heard| !heard),
+        ("replay-receivers", 14) => blanked(bytes, |sender, receiver| sender && !receiver),
+        ("replay-ghosts", 8 | 9) => blanked(bytes, |_, receiver| !receiver),
+        _ => None,
+    }
+}
+
+/// The trace without some entries: which ones, by whether the sender and the receiver are sound.
+fn blanked(bytes: &[u8], which: impl Fn(bool, bool) -> bool) -> Option<Vec<u8>> {
+    let mut trace = Trace::open(bytes).ok()?;
+    for (round, sender, receiver) in places(&trace) {
+        if which(trace.sound(sender), trace.sound(receiver)) {
+            trace.send(round, sender, receiver, None);
+        }
+    }
+    Some(trace.bytes())
+}
+
+/// Another refusal than the right one.
+fn other_refusal(engine: &dyn Engine, how: &str, bytes: &[u8], refused: usize) -> Option<u64> {
+    let with_room = |bytes: &[u8]| engine.replay(bytes, &mut [0; LONGEST]);
+    match (how, refused) {
+        ("replay-stub", 13) if bytes.len() == 8 => Some(packed(Refusal::new(1))),
+        ("replay-tray", 7) => {
+            Some(with_room(bytes)).filter(|later| [8, 9].contains(&number(*later)))
+        }
         ("replay-order", 8 | 9) => {
+            let mut trace = Trace::open(bytes).ok()?;
             for entry in 0..trace.marks.len() {
                 trace.marks[entry] &= (trace.marks[entry] < 2) as u8;
                 trace.readings[entry] *= trace.marks[entry] as i32;
             }
-            let again = engine.replay(&trace.bytes(), &mut [0; LONGEST]);
-            return (number(again) == 14).then_some(again);
+            Some(with_room(&trace.bytes())).filter(|later| number(*later) == 14)
         }
-        _ => return None,
-    }
-    Some(engine.replay(&trace.bytes(), values))
-}
-
-/// Makes entries missing: which ones, by whether the sender and the receiver are sound.
-fn blank(trace: &mut Trace, which: impl Fn(bool, bool) -> bool) {
-    for (round, sender, receiver) in places(&trace.clone()) {
-        if which(trace.sound(sender), trace.sound(receiver)) {
-            let entry = trace.entry(round, sender, receiver);
-            trace.marks[entry] = 0;
-            trace.readings[entry] = 0;
+        ("replay-place", 8 | 9) => {
+            let Trace { marks, readings, .. } = Trace::open(bytes).ok()?;
+            let ghost = |entry: usize| marks[entry] == 0 && readings[entry] != 0;
+            let at_fault =
+                |&entry: &usize| if refused == 8 { marks[entry] > 1 } else { ghost(entry) };
+            Some(packed(Refusal::at(refused as u8, (0..marks.len()).rfind(at_fault)?)))
         }
+        _ => None,
     }
 }
 

@@ -11,8 +11,8 @@
  *
  * Cabinets are numbered from 0. A tick is 1/16,777,216 second.
  *
- * Refusals, checked in this order, each call only those that concern it. tohiranga_refusal_text says what each means; this is
- * what to do about it:
+ * Refusals, checked in this order (13 in the place of 6, 14 and 15 after 9), each call only those that concern it.
+ * tohiranga_refusal_text says what each means; this is what to do about it:
  *
  *    1   the transfer was cut off: fetch the sheet again
  *    2   correct the number of cabinets in the sheet or the settings
@@ -20,13 +20,18 @@
  *    4   rule 0 or 1, estimator 0, 1 or 2
  *    5   narrow the window; a larger one is not supported
  *    6   E is N for rule 0 and N * N for rule 1: fetch the sheet again, or give arrays of exactly E
- *    7   lend TOHIRANGA_ANSWER_SIZE, TOHIRANGA_SHEET_SIZE or E elements; from an answer sheet ask for a cabinet below N
+ *    7   lend TOHIRANGA_ANSWER_SIZE, TOHIRANGA_SHEET_SIZE, TOHIRANGA_VALUES_SIZE or E elements; from an answer sheet ask for a
+ *        cabinet below N
  *    8   place is the lowest such entry: what filled it is at fault
  *    9   place is the lowest such entry: set the reading to 0, or the mark to 1 if the reading was really received
  *   10   hold a missing reading for the next round; do not use an old value. More cabinets are bad than planned for, or the
  *        window is too narrow
  *   11   start from a smaller accuracy, or for fewer rounds; a plan that has run out is made anew by tohiranga_plan
  *   12   raise the target: a window of 1 and more falls below 1 only where m is 0
+ *   13   rule 0, at most 32 rounds and TOHIRANGA_TRACE_SIZE bytes: fetch the trace again; a longer run is not supported
+ *   14   mark the entries of sound senders missing, since the replay supplies them
+ *   15   place / 64 is the round and place % 64 the cabinet: look at what it heard. More are faulty than planned for, or the
+ *        first readings of sound cabinets lie too far apart
  */
 #ifndef TOHIRANGA_H
 #define TOHIRANGA_H
@@ -66,7 +71,10 @@ enum tohiranga_refusal {
     TOHIRANGA_BAD_MISSING = 9,
     TOHIRANGA_TOO_MANY_FAULTS = 10,
     TOHIRANGA_BAD_PLAN = 11,
-    TOHIRANGA_TARGET_MISSED = 12
+    TOHIRANGA_TARGET_MISSED = 12,
+    TOHIRANGA_BAD_TRACE = 13,
+    TOHIRANGA_BAD_ROLES = 14,
+    TOHIRANGA_RUN_STOPPED = 15
 };
 
 /* The entries of a sheet of n cabinets; the bytes of a sheet and of an answer sheet; the bytes of the longest of each. */
@@ -75,6 +83,12 @@ enum tohiranga_refusal {
 #define TOHIRANGA_ANSWER_SIZE(n) (10 + 5 * (size_t)(n))
 #define TOHIRANGA_MAX_SHEET 20488
 #define TOHIRANGA_MAX_ANSWER 330
+
+/* The bytes of a trace of n cabinets and so many rounds, and of the values that a replay writes; the most of each. */
+#define TOHIRANGA_TRACE_SIZE(n, rounds) (9 + 5 * (size_t)(n) + 5 * (size_t)(rounds) * (size_t)(n) * (size_t)(n))
+#define TOHIRANGA_VALUES_SIZE(n) (4 * (size_t)(n))
+#define TOHIRANGA_MAX_TRACE 655689
+#define TOHIRANGA_MAX_VALUES 256
 
 /* The settings: n cabinets, m faults planned for, the window in ticks. */
 struct tohiranga_settings {
@@ -99,7 +113,7 @@ struct tohiranga_planning {
     struct tohiranga_plan plan;
 };
 
-/* The number of refusal in an answer, 0 for a grant; its place: the entry for 8 and 9, else 0. */
+/* The number of refusal in an answer, 0 for a grant; its place: the entry for 8 and 9, 64 * round + cabinet for 15, else 0. */
 static inline uint32_t tohiranga_number(uint64_t answer) { return (uint32_t)(answer >> 32); }
 static inline uint32_t tohiranga_place(uint64_t answer) { return (uint32_t)answer; }
 
@@ -119,6 +133,9 @@ static inline const char *tohiranga_refusal_text(unsigned number) {
     case TOHIRANGA_BAD_PLAN:
         return "starting accuracy above 1,000,000,000, more than 32 rounds, or a plan that can go no further";
     case TOHIRANGA_TARGET_MISSED: return "no count of rounds up to 32 reaches the target";
+    case TOHIRANGA_BAD_TRACE: return "the trace is not one of an FCA run of at most 32 rounds, or not as long as it says";
+    case TOHIRANGA_BAD_ROLES: return "a role is not 0 or 1, or a sound sender's entry is present";
+    case TOHIRANGA_RUN_STOPPED: return "too many faults for a sound cabinet; the place is 64 x round (from 1) + cabinet";
     default: return "no refusal of this library";
     }
 }
@@ -178,6 +195,19 @@ struct tohiranga_planning tohiranga_step(struct tohiranga_plan plan);
 /* A number of rounds, at most 32, after which the window is at or below the target. Several may fit, and which one is
  * answered is not promised. Refuses under 2 to 5, 11 and 12. */
 uint64_t tohiranga_target(struct tohiranga_settings settings, uint32_t accuracy, uint32_t target);
+
+/* Replays a recorded FCA run: fills in the final values and answers their length, 4N. Refuses under 1 to 5, 13, 7, 8, 9, 14 and
+ * 15, in this order; 8, 9 and 14 look at every entry.
+ *
+ * The trace, least significant byte first: bytes 0 to 7 as of a sheet, rule 0; byte 8 the number of rounds, 0 to 32; N roles of
+ * one byte (1 sound, 0 faulty); N first readings of four bytes, signed; then the marks (1 present, 0 missing) and then the
+ * readings (four bytes, signed, 0 where missing) of what each sender sent each receiver in each round: entry
+ * (round * N + sender) * N + receiver, the round from 0. A sound sender's entries are missing: it sends every cabinet what it
+ * holds.
+ * The values: four bytes a cabinet, signed, 0 for faulty ones. In each round every sound cabinet settles what it hears, with
+ * the plan's window of that round; after 0 rounds the values are the first readings. A faulty cabinet's first reading, and what
+ * it receives, change no value and no 15. */
+uint64_t tohiranga_replay(const uint8_t *trace, size_t trace_len, uint8_t *values, size_t values_len);
 
 #ifdef __cplusplus
 }

@@ -56,6 +56,14 @@ def answer_size(n):
     return FIGURES["answerHeaderSize"] + 5 * n
 
 
+def trace_size(n, rounds):
+    return FIGURES["headerSize"] + 1 + 5 * n + 5 * rounds * n * n
+
+
+def values_size(n):
+    return 4 * n
+
+
 def constant(name):
     """tooShort as TOO_SHORT"""
     return re.sub(r"([A-Z])", r"_\1", name).upper()
@@ -67,16 +75,16 @@ def refusals():
     numbers = dict(re.findall(r"^(\w+)Number = (\d+)$", page, flags=re.M))
     rows = re.findall(r"^(\w+) .*= (?:refuseIf|atEntry) .* (\w+)Number$", page, flags=re.M)
     checks = [(name, numbers[number]) for name, number in rows]
-    if [int(number) for _, number in checks] != list(range(1, 13)):
-        sys.exit("figures: crates/model/specs/Refusals.antt does not have the checks 1 to 12")
+    if [int(number) for _, number in checks] != list(range(1, 16)):
+        sys.exit("figures: crates/model/specs/Refusals.antt does not have the checks 1 to 15")
     return [(int(number), constant(name)) for name, number in checks]
 
 
 def meanings():
     """README's table of refusals."""
     rows = re.findall(r"^\| (\d+) \| ([^|]+) \| [^|]+ \|$", text(ROOT / "README.md"), flags=re.M)
-    if [int(number) for number, _ in rows] != list(range(1, 13)):
-        sys.exit("figures: README does not have the refusals 1 to 12")
+    if [int(number) for number, _ in rows] != list(range(1, 16)):
+        sys.exit("figures: README does not have the refusals 1 to 15")
     return {int(number): meaning.strip() for number, meaning in rows}
 
 
@@ -97,12 +105,14 @@ def shared():
     yield f"TICKS_PER_SECOND {FIGURES['ticksPerSecond']}"
     yield f"MAX_SHEET {sheet_size(FIGURES['maxCabinets'], FIGURES['cca'])}"
     yield f"MAX_ANSWER {answer_size(FIGURES['maxCabinets'])}"
+    yield f"MAX_TRACE {trace_size(FIGURES['maxCabinets'], FIGURES['maxRounds'])}"
+    yield f"MAX_VALUES {values_size(FIGURES['maxCabinets'])}"
     for name in ("fca", "cca", "average", "median", "midpoint"):
         yield f"{name.upper()} {FIGURES[name]}"
     for number, name in refusals():
         yield f"{name} {number}"
     said = meanings()
-    for number in range(14):
+    for number in range(17):
         yield f"refusal {number}: {said.get(number, 'no refusal of this library')}"
     for n in range(0, 256, 7):
         yield f"entries of {n} {entries(n, FIGURES['fca'])} {entries(n, FIGURES['cca'])}"
@@ -121,6 +131,8 @@ def in_c():
     yield f"VERSION {version_number()}"
     for n in range(0, 256, 7):
         yield f"bytes of {n} {sheet_size(n, FIGURES['fca'])} {sheet_size(n, FIGURES['cca'])} {answer_size(n)}"
+    for n in range(0, 256, 7):
+        yield f"bytes of a replay of {n} {trace_size(n, 0)} {trace_size(n, FIGURES['maxRounds'])} {values_size(n)}"
 
     def ticks(bits):
         return bits - 2**32 if bits >= 2**31 else bits

@@ -73,7 +73,15 @@ sabotage "hostile: refusals allowed at t ≤ m" "sed -i 's/tally.few_refused += 
 sabotage "hostile: the wide limits are not held" "sed -i 's/self.wide_limits(tally, &sets, &values);//' outside/hostile/src/run.rs" "$hostile" "never held"
 sabotage "hostile: what was not reached is passed over" "sed -i '/never reached: /d' outside/hostile/src/run.rs" "$hostile"
 sabotage "hostile: plans are not compared" "sed -i 's/number(answer) != 0 || given != right/false/' outside/hostile/src/run.rs" "$hostile"
+sabotage "hostile: replays are not compared" "sed -i 's/answer != right || values != station/false/' outside/hostile/src/tape.rs" "$hostile" "replay-"
+sabotage "hostile: refused replays allowed at t ≤ m" "sed -i 's/few_refused_replays += (.*) as u64;/few_refused_replays += 0;/' outside/hostile/src/tape.rs" "$hostile" "no replay is refused\\|ends as the station did"
 sabotage "hostile: no run" "sed -i 's/runs: 100_000/runs: 0/' outside/hostile/src/main.rs" "(cd outside && cargo run -q --release --offline -p hostile)" "never held"
+
+# ---- the comparison
+compare="(cd outside && cargo build --release --offline -q -p reference -p compare && cargo test --release --offline -q -p compare)"
+sound "$compare" compare
+sabotage "compare: replays by hand are not compared" "sed -i '/self.same_replay(\"by hand\", &given, &by_hand, &bytes);/d' outside/compare/src/calls.rs" "$compare" "by hand\\|step-wide"
+sabotage "compare: no trace" "sed -i 's/now.is_multiple_of(SHEETS_FOR_A_TRACE)/false/' outside/compare/src/calls.rs" "$compare" "not met\\|not found"
 
 # ---- what must run
 required=tests/check_required

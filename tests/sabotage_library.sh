@@ -63,6 +63,13 @@ sabotage "header: the text of refusal 8" $header "a mark is not 0 or 1;" "a mark
 sabotage "header: refusals 8 and 9 swapped" $header "TOHIRANGA_BAD_MARK = 8,
     TOHIRANGA_BAD_MISSING = 9," "TOHIRANGA_BAD_MARK = 9,
     TOHIRANGA_BAD_MISSING = 8,"
+sabotage "header: the text of refusal 15" $header "64 x round (from 1)" "64 x round (from 0)"
+sabotage "header: refusals 14 and 15 swapped" $header "TOHIRANGA_BAD_ROLES = 14,
+    TOHIRANGA_RUN_STOPPED = 15" "TOHIRANGA_BAD_ROLES = 15,
+    TOHIRANGA_RUN_STOPPED = 14"
+sabotage "header: traces of 8 + 5N + 5 rounds N N" $header "TRACE_SIZE(n, rounds) (9 +" "TRACE_SIZE(n, rounds) (8 +"
+sabotage "header: values of 5N" $header "VALUES_SIZE(n) (4 *" "VALUES_SIZE(n) (5 *"
+sabotage "header: the longest trace" $header "MAX_TRACE 655689" "MAX_TRACE 655688"
 sabotage "header: answer sheets of 9 + 5N" $header "ANSWER_SIZE(n) (10 +" "ANSWER_SIZE(n) (9 +"
 sabotage "header: -1 read as -2" $header "(4294967295u - bits) - 1" "(4294967295u - bits) - 2"
 sabotage "header: another version" $header "VERSION_MINOR 2" "VERSION_MINOR 3"
@@ -83,6 +90,10 @@ sabotage "wrapper: the numbers of 8 and 10 swapped" $wrapper "BAD_MARK: u32 = 8;
     pub const BAD_MISSING: u32 = 9;
     pub const TOO_MANY_FAULTS: u32 = 8;"
 sabotage "wrapper: the meaning of 8" $wrapper "a mark is not 0 or 1; the place is its entry" "too many faults: no reading is accepted"
+sabotage "wrapper: the meaning of 14" $wrapper "a role is not 0 or 1, or" "a role is not 1 or 2, or"
+sabotage "wrapper: MAX_TRACE 20488" $wrapper "MAX_TRACE: usize = 655_689" "MAX_TRACE: usize = 20_488"
+sabotage "wrapper: trace and values swapped" $wrapper "tohiranga_replay(trace.as_ptr(), trace.len(), values.as_mut_ptr(), values.len())" \
+    "tohiranga_replay(values.as_ptr(), values.len(), trace.as_ptr() as *mut u8, trace.len())"
 sabotage "wrapper: estimate and new value swapped" $wrapper "self.field(tohiranga_answer_value)" "self.field(tohiranga_answer_estimate)"
 sabotage "wrapper: mark and used value swapped" $wrapper "self.field_of(tohiranga_answer_mark, cabinet)" "self.field_of(tohiranga_answer_used, cabinet)"
 sabotage "wrapper: another version" bindings/rust/Cargo.toml 'version = "0.2.0"' 'version = "0.2.1"'

@@ -32,6 +32,8 @@ int main(void) {
     NUMBER(TICKS_PER_SECOND);
     NUMBER(MAX_SHEET);
     NUMBER(MAX_ANSWER);
+    NUMBER(MAX_TRACE);
+    NUMBER(MAX_VALUES);
     NUMBER(FCA);
     NUMBER(CCA);
     NUMBER(AVERAGE);
@@ -49,7 +51,10 @@ int main(void) {
     NUMBER(TOO_MANY_FAULTS);
     NUMBER(BAD_PLAN);
     NUMBER(TARGET_MISSED);
-    for (unsigned number = 0; number < 14; number++)
+    NUMBER(BAD_TRACE);
+    NUMBER(BAD_ROLES);
+    NUMBER(RUN_STOPPED);
+    for (unsigned number = 0; number < 17; number++)
         printf("refusal %u: %s\n", number, tohiranga_refusal_text(number));
     for (unsigned n = 0; n < 256; n += 7)
         printf("entries of %u %zu %zu\n", n, TOHIRANGA_ENTRIES(n, TOHIRANGA_FCA), TOHIRANGA_ENTRIES(n, TOHIRANGA_CCA));
@@ -70,6 +75,9 @@ int main(void) {
     for (unsigned n = 0; n < 256; n += 7)
         printf("bytes of %u %zu %zu %zu\n", n, TOHIRANGA_SHEET_SIZE(n, TOHIRANGA_FCA), TOHIRANGA_SHEET_SIZE(n, TOHIRANGA_CCA),
                TOHIRANGA_ANSWER_SIZE(n));
+    for (unsigned n = 0; n < 256; n += 7)
+        printf("bytes of a replay of %u %zu %zu %zu\n", n, TOHIRANGA_TRACE_SIZE(n, 0), TOHIRANGA_TRACE_SIZE(n, 32),
+               TOHIRANGA_VALUES_SIZE(n));
     for (uint32_t number = 0; number < 3; number++)
         for (uint32_t place = 0; place < 3; place++) {
             uint64_t answer = REFUSED(number * 2147483647u, place * 2147483647u);

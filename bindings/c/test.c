@@ -24,7 +24,7 @@ static void expect(int holds, const char *what, int line) {
 
 /* ---- Lent buffers */
 
-enum { OLD = 0xa5, PAGE = 4096, LARGEST = 8 * PAGE };
+enum { OLD = 0xa5, PAGE = 4096, LARGEST = 8 * PAGE, LONGEST = TOHIRANGA_MAX_TRACE + PAGE };
 
 struct lent {
     uint8_t *pages, *start;
@@ -274,6 +274,154 @@ static void case_1(void) {
         EXPECT(answer[i] == OLD);
 }
 
+/* ---- Replays */
+
+static void put(uint8_t *bytes, int32_t ticks) {
+    for (int i = 0; i < 4; i++)
+        bytes[i] = (uint8_t)((uint32_t)ticks >> (8 * i));
+}
+
+static int32_t get(const uint8_t *bytes) {
+    uint64_t bits = 0;
+    for (int i = 3; i >= 0; i--)
+        bits = 256 * bits + bytes[i];
+    return tohiranga_ticks(bits);
+}
+
+/* The parts of a trace. */
+static uint8_t *roles_of(uint8_t *trace) { return trace + 9; }
+static uint8_t *first_of(uint8_t *trace) { return trace + 9 + trace[0]; }
+static uint8_t *marks_of(uint8_t *trace) { return trace + 9 + 5 * trace[0]; }
+static size_t entries_of(const uint8_t *trace) { return (size_t)trace[8] * trace[0] * trace[0]; }
+static uint8_t *readings_of(uint8_t *trace) { return marks_of(trace) + entries_of(trace); }
+
+/* The last m cabinets are faulty, and send each cabinet something else in each round; sound cabinet r reads r at first. */
+static size_t make_trace(uint8_t *trace, uint8_t n, uint8_t rounds, uint8_t estimator) {
+    const uint8_t m = (uint8_t)((n - 1) / 3);
+    memset(trace, 0, TOHIRANGA_TRACE_SIZE(n, rounds));
+    trace[0] = n, trace[1] = m, trace[2] = TOHIRANGA_FCA, trace[3] = estimator, trace[4] = 100, trace[8] = rounds;
+    memset(roles_of(trace), 1, (size_t)(n - m));
+    for (int r = 0; r < n; r++)
+        put(first_of(trace) + 4 * r, r);
+    for (size_t e = 0; e < entries_of(trace); e++)
+        if (e / n % n >= (size_t)(n - m) && e % 5 != 0) {
+            marks_of(trace)[e] = 1;
+            put(readings_of(trace) + 4 * e, (int32_t)(e * 7 % 251) - 100);
+        }
+    return TOHIRANGA_TRACE_SIZE(n, rounds);
+}
+
+/* The same run as a loop over write, settle and step: fills in what the cabinets hold at the end. */
+static void replay_by_hand(uint8_t *trace, int32_t *held) {
+    const uint8_t n = trace[0], *roles = roles_of(trace);
+    struct tohiranga_settings settings = {n, trace[1], TOHIRANGA_FCA, trace[3], trace[4]};
+    struct tohiranga_planning planned = tohiranga_plan(settings, 0, 0);
+    for (int r = 0; r < n; r++)
+        held[r] = roles[r] == 1 ? get(first_of(trace) + 4 * r) : 0;
+    for (size_t round = 0; round < trace[8]; round++) {
+        int32_t next[64] = {0};
+        for (size_t p = 0; p < n; p++)
+            if (roles[p] == 1) {
+                uint8_t marks[64], sheet[TOHIRANGA_SHEET_SIZE(64, TOHIRANGA_FCA)], answer[TOHIRANGA_MAX_ANSWER];
+                int32_t readings[64];
+                for (size_t s = 0; s < n; s++) {
+                    const size_t e = (round * n + s) * n + p;
+                    marks[s] = roles[s] == 1 ? 1 : marks_of(trace)[e];
+                    readings[s] = roles[s] == 1 ? held[s] : get(readings_of(trace) + 4 * e);
+                }
+                const uint64_t size = tohiranga_write(planned.plan.settings, marks, n, readings, n, sheet, sizeof sheet);
+                EXPECT(size == TOHIRANGA_SHEET_SIZE(n, TOHIRANGA_FCA));
+                EXPECT(tohiranga_settle(sheet, (size_t)size, answer, sizeof answer) == TOHIRANGA_ANSWER_SIZE(n));
+                next[p] = get(answer + 6);
+            }
+        memcpy(held, next, sizeof next);
+        planned = tohiranga_step(planned.plan);
+        EXPECT(planned.answer == round + 1);
+    }
+}
+
+static uint64_t replay(struct lent trace, struct lent values) {
+    return tohiranga_replay(trace.start, trace.len, values.start, values.len);
+}
+
+static void replays(uint8_t *good, size_t len) {
+    const uint8_t n = good[0];
+    const size_t size = TOHIRANGA_VALUES_SIZE(n);
+    struct lent trace = lend_copy(good, len), room = lend(size), wide = lend(size + 7), tight = lend(size - 1), none = lend(0);
+    int32_t held[64];
+    replay_by_hand(good, held);
+    EXPECT(replay(trace, room) == size && replay(trace, wide) == size && kept_from(wide, size));
+    for (size_t r = 0; r < n; r++)
+        EXPECT(get(room.start + 4 * r) == held[r] && get(wide.start + 4 * r) == held[r]);
+    EXPECT(replay(trace, tight) == REFUSED(7, 0) && kept(tight) && replay(trace, none) == REFUSED(7, 0) && kept(none));
+    EXPECT(tohiranga_replay(trace.start, trace.len, NULL, 0) == REFUSED(7, 0));
+    EXPECT(tohiranga_replay(NULL, 0, NULL, 0) == REFUSED(1, 0));
+    EXPECT(memcmp(trace.start, good, len) == 0);
+    give_back(trace), give_back(room), give_back(wide), give_back(tight), give_back(none);
+}
+
+/* One byte of a trace is set, the refusal is as it must be, and the byte is set back. */
+static void replay_with(struct lent trace, uint8_t *at, uint8_t byte, struct lent room, uint64_t wanted) {
+    const uint8_t was = *at;
+    *at = byte;
+    EXPECT(replay(trace, room) == wanted && kept(room));
+    *at = was;
+}
+
+static void replays_bad(const uint8_t *good, size_t len) {
+    struct lent trace = lend_copy(good, len), room = lend(TOHIRANGA_VALUES_SIZE(good[0]));
+    uint8_t *t = trace.start;
+    const size_t last = entries_of(t) - 1;
+    EXPECT(tohiranga_replay(NULL, 0, room.start, room.len) == REFUSED(1, 0) && kept(room));
+    const size_t cuts[] = {0, 1, 7, 8, 9, 10, len / 2, len - 1};
+    for (size_t i = 0; i < sizeof cuts / sizeof *cuts; i++) {
+        struct lent part = lend_copy(good, cuts[i]);
+        EXPECT(replay(part, room) == (cuts[i] < 8 ? REFUSED(1, 0) : REFUSED(13, 0)) && kept(room));
+        give_back(part);
+    }
+    struct lent longer = lend(len + 1);
+    memcpy(longer.start, good, len);
+    EXPECT(replay(longer, room) == REFUSED(13, 0) && kept(room));
+    replay_with(trace, t, 0, room, REFUSED(2, 0));
+    replay_with(trace, t + 1, 22, room, REFUSED(3, 0));
+    replay_with(trace, t + 2, 2, room, REFUSED(4, 0));
+    replay_with(trace, t + 3, 3, room, REFUSED(4, 0));
+    replay_with(trace, t + 7, 1, room, REFUSED(5, 0));
+    replay_with(trace, t + 2, TOHIRANGA_CCA, room, REFUSED(13, 0));
+    replay_with(trace, t + 8, (uint8_t)(t[8] + 1), room, REFUSED(13, 0));
+    replay_with(trace, marks_of(t), 2, room, REFUSED(8, 0));
+    replay_with(trace, marks_of(t) + last, 255, room, REFUSED(8, last));
+    replay_with(trace, readings_of(t) + 3, 1, room, REFUSED(9, 0));
+    replay_with(trace, roles_of(t), 2, room, REFUSED(14, 0));
+    replay_with(trace, roles_of(t) + t[0] - 1, 255, room, REFUSED(14, 0));
+    replay_with(trace, marks_of(t), 1, room, REFUSED(14, 0));
+    replay_with(trace, marks_of(t) + t[0] - 1, 1, room, REFUSED(14, 0)); /* from 0 to the last, which is faulty from N 4 on */
+    EXPECT(memcmp(t, good, len) == 0);
+    give_back(trace), give_back(room), give_back(longer);
+}
+
+/* Two cabinets, planned for no fault, of which cabinet 0 lies: 0 and 10 give 5, and then the window is 0. */
+static void replay_stops(void) {
+    uint8_t trace[TOHIRANGA_TRACE_SIZE(2, 33)] = {2, 0, TOHIRANGA_FCA, TOHIRANGA_AVERAGE, 10, 0, 0, 0, 2, 0, 1};
+    uint8_t values[9];
+    memset(values, OLD, sizeof values);
+    marks_of(trace)[1] = marks_of(trace)[5] = 1;
+    put(readings_of(trace) + 4 * 1, 10), put(readings_of(trace) + 4 * 5, 6);
+    EXPECT(tohiranga_replay(trace, TOHIRANGA_TRACE_SIZE(2, 2), values, sizeof values) == REFUSED(15, 64 * 2 + 1));
+    put(readings_of(trace) + 4 * 1, 11);
+    EXPECT(tohiranga_replay(trace, TOHIRANGA_TRACE_SIZE(2, 2), values, sizeof values) == REFUSED(15, 64 * 1 + 1));
+    for (size_t i = 0; i < sizeof values; i++)
+        EXPECT(values[i] == OLD);
+    put(readings_of(trace) + 4 * 1, 10), put(readings_of(trace) + 4 * 5, 5);
+    EXPECT(tohiranga_replay(trace, TOHIRANGA_TRACE_SIZE(2, 2), values, sizeof values) == 8);
+    EXPECT(get(values) == 0 && get(values + 4) == 5 && values[8] == OLD);
+    memset(trace + 8, 0, sizeof trace - 8);
+    trace[8] = 33, trace[9] = trace[10] = 1;
+    EXPECT(tohiranga_replay(trace, sizeof trace, values, sizeof values) == REFUSED(13, 0));
+    trace[8] = 32;
+    EXPECT(tohiranga_replay(trace, TOHIRANGA_TRACE_SIZE(2, 32), values, sizeof values) == 8 && get(values + 4) == 0);
+}
+
 int main(void) {
     EXPECT(sysconf(_SC_PAGESIZE) == PAGE);
     EXPECT(sizeof(struct tohiranga_settings) == 8 && sizeof(struct tohiranga_plan) == 16);
@@ -281,10 +429,11 @@ int main(void) {
     EXPECT(tohiranga_version() == TOHIRANGA_VERSION);
     case_1();
     plans();
-    static uint8_t sheet[LARGEST];
-    const uint8_t sizes[] = {1, 2, 4, 7, 16, 33, 64};
+    replay_stops();
+    static uint8_t sheet[LARGEST], trace[LONGEST];
+    const uint8_t sizes[] = {1, 2, 4, 7, 16, 33, 64}, rounds[] = {0, 1, 2, 6, 32};
     for (against_the_end = 0; against_the_end < 2; against_the_end++)
-        for (size_t i = 0; i < sizeof sizes; i++)
+        for (size_t i = 0; i < sizeof sizes; i++) {
             for (uint8_t rule = 0; rule < 2; rule++) {
                 size_t len = make_sheet(sheet, sizes[i], rule);
                 settle_bad(sheet, len, sizes[i]);
@@ -292,6 +441,10 @@ int main(void) {
                 rows_bad(sheet, len, sizes[i], rule);
                 answers_bad(sheet, len, sizes[i]);
             }
+            for (size_t k = 0; k < sizeof rounds; k++)
+                replays(trace, make_trace(trace, sizes[i], rounds[k], rounds[k] % 3));
+            replays_bad(trace, make_trace(trace, sizes[i], 2, TOHIRANGA_MEDIAN));
+        }
     printf("bad input through C: %lu expectations met\n", tried);
     return 0;
 }

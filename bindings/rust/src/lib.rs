@@ -19,9 +19,11 @@ pub const MAX_WINDOW: u32 = 1_000_000;
 pub const MAX_ACCURACY: u32 = 1_000_000_000;
 pub const MAX_ROUNDS: u32 = 32;
 
-/// The bytes of the longest sheet and the longest answer sheet.
+/// The bytes of the longest sheet, answer sheet and trace, and the most that a replay writes.
 pub const MAX_SHEET: usize = 20_488;
 pub const MAX_ANSWER: usize = 330;
+pub const MAX_TRACE: usize = 655_689;
+pub const MAX_VALUES: usize = 256;
 
 /// The version of this wrapper, and of the library that belongs to it.
 pub const VERSION: &str = env!("CARGO_PKG_VERSION");
@@ -86,7 +88,7 @@ impl Plan {
     }
 }
 
-/// A numbered refusal. The place is the lowest entry at fault for 8 and 9, else 0.
+/// A numbered refusal. The place is the lowest entry at fault for 8 and 9, 64 × round + cabinet for 15, else 0.
 #[derive(Clone, Copy, Debug, PartialEq, Eq)]
 pub struct Refusal {
     pub number: u32,
@@ -106,6 +108,9 @@ impl Refusal {
     pub const TOO_MANY_FAULTS: u32 = 10;
     pub const BAD_PLAN: u32 = 11;
     pub const TARGET_MISSED: u32 = 12;
+    pub const BAD_TRACE: u32 = 13;
+    pub const BAD_ROLES: u32 = 14;
+    pub const RUN_STOPPED: u32 = 15;
 
     /// What the number means.
     pub fn meaning(&self) -> &'static str {
@@ -124,6 +129,13 @@ impl Refusal {
                 "starting accuracy above 1,000,000,000, more than 32 rounds, or a plan that can go no further"
             }
             Self::TARGET_MISSED => "no count of rounds up to 32 reaches the target",
+            Self::BAD_TRACE => {
+                "the trace is not one of an FCA run of at most 32 rounds, or not as long as it says"
+            }
+            Self::BAD_ROLES => "a role is not 0 or 1, or a sound sender's entry is present",
+            Self::RUN_STOPPED => {
+                "too many faults for a sound cabinet; the place is 64 x round (from 1) + cabinet"
+            }
             _ => "no refusal of this library",
         }
     }
@@ -250,6 +262,12 @@ extern "C" {
     fn tohiranga_answer_value(answer: *const u8, answer_len: usize) -> u64;
     fn tohiranga_answer_mark(answer: *const u8, answer_len: usize, cabinet: u32) -> u64;
     fn tohiranga_answer_used(answer: *const u8, answer_len: usize, cabinet: u32) -> u64;
+    fn tohiranga_replay(
+        trace: *const u8,
+        trace_len: usize,
+        values: *mut u8,
+        values_len: usize,
+    ) -> u64;
     fn tohiranga_version() -> u32;
 }
 
@@ -258,6 +276,15 @@ pub fn settle(sheet: &[u8], answer: &mut [u8]) -> Result<usize, Refusal> {
     // SAFETY: each pointer goes with its slice's length, and the borrows keep the slices apart.
     granted(unsafe {
         tohiranga_settle(sheet.as_ptr(), sheet.len(), answer.as_mut_ptr(), answer.len())
+    })
+}
+
+/// Replays a recorded FCA run: the final values, four bytes for each cabinet and 0 for faulty ones, fill the start of the
+/// buffer, and their length, 4N, is given back.
+pub fn replay(trace: &[u8], values: &mut [u8]) -> Result<usize, Refusal> {
+    // SAFETY: each pointer goes with its slice's length, and the borrows keep the slices apart.
+    granted(unsafe {
+        tohiranga_replay(trace.as_ptr(), trace.len(), values.as_mut_ptr(), values.len())
     })
 }
 

@@ -108,6 +108,63 @@ fn shows_the_answer_sheet() {
     assert_eq!(Answer::new(&[64; 330]).unwrap().used(63), Ok(0x4040_4040));
 }
 
+/// One round of four cabinets: 0, 1 and 2 read 0, 4 and 10 at first, and 3, faulty, sends 14 to 0 and -6 to 1.
+fn trace() -> Vec<u8> {
+    let mut trace = vec![4, 1, FCA, MEDIAN, 10, 0, 0, 0, 1, 1, 1, 1, 0];
+    trace.extend([0i32, 4, 10, -1].map(i32::to_le_bytes).concat());
+    let (mut marks, mut readings) = ([0; 16], [0i32; 16]);
+    (marks[12], marks[13]) = (1, 1);
+    (readings[12], readings[13]) = (14, -6);
+    trace.extend(marks);
+    trace.extend(readings.map(i32::to_le_bytes).concat());
+    trace
+}
+
+#[test]
+fn replays() {
+    let mut values = [0xa5; 17];
+    assert_eq!(replay(&trace(), &mut values), Ok(16));
+    assert_eq!(values[..16], [7i32, 2, 5, 0].map(i32::to_le_bytes).concat());
+    assert_eq!(values[16], 0xa5);
+}
+
+#[test]
+fn refuses_to_replay() {
+    let mut values = [0xa5; 16];
+    let mut with = |at: usize, byte: u8| {
+        let mut trace = trace();
+        trace[at] = byte;
+        replay(&trace, &mut values)
+    };
+    assert_eq!(with(0, 65), refused(2, 0));
+    assert_eq!(with(2, CCA), refused(Refusal::BAD_TRACE, 0));
+    assert_eq!(with(8, 33), refused(Refusal::BAD_TRACE, 0));
+    assert_eq!(with(29 + 5, 2), refused(8, 5));
+    assert_eq!(with(45 + 4 * 11, 1), refused(9, 11));
+    assert_eq!(with(12, 2), refused(Refusal::BAD_ROLES, 0));
+    assert_eq!(with(29 + 11, 1), refused(Refusal::BAD_ROLES, 0));
+    assert_eq!(with(4, 9), refused(Refusal::RUN_STOPPED, 64));
+    assert_eq!(replay(&trace()[..108], &mut values), refused(Refusal::BAD_TRACE, 0));
+    assert_eq!(replay(&trace(), &mut values[..15]), refused(7, 0));
+    assert_eq!(replay(&[], &mut []), refused(1, 0));
+    assert_eq!(values, [0xa5; 16]);
+}
+
+/// The most cabinets and the most rounds: all read the same, and nothing is sent.
+#[test]
+fn replays_the_longest_trace() {
+    let mut trace = vec![0; MAX_TRACE];
+    trace[..2].copy_from_slice(&[MAX_CABINETS, 21]);
+    trace[8] = MAX_ROUNDS as u8;
+    trace[9..9 + 64].fill(1);
+    trace[9 + 64..9 + 5 * 64].fill(0xff);
+    let mut values = [0; MAX_VALUES];
+    assert_eq!(replay(&trace, &mut values), Ok(MAX_VALUES));
+    assert_eq!(values, [0xff; MAX_VALUES]);
+    trace.push(0);
+    assert_eq!(replay(&trace, &mut values), refused(Refusal::BAD_TRACE, 0));
+}
+
 #[test]
 fn refusals_are_errors() {
     let refusal = Refusal { number: Refusal::BAD_MARK, place: 2 };

@@ -1,8 +1,9 @@
-//! The time that engines take to settle and to read the same sheets, side by side: the first beside
-//! each of the others.
+//! The time that engines take to settle and to read the same sheets, and to replay the same traces, side
+//! by side: the first beside each of the others.
 #![forbid(unsafe_code)]
 
 mod picture;
+mod replays;
 mod sheets;
 
 use engine::{Engine, Settings};
@@ -85,9 +86,10 @@ fn engines(names: &str) -> Option<Vec<Box<dyn Engine>>> {
 enum Call {
     Settle,
     Read,
+    Replay,
 }
 
-/// Makes the call for all sheets so many times over.
+/// Makes the call for all sheets, or traces, so many times over.
 fn time(engine: &dyn Engine, call: Call, sheets: &[Vec<u8>], times: u32) -> Duration {
     let mut answer = [0; 330];
     let mut settings = Settings::default();
@@ -104,6 +106,7 @@ fn time(engine: &dyn Engine, call: Call, sheets: &[Vec<u8>], times: u32) -> Dura
                     black_box(&mut marks),
                     black_box(&mut readings),
                 ),
+                Call::Replay => engine.replay(sheet, black_box(&mut answer)),
             });
         }
     }
@@ -218,6 +221,55 @@ fn show_reading(engines: &Engines, slices: usize) {
     }
 }
 
+/// Replays, and the settlings of the same sheets; false where the engines do not agree.
+fn show_replays(engines: &Engines, slices: usize) -> bool {
+    println!();
+    println!(
+        "Replaying the same traces of {} rounds in which m cabinets lie, in ns per replay,",
+        replays::ROUNDS
+    );
+    println!("and settling the sheets of such a run one by one:");
+    let plain = engines.iter().position(|engine| engine.name() == "plain");
+    let mut beside = Vec::new();
+    for n in replays::SIZES {
+        let traces = replays::traces(n);
+        let bytes: Vec<Vec<u8>> = traces.iter().map(|trace| trace.bytes()).collect();
+        let sheets: Vec<Vec<u8>> = traces.iter().flat_map(replays::sheets).collect();
+        if !replays_agree(engines, &bytes) {
+            println!("FAILED: replays of N {n}: the answers are not as they should be");
+            return false;
+        }
+        let (rule, kind) = (reference::FCA, Kind::SomeLiars);
+        let replayed = side_by_side(engines, Call::Replay, &bytes, slices);
+        let of_a_run = sheets.len() as f64 / traces.len() as f64;
+        let settled = side_by_side(engines, Call::Settle, &sheets, slices);
+        let settled: Vec<f64> = settled.iter().map(|ns| ns * of_a_run).collect();
+        if let Some(plain) = plain {
+            beside.push(format!("N {n} {:.2}", replayed[0] / settled[plain]));
+        }
+        println!("{}", Cell { rule, kind, n, ns: replayed }.start_of_line("replay"));
+        println!("{}", Cell { rule, kind, n, ns: settled }.start_of_line("its sheets"));
+    }
+    if plain.is_some() {
+        let first = engines[0].name();
+        println!("A replay by {first} over its sheets settled by plain: {}", beside.join(", "));
+    }
+    true
+}
+
+/// All engines replay alike, and refuse nothing.
+fn replays_agree(engines: &Engines, traces: &[Vec<u8>]) -> bool {
+    let replayed = |engine: &dyn Engine, trace| {
+        let mut values = [0; 4 * 64];
+        (engine.replay(trace, &mut values), values)
+    };
+    traces.iter().all(|trace| {
+        let first = replayed(&*engines[0], trace);
+        let same = engines[1..].iter().all(|engine| replayed(&**engine, trace) == first);
+        same && engine::number(first.0) == 0
+    })
+}
+
 fn main() -> ExitCode {
     let Some(options) = options() else {
         eprintln!("{USAGE}");
@@ -232,6 +284,9 @@ fn main() -> ExitCode {
     };
     show_means(&engines, &cells);
     show_reading(&engines, options.slices);
+    if !show_replays(&engines, options.slices) {
+        return ExitCode::FAILURE;
+    }
     let names: Vec<String> = engines.iter().map(|engine| engine.name()).collect();
     if let Err(error) = std::fs::write(&options.svg, picture::svg(&names, &cells)) {
         println!("FAILED: {}: {error}", options.svg);

@@ -2,7 +2,7 @@
 
 use engine::Settings;
 use random::Random;
-use reference::{sheet_bytes, CCA, FCA};
+use reference::{marks_and_readings, sheet_bytes, CCA, FCA};
 
 pub const SIZES: [u8; 5] = [4, 7, 16, 32, 64];
 pub const RULES: [(u8, &str); 2] = [(FCA, "FCA"), (CCA, "CCA")];
@@ -69,8 +69,7 @@ fn sheet(random: &Random, n: u8, rule: u8, kind: Kind, estimator: u8) -> Vec<u8>
             (0..n).flat_map(row).collect()
         }
     };
-    let marks: Vec<u8> = entries.iter().map(|e| e.is_some() as u8).collect();
-    let readings: Vec<i32> = entries.iter().map(|e| e.unwrap_or(0)).collect();
+    let (marks, readings) = marks_and_readings(&entries);
     sheet_bytes(&settings, &marks, &readings)
 }
 

@@ -1,23 +1,40 @@
 //! Each call to both engines: answers and every lent byte are compared with each other, and
-//! each with what document 01 says of bytes that must survive.
+//! each with what the documents say of bytes that must survive.
 
-use crate::draw;
-use engine::{number, words, Engine, Plan, Settings};
+use crate::{draw, traces};
+use engine::traces::redraw_for_faulty;
+use engine::{number, replay_by_hand, words, Engine, Plan, Settings};
 use random::Random;
+use reference::Trace;
 
-pub const CALLS: [&str; 7] = ["settle", "read", "write", "row", "plan", "step", "target"];
+pub const CALLS: [&str; 8] = ["settle", "read", "write", "row", "plan", "step", "target", "replay"];
+
+/// A trace is replayed for every so many sheets.
+pub const SHEETS_FOR_A_TRACE: u64 = 2;
+
+/// What was replayed.
+pub struct Replays {
+    pub by_n: [u64; 65],
+    pub by_rounds: [u64; 33],
+    /// How often a sound cabinet met "too many faults" in each round.
+    pub stopped_in: [u64; 33],
+    pub several_faults: u64,
+    /// How often a run was replayed with other readings for faulty cabinets.
+    pub other_for_faulty: u64,
+}
 
 pub struct Comparison<'a> {
     pub a: &'a dyn Engine,
     pub b: &'a dyn Engine,
     /// How often each call was granted, or refused under each number.
-    pub outcomes: [[u64; 13]; 7],
+    pub outcomes: [[u64; 16]; 8],
     /// How often a sheet settled, for each rule, estimator and N.
     pub settled: [[[u64; 65]; 3]; 2],
     pub all_accepted: u64,
     pub several_faults: u64,
     pub rows_shown: u64,
     pub rows_empty: u64,
+    pub replays: Replays,
     pub differences: u64,
     /// The sheet that is compared now.
     pub now: u64,
@@ -28,12 +45,19 @@ impl<'a> Comparison<'a> {
         Comparison {
             a,
             b,
-            outcomes: [[0; 13]; 7],
+            outcomes: [[0; 16]; 8],
             settled: [[[0; 65]; 3]; 2],
             all_accepted: 0,
             several_faults: 0,
             rows_shown: 0,
             rows_empty: 0,
+            replays: Replays {
+                by_n: [0; 65],
+                by_rounds: [0; 33],
+                stopped_in: [0; 33],
+                several_faults: 0,
+                other_for_faulty: 0,
+            },
             differences: 0,
             now: 0,
         }
@@ -53,6 +77,9 @@ impl<'a> Comparison<'a> {
         self.plan(random);
         self.step(random);
         self.target(random);
+        if now.is_multiple_of(SHEETS_FOR_A_TRACE) {
+            self.replay(random);
+        }
     }
 
     /// Counts and shows a difference when something demanded does not hold.
@@ -64,7 +91,7 @@ impl<'a> Comparison<'a> {
     }
 
     fn answers(&mut self, call: usize, a: u64, b: u64, input: impl FnOnce() -> String) {
-        self.outcomes[call][number(a).min(12)] += 1;
+        self.outcomes[call][number(a).min(15)] += 1;
         self.demand(a == b, CALLS[call], || format!("{} / {}; {}", words(a), words(b), input()));
     }
 
@@ -73,25 +100,79 @@ impl<'a> Comparison<'a> {
         self.demand(before == after, call, || format!("{} wrote where it must not", who.name()));
     }
 
+    /// A call that fills a lent tray from lent bytes. The first engine's answer and tray.
+    fn fill(
+        &mut self,
+        call: usize,
+        bytes: &[u8],
+        old: &[u8],
+        make: fn(&dyn Engine, &[u8], &mut [u8]) -> u64,
+    ) -> (u64, Vec<u8>) {
+        let (mut tray_a, mut tray_b) = (old.to_vec(), old.to_vec());
+        let a = make(self.a, bytes, &mut tray_a);
+        let b = make(self.b, bytes, &mut tray_b);
+        self.answers(call, a, b, || in_words(bytes));
+        for (who, answer, tray) in [(self.a, a, &tray_a), (self.b, b, &tray_b)] {
+            let written = if number(answer) == 0 { (answer as usize).min(old.len()) } else { 0 };
+            self.survived(CALLS[call], who, &old[written..], &tray[written..]);
+        }
+        self.demand(tray_a == tray_b, CALLS[call], || {
+            let at = (0..old.len()).find(|&i| tray_a[i] != tray_b[i]).unwrap();
+            format!("byte {at} is {} / {}; {}", tray_a[at], tray_b[at], in_words(bytes))
+        });
+        (a, tray_a)
+    }
+
     fn settle(&mut self, random: &Random, sheet: &[u8]) {
         let n = sheet.first().map_or(4, |&n| n as usize % 65);
-        let length = draw::length(random, 10 + 5 * n);
-        let old = random.bytes(length);
-        let (mut tray_a, mut tray_b) = (old.clone(), old.clone());
-        let a = self.a.settle(sheet, &mut tray_a);
-        let b = self.b.settle(sheet, &mut tray_b);
-        self.answers(0, a, b, || in_words(sheet));
-        for (who, answer, tray) in [(self.a, a, &tray_a), (self.b, b, &tray_b)] {
-            let written = if number(answer) == 0 { (answer as usize).min(length) } else { 0 };
-            self.survived("settle", who, &old[written..], &tray[written..]);
-        }
-        self.demand(tray_a == tray_b, "settle", || {
-            let at = (0..length).find(|&i| tray_a[i] != tray_b[i]).unwrap();
-            format!("byte {at} is {} / {}; {}", tray_a[at], tray_b[at], in_words(sheet))
-        });
-        if number(a) == 0 {
+        let old = random.bytes(draw::length(random, 10 + 5 * n));
+        let settle = |who: &dyn Engine, sheet: &[u8], tray: &mut [u8]| who.settle(sheet, tray);
+        let (answer, tray) = self.fill(0, sheet, &old, settle);
+        if number(answer) == 0 {
             self.settled[sheet[2] as usize][sheet[3] as usize][n] += 1;
-            self.all_accepted += (tray_a[0] == tray_a[1]) as u64;
+            self.all_accepted += (tray[0] == tray[1]) as u64;
+        }
+    }
+
+    /// A replay is what a loop over the engine's own calls gives, and what faulty cabinets read at first
+    /// and receive plays no part in it.
+    fn replay(&mut self, random: &Random) {
+        let mut trace = traces::trace(random);
+        self.replays.several_faults += (traces::damage(random, &mut trace) > 1) as u64;
+        let bytes = traces::bytes(random, &trace);
+        let n = bytes.first().map_or(4, |&n| n as usize % 65);
+        let old = random.bytes(draw::length(random, 4 * n));
+        let replay = |who: &dyn Engine, trace: &[u8], tray: &mut [u8]| who.replay(trace, tray);
+        let given = self.fill(7, &bytes, &old, replay);
+
+        let mut tray = old.clone();
+        let by_hand = (replay_by_hand(self.a, &bytes, &mut tray), tray);
+        self.same_replay("by hand", &given, &by_hand, &bytes);
+        if let (0 | 15, Ok(trace)) = (number(given.0), Trace::open(&bytes)) {
+            let mut other = trace.clone();
+            redraw_for_faulty(random, &mut other);
+            let other = other.bytes();
+            let mut tray = old;
+            let again = (self.a.replay(&other, &mut tray), tray);
+            self.same_replay("with other readings for faulty cabinets", &given, &again, &bytes);
+            self.replays.other_for_faulty += (other != bytes) as u64;
+            self.count_replay(&trace, given.0);
+        }
+    }
+
+    fn same_replay(&mut self, how: &str, a: &(u64, Vec<u8>), b: &(u64, Vec<u8>), bytes: &[u8]) {
+        self.demand(a == b, "replay", || {
+            let values = if a.1 == b.1 { "the same values" } else { "other values" };
+            format!("{} / {how} {}, {values}; {}", words(a.0), words(b.0), in_words(bytes))
+        });
+    }
+
+    fn count_replay(&mut self, trace: &Trace, answer: u64) {
+        if number(answer) == 0 {
+            self.replays.by_n[trace.n()] += 1;
+            self.replays.by_rounds[trace.rounds as usize] += 1;
+        } else {
+            self.replays.stopped_in[(answer as u32 as usize / 64).min(32)] += 1;
         }
     }
 

@@ -1,7 +1,7 @@
 //! Inputs: settings, entries, sheets, and what is wrong with them.
 
 use random::Random;
-use reference::{sheet_bytes, Plan, Settings, CCA, FCA};
+use reference::{marks_and_readings, sheet_bytes, Plan, Settings, CCA, FCA};
 
 /// What a sheet is written from.
 pub struct Paper {
@@ -37,7 +37,7 @@ pub fn settings(random: &Random) -> Settings {
     }
 }
 
-fn clamp(value: i64) -> i32 {
+pub fn clamp(value: i64) -> i32 {
     value.clamp(i32::MIN as i64, i32::MAX as i64) as i32
 }
 
@@ -46,7 +46,7 @@ fn any(random: &Random) -> i32 {
 }
 
 /// N readings, most of them around one window, so that acceptance is often close.
-fn readings(random: &Random, settings: &Settings) -> Vec<Option<i32>> {
+pub fn readings(random: &Random, settings: &Settings) -> Vec<Option<i32>> {
     let n = settings.n as usize;
     let m = settings.m as usize;
     let w = settings.window as i64;
@@ -140,11 +140,8 @@ pub fn paper(random: &Random) -> Paper {
     } else {
         readings
     };
-    Paper {
-        settings,
-        marks: entries.iter().map(|e| e.is_some() as u8).collect(),
-        readings: entries.iter().map(|e| e.unwrap_or(0)).collect(),
-    }
+    let (marks, readings) = marks_and_readings(&entries);
+    Paper { settings, marks, readings }
 }
 
 /// One thing wrong with the settings.
@@ -159,16 +156,19 @@ pub fn damage_settings(random: &Random, settings: &mut Settings) {
     }
 }
 
-/// Bad marks or ghosts at one to three entries.
-fn damage_entries(random: &Random, paper: &mut Paper) {
+/// Bad marks or ghosts at one to three entries, if there are any.
+pub fn damage_entries(random: &Random, marks: &mut [u8], readings: &mut [i32]) {
     let bad_mark = random.percent(50);
     for _ in 0..random.between(1, 3) {
-        let entry = random.below(paper.marks.len());
+        if marks.is_empty() {
+            return;
+        }
+        let entry = random.below(marks.len());
         if bad_mark {
-            paper.marks[entry] = random.pick(&[2, 128, 255, 2 + random.draw() as u8 % 254]);
+            marks[entry] = random.pick(&[2, 128, 255, 2 + random.draw() as u8 % 254]);
         } else {
-            paper.marks[entry] = 0;
-            paper.readings[entry] = random.pick(&[1, 1 << 8, 1 << 16, 1 << 24, -1, i32::MIN]);
+            marks[entry] = 0;
+            readings[entry] = random.pick(&[1, 1 << 8, 1 << 16, 1 << 24, -1, i32::MIN]);
         }
     }
 }
@@ -180,7 +180,7 @@ pub fn damage_paper(random: &Random, paper: &mut Paper) -> u64 {
         if random.percent(40) {
             damage_settings(random, &mut paper.settings);
         } else {
-            damage_entries(random, paper);
+            damage_entries(random, &mut paper.marks, &mut paper.readings);
         }
     }
     faults
@@ -188,6 +188,11 @@ pub fn damage_paper(random: &Random, paper: &mut Paper) -> u64 {
 
 /// A sheet, often damaged, sometimes of wrong length, sometimes of any bytes at all.
 pub fn sheet(random: &Random, paper: &Paper) -> Vec<u8> {
+    spoiled(random, sheet_bytes(&paper.settings, &paper.marks, &paper.readings))
+}
+
+/// Bytes that are sometimes too many or too few, and sometimes any at all.
+pub fn spoiled(random: &Random, mut bytes: Vec<u8>) -> Vec<u8> {
     if random.percent(3) {
         let length = random.below(60);
         let mut bytes = random.bytes(length);
@@ -197,7 +202,6 @@ pub fn sheet(random: &Random, paper: &Paper) -> Vec<u8> {
         }
         return bytes;
     }
-    let mut bytes = sheet_bytes(&paper.settings, &paper.marks, &paper.readings);
     if random.percent(5) {
         match random.below(4) {
             0 => bytes.push(random.draw() as u8),

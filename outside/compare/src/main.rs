@@ -4,8 +4,9 @@
 mod calls;
 mod draw;
 mod program;
+mod traces;
 
-use calls::{Comparison, CALLS};
+use calls::{Comparison, CALLS, SHEETS_FOR_A_TRACE};
 use engine::sabotage::{Sabotaged, SABOTAGES};
 use engine::Engine;
 use random::Random;
@@ -14,15 +15,17 @@ use std::time::Instant;
 
 const USAGE: &str = "compare [--engines A,B] [--sheets COUNT] [--seed SEED] [--sabotage NAME] [--digest COUNT]
 compare --program PATH [--sheets COUNT] [--seed SEED]
+compare --replay PATH [--sheets COUNT] [--seed SEED]
 compare --sabotages
   --engines    reference, plain, tuned; when built in linked, and recorded, which is linked with a digest
   --sabotage   makes the first engine wrong in a named way
   --sabotages  lists the ways
   --digest     prints the digest of the first engine, recorded, after every so many sheets
-  --program    compares the text of a program `settle` with the reference's";
+  --program    compares the text of a program `settle` with the reference's
+  --replay     the same for a program `replay`, on so many traces";
 
 /// The numbers under which each call can refuse. Rows refuse nothing.
-const REFUSALS: [&[usize]; 7] = [
+const REFUSALS: [&[usize]; 8] = [
     &[1, 2, 3, 4, 5, 6, 7, 8, 9, 10],
     &[1, 2, 3, 4, 5, 6, 7, 8, 9],
     &[2, 3, 4, 5, 6, 7, 8, 9],
@@ -30,6 +33,7 @@ const REFUSALS: [&[usize]; 7] = [
     &[2, 3, 4, 5, 11],
     &[2, 3, 4, 5, 11],
     &[2, 3, 4, 5, 11, 12],
+    &[1, 2, 3, 4, 5, 7, 8, 9, 13, 14, 15],
 ];
 
 struct Options {
@@ -38,6 +42,7 @@ struct Options {
     seed: u64,
     sabotage: Option<String>,
     program: Option<String>,
+    replay: Option<String>,
     digest: u64,
 }
 
@@ -48,6 +53,7 @@ fn options() -> Option<Options> {
         seed: 1,
         sabotage: None,
         program: None,
+        replay: None,
         digest: u64::MAX,
     };
     let mut words = std::env::args().skip(1);
@@ -59,6 +65,7 @@ fn options() -> Option<Options> {
             "--seed" => options.seed = value?.parse().ok()?,
             "--sabotage" => options.sabotage = Some(value?),
             "--program" => options.program = Some(value?),
+            "--replay" => options.replay = Some(value?),
             "--digest" => options.digest = value?.parse().ok().filter(|&count| count > 0)?,
             _ => return None,
         }
@@ -86,8 +93,12 @@ fn main() -> ExitCode {
         eprintln!("{USAGE}");
         return ExitCode::from(2);
     };
+    let few = options.sheets.unwrap_or(1000);
     if let Some(path) = &options.program {
-        return program::compare(path, options.sheets.unwrap_or(1000), options.seed);
+        return program::compare_settle(path, few, options.seed);
+    }
+    if let Some(path) = &options.replay {
+        return program::compare_replay(path, few, options.seed);
     }
     let Some((a, b)) = engines(&options) else {
         eprintln!("no such engine or sabotage\n{USAGE}");
@@ -96,7 +107,7 @@ fn main() -> ExitCode {
     let sheets = options.sheets.unwrap_or(200_000);
     println!("{} / {}: {sheets} sheets, seed {}", a.name(), b.name(), options.seed);
     if options.engines.contains("plain") || options.engines.contains("tuned") {
-        println!("plain and tuned settle and read; their other calls are the reference's.");
+        println!("plain and tuned settle, read and replay; their other calls are the reference's.");
     }
     let start = Instant::now();
     let mut comparison = Comparison::new(&*a, &*b);
@@ -129,7 +140,7 @@ fn main() -> ExitCode {
 fn report(comparison: &Comparison, sheets: u64) -> usize {
     let mut unmet = 0;
     print!("call     granted");
-    for number in 1..=12 {
+    for number in 1..=15 {
         print!("{:>8}", format!("no. {number}"));
     }
     println!();
@@ -160,10 +171,31 @@ fn report(comparison: &Comparison, sheets: u64) -> usize {
     let by_kind = comparison.settled.iter().flatten().flat_map(|by_n| &by_n[1..]);
     let least = by_kind.clone().min().unwrap();
     println!("Each N from 1 to 64 settled with each rule and estimator at least {least} times.");
+    let replayed = report_replays(comparison, sheets);
     if sheets < 100_000 {
-        println!("This is asked of 100,000 sheets and more.");
+        println!("Each of these is asked of 100,000 sheets and more.");
     } else {
-        unmet += by_kind.filter(|&&count| count == 0).count();
+        unmet += by_kind.chain(replayed).filter(|&&count| count == 0).count();
     }
     unmet
+}
+
+/// Prints what was replayed; answers the counts that must not be 0.
+fn report_replays<'a>(
+    comparison: &'a Comparison,
+    sheets: u64,
+) -> impl Iterator<Item = &'a u64> + 'a {
+    let replays = &comparison.replays;
+    let traces = sheets.div_ceil(SHEETS_FOR_A_TRACE);
+    println!("{traces} traces, {} with several faults at once:", replays.several_faults);
+    println!(
+        "each N from 1 to 64 was replayed at least {} times, each number of rounds at least {} times;",
+        replays.by_n[1..].iter().min().unwrap(),
+        replays.by_rounds.iter().min().unwrap()
+    );
+    let later: u64 = replays.stopped_in[2..].iter().sum();
+    println!("{} runs stopped in round 1, {later} later;", replays.stopped_in[1]);
+    println!("{} were replayed with other readings for faulty cabinets.", replays.other_for_faulty);
+    let stopped = &replays.stopped_in[1..4];
+    replays.by_n[1..].iter().chain(&replays.by_rounds).chain(stopped)
 }

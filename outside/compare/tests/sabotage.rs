@@ -24,11 +24,35 @@ fn plain_and_tuned_are_the_reference() {
     }
 }
 
+/// Those of replay at a replay, the others at another call too.
 #[test]
 fn sabotages_are_found() {
     for (name, _) in SABOTAGES {
         let (status, text) = compare(&["--sheets", "3000", "--sabotage", name]);
         assert_eq!(status, Some(1), "{name} was not found\n{text}");
-        assert!(text.contains("DIFFERENCE"), "{name} was not found\n{text}");
+        let mut differences = text.lines().filter(|line| line.starts_with("DIFFERENCE"));
+        let of_replay = name.starts_with("replay-");
+        let found = differences.any(|line| line.contains(", replay: ") == of_replay);
+        assert!(found, "{name} was not found\n{text}");
+    }
+}
+
+/// A wrong step is found by the replays too: a loop over the engine's own calls gives other values.
+#[test]
+fn replays_are_compared_with_a_loop_over_the_other_calls() {
+    for name in ["step-wide", "half-down"] {
+        let (_, text) = compare(&["--sheets", "3000", "--sabotage", name]);
+        assert!(text.contains(", replay: ") && text.contains(" / by hand "), "{name}\n{text}");
+    }
+}
+
+#[test]
+fn a_program_that_replays_is_compared() {
+    let programs = std::path::Path::new(env!("CARGO_BIN_EXE_compare")).parent().unwrap();
+    for (program, right) in [("reference-replay", true), ("reference-settle", false)] {
+        let path = programs.join(program).to_str().unwrap().to_string();
+        let (status, text) = compare(&["--replay", &path, "--sheets", "200"]);
+        assert_eq!(status, Some(!right as i32), "{text}");
+        assert!(text.contains(if right { "PASSED" } else { "FAILED" }), "{text}");
     }
 }

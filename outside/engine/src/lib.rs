@@ -2,15 +2,19 @@
 //! a grant, any other is number × 2^32 + place of a refusal.
 #![deny(unsafe_code)]
 
+mod by_hand;
 #[cfg(feature = "linked")]
 mod linked;
 #[cfg(feature = "linked")]
 mod recorded;
 pub mod sabotage;
+pub mod traces;
 #[cfg(feature = "linked")]
 #[allow(unsafe_code)]
 mod whole;
+mod wrong_replay;
 
+pub use by_hand::replay_by_hand;
 use plain::{Plain, Steps, Tuned};
 pub use reference::{Plan, Refusal, Settings};
 
@@ -44,6 +48,9 @@ pub trait Engine {
     /// A count of rounds that fits.
     fn target(&self, settings: &Settings, accuracy: u32, target: u32) -> u64;
 
+    /// The length of the final values of a recorded run, 4N.
+    fn replay(&self, trace: &[u8], values: &mut [u8]) -> u64;
+
     /// A digest of all answers so far, where the engine keeps one.
     fn digest(&self) -> Option<u64> {
         None
@@ -67,7 +74,7 @@ pub fn words(answer: u64) -> String {
     }
 }
 
-/// The reference: document 01 in plain safe Rust.
+/// The reference: the documents in plain safe Rust.
 pub struct Reference;
 
 impl Engine for Reference {
@@ -115,6 +122,10 @@ impl Engine for Reference {
     fn target(&self, settings: &Settings, accuracy: u32, target: u32) -> u64 {
         reference::target(settings, accuracy, target).map_or_else(packed, |fit| fit[0] as u64)
     }
+
+    fn replay(&self, trace: &[u8], values: &mut [u8]) -> u64 {
+        reference::replay(trace, values).map_or_else(packed, |length| length as u64)
+    }
 }
 
 fn hand_back(given: Result<Plan, Refusal>, plan: &mut Plan) -> u64 {
@@ -127,7 +138,7 @@ fn hand_back(given: Result<Plan, Refusal>, plan: &mut Plan) -> u64 {
     }
 }
 
-/// Settles and reads by the steps of outside/plain; its other calls are the reference's.
+/// Settles, reads and replays by the steps of outside/plain; its other calls are the reference's.
 pub struct Own<S>(pub S);
 
 impl<S: Steps> Engine for Own<S> {
@@ -177,6 +188,10 @@ impl<S: Steps> Engine for Own<S> {
 
     fn target(&self, settings: &Settings, accuracy: u32, target: u32) -> u64 {
         Reference.target(settings, accuracy, target)
+    }
+
+    fn replay(&self, trace: &[u8], values: &mut [u8]) -> u64 {
+        plain::replay::<S>(trace, values)
     }
 }
 

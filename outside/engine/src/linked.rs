@@ -79,4 +79,8 @@ impl Engine for Linked {
     fn target(&self, settings: &Settings, accuracy: u32, target: u32) -> u64 {
         packed(settings_to(settings).rounds_for(accuracy, target), |rounds| rounds as u64)
     }
+
+    fn replay(&self, trace: &[u8], values: &mut [u8]) -> u64 {
+        packed(tohiranga::replay(trace, values), |length| length as u64)
+    }
 }

@@ -1,5 +1,6 @@
 //! Engines that are wrong in a named way, to show that the checks can fail.
 
+use crate::wrong_replay::wrong_replay;
 use crate::{number, packed, Engine, Plan, Refusal, Settings};
 use reference::Round;
 
@@ -31,6 +32,31 @@ pub const SABOTAGES: &[(&str, &str)] = &[
     ("step-late", "a step after 32 rounds is granted"),
     ("step-wide", "a step does not narrow the window"),
     ("target-short", "the target's count is one round too few"),
+    ("replay-swapped", "a replay takes senders for receivers"),
+    ("replay-at-once", "a replay uses new values within the same round"),
+    ("replay-wide", "a replay has the first window in every round"),
+    ("replay-early", "a replay steps the window before the first round"),
+    ("replay-late", "a replay steps the window a round late"),
+    (
+        "replay-tick",
+        "a replay's values are a tick high for a trace whose bytes add up to an odd number",
+    ),
+    ("replay-from-zero", "a replay's refusal 15 counts rounds from 0"),
+    ("replay-highest", "a replay's refusal 15 names the highest cabinet"),
+    ("replay-last", "a replay's refusal 15 names the last such round"),
+    ("replay-receivers", "a replay does not ask 14 of entries to faulty receivers"),
+    ("replay-roles", "a replay takes a role of 2 for sound"),
+    ("replay-33", "a replay lets 33 rounds through"),
+    ("replay-cca", "a replay takes CCA for FCA"),
+    ("replay-stub", "a replay of exactly 8 bytes is refused as too short"),
+    ("replay-place", "a replay's refusals 8 and 9 name the highest entry at fault"),
+    ("replay-ghosts", "a replay asks 8 and 9 of entries to sound receivers only"),
+    ("replay-order", "a replay asks 14 before 8 and 9"),
+    ("replay-tray", "a replay asks 7 after 8 and 9"),
+    ("replay-refused", "a replay writes values and then refuses under 15"),
+    ("replay-past", "a replay touches a byte past the values"),
+    ("replay-faulty", "a replay leaves faulty places as they were"),
+    ("replay-first", "a replay has the first readings of faulty cabinets in their places"),
 ];
 
 const OF_THE_ROUND: usize = 14;
@@ -144,6 +170,13 @@ impl Engine for Sabotaged {
             }
         }
         self.engine.target(settings, accuracy, target)
+    }
+
+    fn replay(&self, trace: &[u8], values: &mut [u8]) -> u64 {
+        match wrong_replay(&*self.engine, self.how, trace, values) {
+            Some(given) => given,
+            None => self.engine.replay(trace, values),
+        }
     }
 }
 

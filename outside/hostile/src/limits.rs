@@ -65,6 +65,13 @@ impl Wide {
     }
 }
 
+/// The largest difference of two values.
+pub fn gap(values: &[i64]) -> i64 {
+    let lowest = values.iter().min().unwrap_or(&0);
+    let highest = values.iter().max().unwrap_or(&0);
+    highest - lowest
+}
+
 pub fn ceiling(number: i64, by: i64) -> i64 {
     (number + by - 1).div_euclid(by)
 }

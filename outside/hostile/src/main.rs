@@ -1,10 +1,11 @@
 //! A hostile station: runs of up to 32 rounds with lying and two-faced cabinets, against the
-//! limits for sound cabinets of document 01.
+//! limits for sound cabinets of document 01. Its FCA runs are replayed too, as paper 1 of document 02 says.
 #![forbid(unsafe_code)]
 
 mod liars;
 mod limits;
 mod run;
+mod tape;
 
 use engine::sabotage::Sabotaged;
 use engine::Engine;
@@ -121,6 +122,14 @@ fn report(tally: &Tally) {
         tally.rounds, tally.settled, tally.refused
     );
     println!("{} answers of the planner, {} of them wrong", tally.plans, tally.wrong_plans);
+    println!(
+        "{} replays of the station's own FCA runs, {} of which a refusal stopped; {} ended otherwise",
+        tally.replays, tally.stopped_replays, tally.wrong_replays
+    );
+    println!(
+        "{} of them with t ≤ m, of which {} were refused",
+        tally.few_replays, tally.few_refused_replays
+    );
     println!(
         "{:38} {:>8} {:>8} {:>8} {:>8} {:>8} {:>8}",
         "limit", "held", "share", "large", "reached", "largest", "broken"

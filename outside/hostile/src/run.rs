@@ -1,13 +1,14 @@
 //! One run, as document 01 writes it out: a start, then rounds of sending, sheets and settling.
 
 use crate::liars::{clamp, outermost, Aim, Liars, Reading};
-use crate::limits::{good_sets, GoodSets, Met, Wide};
+use crate::limits::{gap, good_sets, GoodSets, Met, Wide};
+use crate::tape::{End, Heard, Tape};
 use engine::{number, words, Engine, Plan, Settings};
 use random::Random;
 use reference::{AVERAGE, CCA, FCA, MEDIAN};
 
 /// The limits, by name. Each is counted apart.
-pub const LIMITS: [&str; 18] = [
+pub const LIMITS: [&str; 20] = [
     "t ≤ m    gap   round 1  FCA",
     "t ≤ m    gap   round 1  CCA, median",
     "t ≤ m    gap   round 1  CCA, others",
@@ -26,6 +27,8 @@ pub const LIMITS: [&str; 18] = [
     "m < t    gap   exact    CCA",
     "m < t    error exact    FCA",
     "m < t    error exact    CCA",
+    "t ≤ m    gap   replay   FCA",
+    "t ≤ m    error replay   FCA",
 ];
 
 /// The regulator's question: three of seven bad, planned for two, at these windows.
@@ -34,7 +37,7 @@ pub const WINDOWS: [u32; 6] = [2, 7, 1_677, 16_777, 167_772, 1_000_000];
 
 #[derive(Default)]
 pub struct Tally {
-    pub met: [Met; 18],
+    pub met: [Met; 20],
     /// The greatest gap, and the greatest error past κ, that were met at each of `WINDOWS`.
     pub answer: [Option<Wide>; 6],
     pub few_bad: u64,
@@ -50,12 +53,20 @@ pub struct Tally {
     /// Answers of the planner, and wrong ones among them.
     pub plans: u64,
     pub wrong_plans: u64,
+    /// Replays of the station's own FCA runs; those of a run that a refusal stopped; those that did not
+    /// end as the station did.
+    pub replays: u64,
+    pub stopped_replays: u64,
+    pub wrong_replays: u64,
+    /// Replays, and refused ones, where t ≤ m.
+    pub few_replays: u64,
+    pub few_refused_replays: u64,
     /// What was broken first.
     pub first: Option<String>,
 }
 
 impl Tally {
-    fn broken(&mut self, what: impl FnOnce() -> String) {
+    pub fn broken(&mut self, what: impl FnOnce() -> String) {
         if self.first.is_none() {
             self.first = Some(what());
         }
@@ -72,18 +83,20 @@ impl Tally {
                 _ => {}
             }
         }
-        match (self.few_settled, self.few_refused) {
-            (_, 1..) => faults.push("broken: t ≤ m    no sound cabinet refuses".into()),
-            (0, _) => faults.push("never held: t ≤ m    no sound cabinet refuses".into()),
-            _ => {}
-        }
-        if self.misrefused > 0 {
-            faults.push("broken: every sheet and tray passes checks 1 to 9".into());
-        }
-        match (self.plans, self.wrong_plans) {
-            (_, 1..) => faults.push("broken: the planner's windows and accuracies".into()),
-            (0, _) => faults.push("never held: the planner's windows and accuracies".into()),
-            _ => {}
+        let counted = [
+            (self.few_settled, self.few_refused, "t ≤ m    no sound cabinet refuses"),
+            (self.plans, self.wrong_plans, "the planner's windows and accuracies"),
+            (self.few_replays, self.few_refused_replays, "t ≤ m    no replay is refused"),
+            (self.replays, self.wrong_replays, "a replay ends as the station did"),
+            (self.stopped_replays, 0, "a replay of a run that stopped"),
+            (self.settled, self.misrefused, "every sheet and tray passes checks 1 to 9"),
+        ];
+        for (times, broken, name) in counted {
+            match (times, broken) {
+                (_, 1..) => faults.push(format!("broken: {name}")),
+                (0, _) => faults.push(format!("never held: {name}")),
+                _ => {}
+            }
         }
         for (window, met) in WINDOWS.iter().zip(&self.answer) {
             if *met != Some(Wide::exact(&question(*window), QUESTION.2)) {
@@ -221,12 +234,17 @@ impl Run {
             println!("first readings {:?}", self.held);
             println!("good sets {sets:?}");
         }
-        // With more than m bad ones, only the first round has limits.
-        let rounds = if few_bad { self.rounds } else { self.rounds.min(1) };
+        // With more than m bad ones, only the first round has limits; a run that is replayed goes on
+        // until it stops.
+        let mut tape = Tape::start(&self);
+        let rounds = if few_bad || tape.is_some() { self.rounds } else { self.rounds.min(1) };
         let steady = random.percent(40).then(|| random.pick(&[Aim::Low, Aim::High]));
         for round in 1..=rounds {
             let settings = plan.settings;
-            self.round(random, engine, &settings, steady, few_bad, tally, show);
+            let heard = self.round(random, engine, &settings, steady, few_bad, tally, show);
+            if let Some(tape) = &mut tape {
+                tape.record(round, &heard, &self.held);
+            }
             let next_window = reference::next_window(&settings) as i64;
             let next_accuracy = reference::next_accuracy(&settings, plan.accuracy) as i64;
             let values = self.values();
@@ -250,6 +268,13 @@ impl Run {
             let answer = engine.step(&plan, &mut next);
             plan = same_plan(tally, answer, next, reference::step(&plan));
             tally.rounds += 1;
+            if !few_bad && tape.as_ref().is_some_and(Tape::stopped) {
+                break;
+            }
+        }
+        if let Some(tape) = tape {
+            let end = End { few: &few, plan, start: start as i64 };
+            tape.replay(random, engine, &self.held, &end, tally, show);
         }
     }
 
@@ -292,8 +317,8 @@ impl Run {
         }
     }
 
-    /// One round. Cabinets that the liars show the same face have the same sheet, byte for
-    /// byte, which is settled once for all of them.
+    /// One round, and what was heard in it. Cabinets that the liars show the same face have the same
+    /// sheet, byte for byte, which is settled once for all of them.
     #[allow(clippy::too_many_arguments)]
     fn round(
         &mut self,
@@ -304,7 +329,8 @@ impl Run {
         few_bad: bool,
         tally: &mut Tally,
         show: bool,
-    ) {
+    ) -> Vec<Heard> {
+        let mut heard = Vec::new();
         let (faces, face_of) = self.faces(random, steady);
         let liars = Liars::new(random, settings, &self.faulty, &self.held, self.united);
         let told = (settings.rule == CCA).then(|| liars.tell());
@@ -351,11 +377,13 @@ impl Run {
                     settings.window
                 );
             }
-            for c in members {
+            for &c in &members {
                 next[c] = new;
             }
+            heard.push(Heard { members, entries });
         }
         self.held = next;
+        heard
     }
 
     /// The faces that the liars show, and which one each cabinet sees.
@@ -393,7 +421,7 @@ impl Run {
 }
 
 /// Holds a limit. What is counted is the part of it past `from`.
-fn hold(tally: &mut Tally, limit: usize, used: i64, most: i64, from: i64) {
+pub fn hold(tally: &mut Tally, limit: usize, used: i64, most: i64, from: i64) {
     tally.met[limit].count(used - from, most - from);
     if used > most {
         tally.broken(|| format!("{}: {used}, and the limit is {most}", LIMITS[limit]));
@@ -416,13 +444,6 @@ fn same_plan(
     right
 }
 
-/// The largest difference of two values.
-fn gap(values: &[i64]) -> i64 {
-    let lowest = values.iter().min().unwrap_or(&0);
-    let highest = values.iter().max().unwrap_or(&0);
-    highest - lowest
-}
-
 /// Settles a sheet over a tray with old contents. The new value, or the refusal.
 fn settle(
     random: &Random,
@@ -430,8 +451,7 @@ fn settle(
     settings: &Settings,
     entries: &[Reading],
 ) -> Result<i32, u64> {
-    let marks: Vec<u8> = entries.iter().map(|e| e.is_some() as u8).collect();
-    let readings: Vec<i32> = entries.iter().map(|e| e.unwrap_or(0)).collect();
+    let (marks, readings) = reference::marks_and_readings(entries);
     let sheet = reference::sheet_bytes(settings, &marks, &readings);
     let mut tray = [random.draw() as u8; 330];
     let answer = engine.settle(&sheet, &mut tray);

@@ -4,7 +4,7 @@
 use std::process::Command;
 
 /// All that the station holds, in the words of its report.
-const HELD: [&str; 20] = [
+const HELD: [&str; 26] = [
     "t ≤ m    gap   round 1  FCA",
     "t ≤ m    gap   round 1  CCA, median",
     "t ≤ m    gap   round 1  CCA, others",
@@ -23,8 +23,14 @@ const HELD: [&str; 20] = [
     "m < t    gap   exact    CCA",
     "m < t    error exact    FCA",
     "m < t    error exact    CCA",
+    "t ≤ m    gap   replay   FCA",
+    "t ≤ m    error replay   FCA",
     "t ≤ m    no sound cabinet refuses",
     "the planner's windows and accuracies",
+    "t ≤ m    no replay is refused",
+    "a replay ends as the station did",
+    "a replay of a run that stopped",
+    "every sheet and tray passes checks 1 to 9",
 ];
 
 fn hostile(words: &[&str]) -> (Option<i32>, String) {
@@ -66,12 +72,14 @@ fn a_station_that_reaches_too_little_fails() {
     assert!(text.contains("never reached: ") && !text.contains("broken: "), "{text}");
 }
 
-/// A new value a tick off breaks each of the limits.
+/// A new value a tick off breaks each of the limits, and one of a replay those of replays.
 #[test]
 fn each_limit_finds_a_tick() {
-    let found = broken("tick-off");
-    for limit in &HELD[..18] {
-        assert!(found.iter().any(|name| name == limit), "{limit} finds no tick: {found:?}");
+    for (sabotage, limits) in [("tick-off", &HELD[..18]), ("replay-tick", &HELD[18..20])] {
+        let found = broken(sabotage);
+        for limit in limits {
+            assert!(found.iter().any(|name| name == limit), "{limit} finds no tick: {found:?}");
+        }
     }
 }
 
@@ -83,10 +91,21 @@ fn refusals_plans_and_medians_are_held() {
         let found = broken(sabotage);
         assert!(found.iter().any(|name| name == limit), "{sabotage}, {limit}: {found:?}");
     };
-    names("refuse-need", HELD[18]);
-    names("step-wide", HELD[19]);
+    names("refuse-need", HELD[20]);
+    names("step-wide", HELD[21]);
     names("highest", HELD[1]);
     names("highest", HELD[4]);
+}
+
+/// Replays that are not the station's run, and one that refuses where t ≤ m.
+#[test]
+fn replays_are_held_to_the_station() {
+    for name in ["replay-swapped", "replay-at-once", "replay-wide", "replay-highest"] {
+        let found = broken(name);
+        assert!(found.iter().any(|broken| broken == HELD[23]), "{name}: {found:?}");
+    }
+    let found = broken("replay-early");
+    assert!(found.iter().any(|broken| broken == HELD[22]), "{found:?}");
 }
 
 #[test]

@@ -1,11 +1,13 @@
-//! Settling and reading a round sheet in plain safe Rust, in the form that the proved library
-//! has, twice: `Plain` without tuning, and `Tuned`. What is alike in the two is here.
+//! Settling and reading a round sheet, and replaying a trace, in plain safe Rust, in the form that the
+//! proved library has, twice: `Plain` without tuning, and `Tuned`. What is alike in the two is here.
 #![forbid(unsafe_code)]
 
 mod plain;
+mod replay;
 mod tuned;
 
 pub use plain::Plain;
+pub use replay::replay;
 pub use tuned::Tuned;
 
 /// N is at most this.
@@ -14,24 +16,30 @@ const MOST: usize = 64;
 const HEADER: usize = 8;
 const ANSWER_HEADER: usize = 10;
 
-/// A sheet that passes checks 1 to 6.
-pub struct Opened<'a> {
+/// The first eight bytes of a sheet or a trace, which pass checks 1 to 5.
+#[derive(Clone, Copy)]
+pub struct Sizes {
     n: usize,
     m: usize,
     /// Whether a reading is decided from a row of N copies.
     crusaders: bool,
     estimator: u8,
     window: u32,
-    marks: &'a [u8],
-    /// Four bytes for each entry.
-    readings: &'a [u8],
 }
 
-impl Opened<'_> {
+impl Sizes {
     /// The readings that a span must hold, and the copies that a row must hold.
     fn need(&self) -> usize {
         self.n - self.m
     }
+}
+
+/// A sheet that passes checks 1 to 6.
+pub struct Opened<'a> {
+    sizes: Sizes,
+    marks: &'a [u8],
+    /// Four bytes for each entry.
+    readings: &'a [u8],
 }
 
 /// What the header of an answer sheet is written from.
@@ -40,6 +48,14 @@ pub struct Settled {
     estimate: i64,
     /// The sum of the used values.
     sum: i64,
+}
+
+impl Settled {
+    /// The mean of N used values, a half going up.
+    fn new_value(&self, n: usize) -> i32 {
+        let n = n as i64;
+        (2 * self.sum + n).div_euclid(2 * n) as i32
+    }
 }
 
 /// The steps in which the two differ.
@@ -54,6 +70,9 @@ pub trait Steps {
 
     /// Fills marks and used values of the answer sheet, or nothing where no reading is accepted.
     fn round(sheet: &Opened, marks: &mut [u8], used: &mut [u8]) -> Option<Settled>;
+
+    /// The round of a cabinet that hears this from each sender.
+    fn settle_heard(sizes: &Sizes, heard: impl Fn(usize) -> Option<i32>) -> Option<Settled>;
 }
 
 /// The number of entries, with marks and readings filled, or number × 2^32 + place.
@@ -80,7 +99,8 @@ pub fn settle<S: Steps>(sheet: &[u8], answer: &mut [u8]) -> u64 {
         Err(refusal) => return refusal,
         Ok(sheet) => sheet,
     };
-    let length = ANSWER_HEADER + 5 * sheet.n;
+    let n = sheet.sizes.n;
+    let length = ANSWER_HEADER + 5 * n;
     if answer.len() < length {
         return refusal(7, 0);
     }
@@ -88,29 +108,27 @@ pub fn settle<S: Steps>(sheet: &[u8], answer: &mut [u8]) -> u64 {
         return refusal;
     }
     let (header, body) = answer[..length].split_at_mut(ANSWER_HEADER);
-    let (marks, used) = body.split_at_mut(sheet.n);
-    let Some(Settled { count, estimate, sum }) = S::round(&sheet, marks, used) else {
+    let (marks, used) = body.split_at_mut(n);
+    let Some(settled) = S::round(&sheet, marks, used) else {
         return refusal(10, 0);
     };
-    let n = sheet.n as i64;
-    let new = (2 * sum + n).div_euclid(2 * n);
     header[0] = n as u8;
-    header[1] = count as u8;
-    header[2..6].copy_from_slice(&(estimate as i32).to_le_bytes());
-    header[6..10].copy_from_slice(&(new as i32).to_le_bytes());
+    header[1] = settled.count as u8;
+    header[2..6].copy_from_slice(&(settled.estimate as i32).to_le_bytes());
+    header[6..10].copy_from_slice(&settled.new_value(n).to_le_bytes());
     length as u64
 }
 
-/// Checks 1 to 6.
-fn open(sheet: &[u8]) -> Result<Opened<'_>, u64> {
-    if sheet.len() < HEADER {
+/// Checks 1 to 5.
+fn sizes(bytes: &[u8]) -> Result<Sizes, u64> {
+    if bytes.len() < HEADER {
         return Err(refusal(1, 0));
     }
-    let n = sheet[0] as usize;
-    let m = sheet[1] as usize;
-    let rule = sheet[2];
-    let estimator = sheet[3];
-    let window = u32::from_le_bytes([sheet[4], sheet[5], sheet[6], sheet[7]]);
+    let n = bytes[0] as usize;
+    let m = bytes[1] as usize;
+    let rule = bytes[2];
+    let estimator = bytes[3];
+    let window = u32::from_le_bytes([bytes[4], bytes[5], bytes[6], bytes[7]]);
     if n == 0 || n > MOST {
         return Err(refusal(2, 0));
     }
@@ -123,13 +141,24 @@ fn open(sheet: &[u8]) -> Result<Opened<'_>, u64> {
     if window > 1_000_000 {
         return Err(refusal(5, 0));
     }
-    let crusaders = rule == 1;
-    let entries = if crusaders { n * n } else { n };
+    Ok(Sizes { n, m, crusaders: rule == 1, estimator, window })
+}
+
+/// Checks 1 to 6.
+fn open(sheet: &[u8]) -> Result<Opened<'_>, u64> {
+    let sizes = sizes(sheet)?;
+    let entries = if sizes.crusaders { sizes.n * sizes.n } else { sizes.n };
     if sheet.len() != HEADER + 5 * entries {
         return Err(refusal(6, 0));
     }
     let (marks, readings) = sheet[HEADER..].split_at(entries);
-    Ok(Opened { n, m, crusaders, estimator, window, marks, readings })
+    Ok(Opened { sizes, marks, readings })
+}
+
+/// The reading of an entry, from its four bytes.
+fn reading(readings: &[u8], entry: usize) -> i32 {
+    let at = 4 * entry;
+    i32::from_le_bytes([readings[at], readings[at + 1], readings[at + 2], readings[at + 3]])
 }
 
 fn refusal(number: u64, place: usize) -> u64 {

@@ -3,7 +3,7 @@
 //! further tuning: no start is skipped and no start found short is remembered.
 #![allow(clippy::needless_range_loop)]
 
-use crate::{refusal, Opened, Settled, Steps, MOST};
+use crate::{reading, refusal, Opened, Settled, Sizes, Steps, MOST};
 
 pub struct Plain;
 
@@ -31,14 +31,15 @@ impl Steps for Plain {
     }
 
     fn round(sheet: &Opened, marks: &mut [u8], used: &mut [u8]) -> Option<Settled> {
-        let (n, need, window) = (sheet.n, sheet.need(), sheet.window as i64);
+        let sizes = &sheet.sizes;
+        let n = sizes.n;
         let mut present = [false; MOST];
         let mut values = [0i64; MOST];
         for r in 0..n {
-            if sheet.crusaders {
+            if sizes.crusaders {
                 let row = r * n..(r + 1) * n;
                 let row_readings = &sheet.readings[4 * row.start..4 * row.end];
-                if let Some(value) = decide(&sheet.marks[row], row_readings, need) {
+                if let Some(value) = decide(&sheet.marks[row], row_readings, sizes.need()) {
                     present[r] = true;
                     values[r] = value as i64;
                 }
@@ -49,22 +50,7 @@ impl Steps for Plain {
         }
 
         let mut accepted = [false; MOST];
-        let mut count = 0;
-        for r in 0..n {
-            if present[r] && accept(&present[..n], &values[..n], need, window, values[r]) {
-                accepted[r] = true;
-                count += 1;
-            }
-        }
-        if count == 0 {
-            return None;
-        }
-
-        let estimate = match sheet.estimator {
-            0 => average(&accepted, &values, n, count),
-            1 => median(&accepted, &values, n, count),
-            _ => midpoint(&accepted, &values, n),
-        };
+        let (count, estimate) = agree(sizes, &present, &values, &mut accepted)?;
         for r in 0..n {
             marks[r] = if accepted[r] {
                 1
@@ -77,11 +63,50 @@ impl Steps for Plain {
         let sum = write_used(&accepted, &values, n, estimate, used);
         Some(Settled { count, estimate, sum })
     }
+
+    fn settle_heard(sizes: &Sizes, heard: impl Fn(usize) -> Option<i32>) -> Option<Settled> {
+        let mut present = [false; MOST];
+        let mut values = [0i64; MOST];
+        for sender in 0..sizes.n {
+            if let Some(value) = heard(sender) {
+                present[sender] = true;
+                values[sender] = value as i64;
+            }
+        }
+        let mut accepted = [false; MOST];
+        let (count, estimate) = agree(sizes, &present, &values, &mut accepted)?;
+        let mut sum = 0;
+        for r in 0..sizes.n {
+            sum += if accepted[r] { values[r] } else { estimate };
+        }
+        Some(Settled { count, estimate, sum })
+    }
 }
 
-fn reading(readings: &[u8], entry: usize) -> i32 {
-    let at = 4 * entry;
-    i32::from_le_bytes([readings[at], readings[at + 1], readings[at + 2], readings[at + 3]])
+/// Says of each reading whether it is accepted; the number of these and their estimate, or nothing where there is none.
+fn agree(
+    sizes: &Sizes,
+    present: &[bool; MOST],
+    values: &[i64; MOST],
+    accepted: &mut [bool; MOST],
+) -> Option<(usize, i64)> {
+    let (n, need, window) = (sizes.n, sizes.need(), sizes.window as i64);
+    let mut count = 0;
+    for r in 0..n {
+        if present[r] && accept(&present[..n], &values[..n], need, window, values[r]) {
+            accepted[r] = true;
+            count += 1;
+        }
+    }
+    if count == 0 {
+        return None;
+    }
+    let estimate = match sizes.estimator {
+        0 => average(accepted, values, n, count),
+        1 => median(accepted, values, n, count),
+        _ => midpoint(accepted, values, n),
+    };
+    Some((count, estimate))
 }
 
 /// The value that at least `need` present copies of a row equal.

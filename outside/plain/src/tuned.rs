@@ -2,7 +2,7 @@
 //! remembered, a row's value is looked for among its first m + 1 copies, and a count over
 //! readings or copies takes no branch.
 
-use crate::{refusal, Opened, Settled, Steps, MOST};
+use crate::{refusal, Opened, Settled, Sizes, Steps, MOST};
 
 pub struct Tuned;
 
@@ -35,18 +35,8 @@ impl Steps for Tuned {
         let present = receive(sheet, &mut cabinets, &mut values);
         let (cabinets, values) = (&cabinets[..present], &values[..present]);
         let mut accepted = [false; MOST];
-        accept(values, sheet.need() as u32, sheet.window, &mut accepted);
-        let mut chosen = [0; MOST];
-        let (mut count, mut sum) = (0, 0);
-        for (&value, &accepted) in values.iter().zip(&accepted) {
-            chosen[count] = value;
-            count += accepted as usize;
-            sum += if accepted { value as i64 } else { 0 };
-        }
-        if count == 0 {
-            return None;
-        }
-        let estimate = estimate(sheet.estimator, &mut chosen[..count], sum);
+        let settled = agree(&sheet.sizes, values, &mut accepted)?;
+        let estimate = settled.estimate as i32;
         marks.fill(0);
         for used in used.chunks_exact_mut(4) {
             used.copy_from_slice(&estimate.to_le_bytes());
@@ -57,9 +47,37 @@ impl Steps for Tuned {
             let value = if accepted { value } else { estimate };
             used[4 * cabinet..4 * cabinet + 4].copy_from_slice(&value.to_le_bytes());
         }
-        let estimate = estimate as i64;
-        Some(Settled { count, estimate, sum: sum + estimate * (sheet.n - count) as i64 })
+        Some(settled)
     }
+
+    fn settle_heard(sizes: &Sizes, heard: impl Fn(usize) -> Option<i32>) -> Option<Settled> {
+        let mut values = [0; MOST];
+        let mut count = 0;
+        for sender in 0..sizes.n {
+            let heard = heard(sender);
+            values[count] = heard.unwrap_or(0);
+            count += heard.is_some() as usize;
+        }
+        agree(sizes, &values[..count], &mut [false; MOST])
+    }
+}
+
+/// The round of the present readings, of each of which it says whether it is accepted.
+#[inline(always)]
+fn agree(sizes: &Sizes, values: &[i32], accepted: &mut [bool; MOST]) -> Option<Settled> {
+    accept(values, sizes.need() as u32, sizes.window, accepted);
+    let mut chosen = [0; MOST];
+    let (mut count, mut sum) = (0, 0);
+    for (&value, &accepted) in values.iter().zip(&*accepted) {
+        chosen[count] = value;
+        count += accepted as usize;
+        sum += if accepted { value as i64 } else { 0 };
+    }
+    if count == 0 {
+        return None;
+    }
+    let estimate = estimate(sizes.estimator, &mut chosen[..count], sum) as i64;
+    Some(Settled { count, estimate, sum: sum + estimate * (sizes.n - count) as i64 })
 }
 
 /// The number in each four bytes.
@@ -69,12 +87,12 @@ fn words(bytes: &[u8]) -> impl Iterator<Item = i32> + '_ {
 
 /// Fills in the present readings, decided ones for CCA, and whose they are. Answers how many.
 fn receive(sheet: &Opened, cabinets: &mut [u8; MOST], values: &mut [i32; MOST]) -> usize {
-    let n = sheet.n;
+    let n = sheet.sizes.n;
     let mut count = 0;
-    if sheet.crusaders {
+    if sheet.sizes.crusaders {
         let rows = sheet.marks.chunks_exact(n).zip(sheet.readings.chunks_exact(4 * n));
         for (cabinet, (marks, copies)) in rows.enumerate() {
-            if let Some(value) = decide(marks, copies, sheet.m) {
+            if let Some(value) = decide(marks, copies, sheet.sizes.m) {
                 (cabinets[count], values[count]) = (cabinet as u8, value);
                 count += 1;
             }

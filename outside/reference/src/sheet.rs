@@ -2,19 +2,25 @@
 
 use crate::checks::{Refusal, Settings, CCA};
 
-/// The settings of a sheet, under checks 1 to 6.
-pub fn settings_of(sheet: &[u8]) -> Result<Settings, Refusal> {
-    if sheet.len() < 8 {
+/// The settings in the first eight bytes of a sheet or a trace, under checks 1 to 5.
+pub fn sizes_of(bytes: &[u8]) -> Result<Settings, Refusal> {
+    if bytes.len() < 8 {
         return Err(Refusal::new(1));
     }
     let settings = Settings {
-        n: sheet[0],
-        m: sheet[1],
-        rule: sheet[2],
-        estimator: sheet[3],
-        window: u32::from_le_bytes([sheet[4], sheet[5], sheet[6], sheet[7]]),
+        n: bytes[0],
+        m: bytes[1],
+        rule: bytes[2],
+        estimator: bytes[3],
+        window: u32::from_le_bytes([bytes[4], bytes[5], bytes[6], bytes[7]]),
     };
     settings.check()?;
+    Ok(settings)
+}
+
+/// The settings of a sheet, under checks 1 to 6.
+pub fn settings_of(sheet: &[u8]) -> Result<Settings, Refusal> {
+    let settings = sizes_of(sheet)?;
     if sheet.len() != settings.sheet_length() {
         return Err(Refusal::new(6));
     }
@@ -22,7 +28,7 @@ pub fn settings_of(sheet: &[u8]) -> Result<Settings, Refusal> {
 }
 
 /// Checks 8 and 9: all marks before any ghost.
-fn check_entries(marks: &[u8], readings: &[i32]) -> Result<(), Refusal> {
+pub fn check_entries(marks: &[u8], readings: &[i32]) -> Result<(), Refusal> {
     for (entry, &mark) in marks.iter().enumerate() {
         if mark > 1 {
             return Err(Refusal::at(8, entry));
@@ -38,12 +44,17 @@ fn check_entries(marks: &[u8], readings: &[i32]) -> Result<(), Refusal> {
 
 /// Marks and readings of a sheet that passed checks 1 to 6, themselves unchecked.
 fn arrays_of(sheet: &[u8], entries: usize) -> (Vec<u8>, Vec<i32>) {
-    let marks = sheet[8..8 + entries].to_vec();
-    let readings = sheet[8 + entries..]
-        .chunks_exact(4)
-        .map(|b| i32::from_le_bytes([b[0], b[1], b[2], b[3]]))
-        .collect();
-    (marks, readings)
+    (sheet[8..8 + entries].to_vec(), numbers_in(&sheet[8 + entries..]))
+}
+
+/// The signed numbers of four bytes each.
+pub fn numbers_in(bytes: &[u8]) -> Vec<i32> {
+    bytes.chunks_exact(4).map(|b| i32::from_le_bytes([b[0], b[1], b[2], b[3]])).collect()
+}
+
+/// Signed numbers as four bytes each.
+pub fn bytes_of(numbers: &[i32]) -> Vec<u8> {
+    numbers.iter().flat_map(|number| number.to_le_bytes()).collect()
 }
 
 /// The entries of a sheet that passed checks 1 to 6, under checks 8 and 9.
@@ -59,6 +70,13 @@ pub fn readings_of(marks: &[u8], readings: &[i32]) -> Vec<Option<i32>> {
         .zip(readings)
         .map(|(&mark, &reading)| if mark == 1 { Some(reading) } else { None })
         .collect()
+}
+
+/// The mark and the reading of each entry.
+pub fn marks_and_readings(entries: &[Option<i32>]) -> (Vec<u8>, Vec<i32>) {
+    let marks = entries.iter().map(|entry| entry.is_some() as u8).collect();
+    let readings = entries.iter().map(|entry| entry.unwrap_or(0)).collect();
+    (marks, readings)
 }
 
 /// The reader: fills the two lent arrays from their start and gives back the settings.
@@ -98,12 +116,16 @@ pub fn write(
 
 /// The bytes of a sheet with these settings and arrays, unchecked.
 pub fn sheet_bytes(settings: &Settings, marks: &[u8], readings: &[i32]) -> Vec<u8> {
+    let mut bytes = size_bytes(settings);
+    bytes.extend(marks);
+    bytes.extend(bytes_of(readings));
+    bytes
+}
+
+/// The first eight bytes of a sheet or a trace.
+pub fn size_bytes(settings: &Settings) -> Vec<u8> {
     let mut bytes = vec![settings.n, settings.m, settings.rule, settings.estimator];
     bytes.extend(settings.window.to_le_bytes());
-    bytes.extend(marks);
-    for reading in readings {
-        bytes.extend(reading.to_le_bytes());
-    }
     bytes
 }
 

@@ -1,7 +1,9 @@
-//! The vectors of the programs `planner_vectors`, `settle_vectors` and `sheet_vectors`, answered by the reference: each line of a
-//! program's file `stdin`, and below a vector its answer. crates/vectors says what a line may be.
+//! The vectors of the programs `planner_vectors`, `settle_vectors`, `sheet_vectors` and `replay_vectors`, answered by the
+//! reference: each line of a program's file `stdin`, and below a vector its answer. crates/vectors says what a line may be.
 
-use crate::{plan, read, row, settle, step, target, write, Plan, Refusal, Settings};
+use crate::sheet::numbers_in;
+use crate::text::refused;
+use crate::{plan, read, replay, row, settle, step, target, write, Plan, Refusal, Settings};
 
 /// The bytes of a vector without its call's name, or nothing for a heading.
 fn numbers(line: &str) -> Option<(&str, Vec<u8>)> {
@@ -29,10 +31,6 @@ fn word(bytes: &[u8], at: usize) -> u32 {
     u32::from_le_bytes(bytes[at..at + 4].try_into().unwrap())
 }
 
-fn words(bytes: &[u8]) -> Vec<i32> {
-    bytes.chunks_exact(4).map(|b| i32::from_le_bytes(b.try_into().unwrap())).collect()
-}
-
 fn listed<T: ToString>(values: &[T]) -> String {
     values.iter().map(|v| format!(" {}", v.to_string())).collect()
 }
@@ -45,10 +43,6 @@ fn settings(bytes: &[u8]) -> Settings {
         estimator: bytes[3],
         window: word(bytes, 4),
     }
-}
-
-fn refused(refusal: Refusal) -> String {
-    format!("refused {} {}", refusal.number, refusal.place)
 }
 
 fn planned(answer: Result<Plan, Refusal>) -> String {
@@ -75,27 +69,35 @@ fn of_planner(call: &str, bytes: &[u8]) -> String {
     }
 }
 
-/// A call that settles a sheet into a lent buffer.
-pub type Settle = fn(&[u8], &mut [u8]) -> Result<usize, Refusal>;
+/// A call that settles a sheet, or replays a trace, into a lent buffer.
+pub type Call = fn(&[u8], &mut [u8]) -> Result<usize, Refusal>;
 
-fn of_settle(settle: Settle, call: &str, bytes: &[u8]) -> String {
-    assert_eq!(call, "settle");
+/// The answer of a call to a vector with the length of the buffer and then the bytes that it is lent.
+fn into_buffer(call: Call, bytes: &[u8], shown: impl Fn(&[u8]) -> String) -> String {
     let mut buffer = vec![165; word(bytes, 0) as usize];
-    match settle(&bytes[4..], &mut buffer) {
+    match call(&bytes[4..], &mut buffer) {
         Ok(size) => {
-            let n = buffer[0] as usize;
-            format!(
-                "granted {size}; round {} {}{}; marks{}; used{}; behind{}",
-                n,
-                buffer[1],
-                listed(&words(&buffer[2..10])),
-                listed(&buffer[10..10 + n]),
-                listed(&words(&buffer[10 + n..size])),
-                listed(&buffer[size..])
-            )
+            let (filled, behind) = buffer.split_at(size);
+            format!("granted {size}; {}; behind{}", shown(filled), listed(behind))
         }
         Err(refusal) => format!("{}; behind{}", refused(refusal), listed(&buffer)),
     }
+}
+
+fn answer_sheet(answer: &[u8]) -> String {
+    let n = answer[0] as usize;
+    format!(
+        "round {} {}{}; marks{}; used{}",
+        n,
+        answer[1],
+        listed(&numbers_in(&answer[2..10])),
+        listed(&answer[10..10 + n]),
+        listed(&numbers_in(&answer[10 + n..])),
+    )
+}
+
+fn final_values(values: &[u8]) -> String {
+    format!("values{}", listed(&numbers_in(values)))
 }
 
 fn of_sheet(call: &str, bytes: &[u8]) -> String {
@@ -117,7 +119,7 @@ fn of_sheet(call: &str, bytes: &[u8]) -> String {
         "write" => {
             let (room, count, places) =
                 (word(bytes, 8) as usize, word(bytes, 12) as usize, word(bytes, 16) as usize);
-            let readings = words(&bytes[20 + count..]);
+            let readings = numbers_in(&bytes[20 + count..]);
             assert_eq!(readings.len(), places);
             let mut buffer = vec![7; room];
             let answer =
@@ -137,13 +139,25 @@ pub fn answers(program: &str, lines: &str) -> String {
         "planner_vectors" => answered(lines, of_planner),
         "settle_vectors" => settle_answers(settle, lines),
         "sheet_vectors" => answered(lines, of_sheet),
+        "replay_vectors" => replay_answers(replay, lines),
         _ => panic!("no such program: {program}"),
     }
 }
 
 /// What `settle_vectors` would write for these lines if it settled by this call.
-pub fn settle_answers(settle: Settle, lines: &str) -> String {
-    answered(lines, |call, bytes| of_settle(settle, call, bytes))
+pub fn settle_answers(settle: Call, lines: &str) -> String {
+    answered(lines, |call, bytes| {
+        assert_eq!(call, "settle");
+        into_buffer(settle, bytes, answer_sheet)
+    })
+}
+
+/// What `replay_vectors` would write for these lines if it replayed by this call.
+pub fn replay_answers(replay: Call, lines: &str) -> String {
+    answered(lines, |call, bytes| {
+        assert_eq!(call, "replay");
+        into_buffer(replay, bytes, final_values)
+    })
 }
 
 fn answered(lines: &str, answer: impl Fn(&str, &[u8]) -> String) -> String {

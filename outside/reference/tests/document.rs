@@ -7,8 +7,7 @@ fn settings(n: u8, m: u8, rule: u8, estimator: u8, window: u32) -> Settings {
 }
 
 fn sheet(settings: Settings, entries: &[Option<i32>]) -> Vec<u8> {
-    let marks: Vec<u8> = entries.iter().map(|e| e.is_some() as u8).collect();
-    let readings: Vec<i32> = entries.iter().map(|e| e.unwrap_or(0)).collect();
+    let (marks, readings) = marks_and_readings(entries);
     sheet_bytes(&settings, &marks, &readings)
 }
 

@@ -1,8 +1,8 @@
 //! The stored outputs of the programs of vectors are what the reference answers to their inputs, and
-//! those of settling what both settlings of outside/plain answer.
+//! those of settling and of replay what both of outside/plain answer.
 
 use plain::{Plain, Steps, Tuned};
-use reference::{answers, settle_answers, Refusal};
+use reference::{answers, replay_answers, settle_answers, Refusal};
 
 fn held(program: &str, answers: impl Fn(&str) -> String) {
     let folder =
@@ -16,12 +16,19 @@ fn held(program: &str, answers: impl Fn(&str) -> String) {
     assert_eq!(stored, wanted, "{program}: stdout");
 }
 
-fn settle<S: Steps>(sheet: &[u8], answer: &mut [u8]) -> Result<usize, Refusal> {
-    let given = plain::settle::<S>(sheet, answer);
+fn unpacked(given: u64) -> Result<usize, Refusal> {
     match given >> 32 {
         0 => Ok(given as usize),
         number => Err(Refusal { number: number as u8, place: given as u32 }),
     }
+}
+
+fn settle<S: Steps>(sheet: &[u8], answer: &mut [u8]) -> Result<usize, Refusal> {
+    unpacked(plain::settle::<S>(sheet, answer))
+}
+
+fn replay<S: Steps>(trace: &[u8], values: &mut [u8]) -> Result<usize, Refusal> {
+    unpacked(plain::replay::<S>(trace, values))
 }
 
 #[test]
@@ -47,4 +54,19 @@ fn settle_vectors_by_tuned() {
 #[test]
 fn sheet_vectors() {
     held("sheet_vectors", |lines| answers("sheet_vectors", lines));
+}
+
+#[test]
+fn replay_vectors() {
+    held("replay_vectors", |lines| answers("replay_vectors", lines));
+}
+
+#[test]
+fn replay_vectors_by_plain() {
+    held("replay_vectors", |lines| replay_answers(replay::<Plain>, lines));
+}
+
+#[test]
+fn replay_vectors_by_tuned() {
+    held("replay_vectors", |lines| replay_answers(replay::<Tuned>, lines));
 }

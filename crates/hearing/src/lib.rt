@@ -1,7 +1,7 @@
 // What a cabinet hears in a round of a recorded run: of a sound cabinet what that holds, of a faulty one what was
 // recorded. Readings are held as marks and as values of 32 bits beside them.
 ghost use mathlib.Core.Path.{_≡_};
-ghost use Prim.Native.Nat.{_*_, _≤_, _<_};
+ghost use Prim.Native.Nat.{_+_, _*_, _≤_, _<_};
 ghost use lib.ListN.{length};
 ghost use Rattle.model.specs.Ensemble.{maxCabinets};
 ghost use Rattle.held.specs.Held.{heldMark, heldValue};
@@ -45,7 +45,15 @@ fn hear_one(role: u8, value: u32, sent: &[u8], readings: &[u8], e: usize) -> Hel
     }
 }
 
-// What receiver p hears of each sender. A round's entries are ordered by sender and receiver.
+// The number of what r sent p among a round's entries, which are ordered by sender and receiver.
+fn entry_number(n: usize, r: usize, p: usize) -> usize
+    requires { ⌜ (n ≤ maxCabinets) × (r < n) × (p < n) ⌝ }
+    ensures { λ e. ⌜ e ≡ r * n + p ⌝ }
+{
+    r * n + p
+}
+
+// What receiver p hears of each sender.
 fn hear_each(
     roles: &[u8],
     held: &[u32],
@@ -69,7 +77,7 @@ fn hear_each(
     let n = roles.len();
     let mut r: usize = 0;
     'senders: while r < n {
-        let said = hear_one(roles[r], held[r], sent, readings, r * n + p);
+        let said = hear_one(roles[r], held[r], sent, readings, entry_number(n, r, p));
         marks[r] = said.mark;
         values[r] = said.value;
         r += 1;

@@ -37,6 +37,7 @@ abbrev pub below : ℕ → ℕ → Option ℕ
 below n r = cond (ltb r n) (some r) none
 
 pub record RoundPlayed (s : List ℕ) (k r : ℕ) (held : List ℕ) : Type 0 where
+  pub upTo : r ≤ settingsAt s .n
   pub first : lowest (refusedIn s k) (settingsAt s .n) ≡ below (settingsAt s .n) r
   pub holds : settingsAt s .n ≤ r → HeldTo s (k + 1) held
 

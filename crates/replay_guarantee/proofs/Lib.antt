@@ -1,0 +1,4 @@
+pub mod Alike
+pub mod Listed
+pub mod Passed
+pub mod Replayed

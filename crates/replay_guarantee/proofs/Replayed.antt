@@ -3,10 +3,11 @@
 -- Assumes nothing.
 use mathlib.Core.Bool.{Bool, true, false, cond, _&&_}
 use mathlib.Core.List.{List}
+use mathlib.Core.Logic.{⊎-elim}
 use mathlib.Core.Option.{Option, none, some}
 use mathlib.Core.Path.{_≡_, refl, sym, ap, ap₂, _∙_, subst}
 use Prim.Native.Nat.{ℕ, zero, suc, _+_, _*_, _≤_, _<_}
-use native.Mathlib.Nat.{zero-add}
+use native.Mathlib.Nat.{zero-add, le-refl, le-trans, not-suc-le-zero}
 use native.Mathlib.Omega.{arith}
 use lib.Dec.{eqb, lit≤}
 use lib.IntN.{ℤ, pos}
@@ -16,13 +17,13 @@ use mir.Val.{SFits, toZ, ofZ}
 use mir.Facts.{toZ-ofZ}
 use Rattle.arithmetic.specs.Counting.{lowest}
 use Rattle.arithmetic.specs.Writing.{table, overwrite}
-use Rattle.arithmetic.proofs.Bools.{and-ext, cond-ext}
+use Rattle.arithmetic.proofs.Bools.{both-ways, and-ext, cond-ext}
 use Rattle.arithmetic.proofs.Counting.{lowest-ext, lowest-none}
 use Rattle.arithmetic.proofs.Writing.{length-table, getD-table, table-ext}
 use Rattle.model.specs.declared.Settings.{Settings}
 use Rattle.model.specs.Ensemble.{Reading, ticks}
 use Rattle.model.specs.RoundSheet.{word, settingsAt, readingBytes}
-use Rattle.model.specs.Planner.{Plan, maxAccuracy, maxRounds}
+use Rattle.model.specs.Planner.{planFrom, after, maxAccuracy, maxRounds}
 use Rattle.model.specs.Refusals.{Check, orNext}
 use Rattle.model.specs.Calls.{Verdict, granted, refused, verdict, lent, Outcome, writtenAfter}
 use Rattle.sheet_laws.proofs.Readings.{word-readings}
@@ -97,17 +98,161 @@ module _ (s values : List ℕ) (small : Bytes s) (pass : Passes s values) where
       ∙ values-back (shownAfter s (roundsAt s)) (settingsAt s .n) values p l
       (values-fit (roundsAt s) p (few-rounds s values pass) l)
 
-  is-run : (κ : ℕ) → κ ≤ maxAccuracy → IsRun s values κ
-  is-run κ most =
+  pub replayed-run : (κ : ℕ) → κ ≤ maxAccuracy → IsRun s values κ
+  unfolding refusedIn
+  replayed-run κ most =
+      let most-rounds : roundsAt s ≤ maxRounds = few-rounds s values pass in
       record {
         shown = λ e p l.
             values-stand e p l
             ∙ cond-ext refl
             (λ q. ap ticks
-            (held-alike s s rs rs (alike-itself s) (few-rounds s values pass) 0 κ no-accuracy most (roundsAt s) ?m p l q))
+            (held-alike s s rs rs (alike-itself s) most-rounds 0 κ no-accuracy most (roundsAt s) (le-refl (roundsAt s)) p l q))
             refl;
-        refuses = ?r;
+        refuses = λ k p early l e.
+            ap (λ (b : Bool). b && tooMany (settledIn s 0 k p .verdict)) e
+            ∙ ap (λ (o : Outcome). tooMany (o .verdict))
+            (settled-alike s s rs rs (alike-itself s) most-rounds 0 κ no-accuracy most k p early l e);
       }
 
 pub replay-is-run : ReplayIsRun
-replay-is-run s values small pass κ most = is-run s values small pass κ most
+replay-is-run = replayed-run
+
+-- ---- what faulty cabinets hold first and receive
+
+module _ (s t : List ℕ) (rs : Recorded s) (rt : Recorded t) (alike : AlikeForSound s t) (few : roundsAt s ≤ maxRounds) where
+  sound-alike : (p : ℕ) → p < settingsAt s .n → soundAt s p ≡ soundAt t p
+  sound-alike p l = ap (λ (x : ℕ). eqb x 1) (alike .roles p l)
+
+  same-cabinets : settingsAt s .n ≡ settingsAt t .n
+  same-cabinets = ap (λ (c : Settings). c .n) (alike .settings)
+
+  refused-alike : (k p : ℕ) → k < roundsAt s → p < settingsAt s .n → refusedIn s k p ≡ refusedIn t k p
+  unfolding refusedIn
+  refused-alike k p early l =
+      and-ext (sound-alike p l)
+      (λ e. ap (λ (o : Outcome). tooMany (o .verdict))
+      (settled-alike s t rs rt alike few 0 0 no-accuracy no-accuracy k p early l e))
+
+  overloaded-alike : (k : ℕ) → k ≤ roundsAt s → overloaded s k ≡ overloaded t k
+  unfolding overloaded
+  overloaded-alike zero l = refl
+  overloaded-alike (suc k) l =
+      ap₂ orNext (overloaded-alike k (omega arith))
+      (ap (atRound k)
+      (lowest-ext (refusedIn s k) (refusedIn t k) (settingsAt s .n) (λ p lp. refused-alike k p l lp)
+      ∙ ap (lowest (refusedIn t k)) same-cabinets))
+
+  values-alike : (k : ℕ) → k ≤ roundsAt s → valuesTo s k ≡ valuesTo t k
+  unfolding valuesTo
+  values-alike k l =
+      table-ext (shownAfter s k) (shownAfter t k) (settingsAt s .n)
+      (λ p lp.
+      cond-ext (sound-alike p lp)
+      (λ e. ap ticks (held-alike s t rs rt alike few 0 0 no-accuracy no-accuracy k l p lp e))
+      refl)
+      ∙ ap (table (shownAfter t k)) same-cabinets
+
+pub faulty-ignored : FaultyIgnored
+faulty-ignored s t values small-s small-t alike pass-s pass-t =
+    replay-passed s values pass-s
+    ∙ cc (
+      overloaded-alike s t rs rt alike few (roundsAt s) (le-refl (roundsAt s)),
+      values-alike s t rs rt alike few (roundsAt s) (le-refl (roundsAt s)),
+      same-cabinets s t rs rt alike few,
+      alike .rounds,
+    )
+    ∙ sym (replay-passed t values pass-t)
+  where
+    rs : Recorded s
+    rs = recorded s values pass-s small-s
+
+    rt : Recorded t
+    rt = recorded t values pass-t small-t
+
+    few : roundsAt s ≤ maxRounds
+    few = few-rounds s values pass-s
+
+-- ---- at most m bad
+
+module _ (s values : List ℕ) (small : Bytes s) (pass : Passes s values) (κ : ℕ) (most : κ ≤ maxAccuracy)
+    (good : ℕ → Bool) (true-value : ℤ) (goodness : Good (tracedStation s κ) good true-value)
+    (few : bad (tracedStation s κ) good ≤ settingsAt s .m) where
+  abbrev st : Station
+  st = tracedStation s κ
+
+  run : IsRun s values κ
+  run = replayed-run s values small pass κ most
+
+  -- the limits of each round
+  close-in : (k : ℕ) → k < roundsAt s → Close st true-value (stateOf s κ k) (tracedSends s k)
+  unfolding stateAfter
+  close-in k l =
+      let begins = traced-start s (recorded s values pass small) κ most in
+      let listed = roundsFrom (tracedSends s) 0 (roundsAt s) in
+      let short : length listed ≤ maxRounds =
+      rw (length-rounds (tracedSends s) 0 (roundsAt s)) (few-rounds s values pass) in
+      let each =
+      each-listed (tracedSends s) (Allowed st) (traced-allowed s (recorded s values pass small) κ most) 0 (roundsAt s) in
+      subst (λ (i : ℕ). Close st true-value (stateOf s κ i) (tracedSends s i)) (zero-add k)
+      (every-listed (tracedSends s) st (Close st true-value) 0 (roundsAt s)
+      (guarantee st begins listed short each good true-value goodness .few few) k l)
+
+  -- no sound cabinet meets too many faults
+  none-refused : (k p : ℕ) → k < roundsAt s → p < settingsAt s .n → refusedIn s k p ≡ false
+  unfolding refusedIn
+  none-refused k p early l =
+      ⊎-elim
+      (λ e. run .refuses k p early l e ∙ ap tooMany (close-in k early .unrefused p (l, e)))
+      (λ e. ap (λ (b : Bool). b && tooMany (settledIn s 0 k p .verdict)) e)
+      (both-ways (soundAt s p))
+
+  never-overloaded : (k : ℕ) → k ≤ roundsAt s → overloaded s k ≡ none
+  unfolding overloaded
+  never-overloaded zero l = refl
+  never-overloaded (suc k) l =
+      ap₂ orNext (never-overloaded k (omega arith))
+      (ap (atRound k) (lowest-none (refusedIn s k) (settingsAt s .n) (λ p lp. none-refused k p l lp)))
+
+  grants : replay s values .verdict ≡ granted (4 * settingsAt s .n)
+  grants =
+      ap (λ (o : Outcome). o .verdict) (replay-passed s values pass)
+      ∙ ap (λ (c : Check). verdict c (4 * settingsAt s .n)) (never-overloaded (roundsAt s) (le-refl (roundsAt s)))
+
+  -- a sound cabinet's place shows what it holds at the end
+  shows : (p : ℕ) → Sound st p → valueIn (replay s values .buffer) p ≡ ticks (stateOf s κ (roundsAt s) .held p)
+  shows p (l, e) =
+      run .shown grants p l ∙ ap (λ (b : Bool). cond b (ticks (stateOf s κ (roundsAt s) .held p)) (pos 0)) e
+
+  -- after one round or more
+  planned : (k : ℕ) → k < roundsAt s → stateOf s κ (suc k) .plan ≡ after (suc k) (planFrom (settingsAt s) κ)
+  planned k l =
+      traced-ready s (recorded s values pass small) κ most (suc k) (le-trans l (few-rounds s values pass)) .plan
+
+  precise-after :
+      (k : ℕ) → 0 < k → k ≤ roundsAt s → (p q : ℕ) → Sound st p → Sound st q
+      → apart (ticks (stateOf s κ k .held p)) (ticks (stateOf s κ k .held q))
+      ≤ after k (planFrom (settingsAt s) κ) .settings .window
+  unfolding stateAfter
+  precise-after zero h l p q sp sq = absurd (not-suc-le-zero h)
+  precise-after (suc k) h l p q sp sq = rw (← planned k l) (close-in k l .precise p q sp sq)
+
+  accurate-after :
+      (k : ℕ) → 0 < k → k ≤ roundsAt s → (p : ℕ) → Sound st p
+      → apart (ticks (stateOf s κ k .held p)) true-value ≤ after k (planFrom (settingsAt s) κ) .accuracy
+  unfolding stateAfter
+  accurate-after zero h l p sp = absurd (not-suc-le-zero h)
+  accurate-after (suc k) h l p sp = rw (← planned k l) (close-in k l .accurate p sp)
+
+  replayed-close : Replays s values κ true-value
+  replayed-close =
+      record {
+        grants = grants;
+        precise = λ h p q sp sq.
+            rw (shows p sp, shows q sq) (precise-after (roundsAt s) h (le-refl (roundsAt s)) p q sp sq);
+        accurate = λ h p sp.
+            rw (shows p sp) (accurate-after (roundsAt s) h (le-refl (roundsAt s)) p sp);
+      }
+
+pub replay-guaranteed : ReplayGuarantee
+replay-guaranteed = replayed-close

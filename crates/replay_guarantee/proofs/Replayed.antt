@@ -35,7 +35,7 @@ use Rattle.run.proofs.Traced.{Recorded, traced-start, traced-allowed, traced-re
 use Rattle.demand_3.specs.Guarantee.{apart, Good, bad, Close}
 use Rattle.demand_3.proofs.Guarantee.{guarantee}
 use Rattle.replay_guarantee.specs.Replayed.{Bytes, Passes, shownIn, valueIn, IsRun, ReplayIsRun, AlikeForSound}
-use Rattle.replay_guarantee.specs.Replayed.{FaultyIgnored, Replays, ReplayGuarantee}
+use Rattle.replay_guarantee.specs.Replayed.{FaultyIgnored, FewBad, finalGap, finalError, Replays, ReplayGuarantee}
 use Rattle.replay_guarantee.proofs.Alike.{stateOf, settledIn, held-alike, settled-alike}
 use Rattle.replay_guarantee.proofs.Listed.{roundsFrom, length-rounds, each-listed, every-listed}
 use Rattle.replay_guarantee.proofs.Passed.{few-rounds, recorded, replay-passed}
@@ -177,7 +177,7 @@ faulty-ignored s t values small-s small-t alike pass-s pass-t =
 
 module _ (s values : List ℕ) (small : Bytes s) (pass : Passes s values) (κ : ℕ) (most : κ ≤ maxAccuracy)
     (good : ℕ → Bool) (true-value : ℤ) (goodness : Good (tracedStation s κ) good true-value)
-    (few : bad (tracedStation s κ) good ≤ settingsAt s .m) where
+    (few : FewBad s κ good) where
   abbrev st : Station
   st = tracedStation s κ
 

@@ -7,6 +7,7 @@
 --   shownIn, valueIn             what the run shows of a cabinet after some rounds; the value that stands in a buffer
 --   ReplayIsRun                  a replay gives the run of demand 3, whatever accuracy its plan starts with
 --   AlikeForSound, FaultyIgnored a faulty cabinet's first reading and what it receives change nothing
+--   FewBad, finalGap, finalError at most m bad; the planned window and the planned accuracy at the end
 --   Replays, ReplayGuarantee     where at most m are bad: the guarantee, of the bytes that a replay leaves
 use mathlib.Core.Bool.{Bool, true, cond}
 use mathlib.Core.List.{List}
@@ -76,6 +77,17 @@ FaultyIgnored =
     (s t values : List ℕ) → Bytes s → Bytes t → AlikeForSound s t → Passes s values → Passes t values
     → replay s values ≡ replay t values
 
+-- at most m are bad
+abbrev pub FewBad : List ℕ → ℕ → (ℕ → Bool) → Type 0
+FewBad s κ good = bad (tracedStation s κ) good ≤ settingsAt s .m
+
+-- the planned window and the planned accuracy, after the last round
+abbrev pub finalGap : List ℕ → ℕ → ℕ
+finalGap s κ = after (roundsAt s) (planFrom (settingsAt s) κ) .settings .window
+
+abbrev pub finalError : List ℕ → ℕ → ℕ
+finalError s κ = after (roundsAt s) (planFrom (settingsAt s) κ) .accuracy
+
 -- where at most m are bad: no refusal; and from one round on the final values of sound cabinets are within the planned
 -- window of each other and within the planned accuracy of true. (After 0 rounds they are the first readings, of which
 -- `Good` speaks.)
@@ -83,17 +95,14 @@ pub record Replays (s values : List ℕ) (κ : ℕ) (true-value : ℤ) : Type 0 
   pub grants : replay s values .verdict ≡ granted (4 * settingsAt s .n)
   pub precise :
       0 < roundsAt s → (p q : ℕ) → Sound (tracedStation s κ) p → Sound (tracedStation s κ) q
-      → apart (valueIn (replay s values .buffer) p) (valueIn (replay s values .buffer) q)
-      ≤ after (roundsAt s) (planFrom (settingsAt s) κ) .settings .window
+      → apart (valueIn (replay s values .buffer) p) (valueIn (replay s values .buffer) q) ≤ finalGap s κ
   pub accurate :
       0 < roundsAt s → (p : ℕ) → Sound (tracedStation s κ) p
-      → apart (valueIn (replay s values .buffer) p) true-value
-      ≤ after (roundsAt s) (planFrom (settingsAt s) κ) .accuracy
+      → apart (valueIn (replay s values .buffer) p) true-value ≤ finalError s κ
 
 abbrev pub ReplayGuarantee : Type 0
 ReplayGuarantee =
     (s values : List ℕ) → Bytes s → Passes s values
     → (κ : ℕ) → κ ≤ maxAccuracy
-    → (good : ℕ → Bool) (true-value : ℤ) → Good (tracedStation s κ) good true-value
-    → bad (tracedStation s κ) good ≤ settingsAt s .m
+    → (good : ℕ → Bool) (true-value : ℤ) → Good (tracedStation s κ) good true-value → FewBad s κ good
     → Replays s values κ true-value

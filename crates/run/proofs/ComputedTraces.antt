@@ -8,8 +8,8 @@ use Rattle.run.specs.Run.{stateAfter}
 use Rattle.run.specs.Trace.{tracedEntry}
 use Rattle.run.specs.Replay.{badTrace, strangeRole, soundSent, badRoles, refusedIn, overloaded}
 use Rattle.run.specs.Replay.{traceChecks, replayChecks, valuesTo, replayTo, replay}
-use Rattle.run.specs.Traces.{zeros, lent17, directTraceWith, directTrace, silentTrace, spokenTrace, strangeTrace}
-use Rattle.run.specs.Traces.{longTrace, headTrace, firstTrace, TracesComputed}
+use Rattle.run.specs.Traces.{zeros, lent17, onceTrace, directTraceWith, directTrace, toldTrace, silentTrace}
+use Rattle.run.specs.Traces.{spokenTrace, strangeTrace, longTrace, headTrace, firstTrace, TracesComputed}
 use Rattle.run.proofs.Computed.{computed}
 
 -- a replay, with all that it computes by
@@ -21,7 +21,9 @@ replayed = replay
 pub traces-computed : TracesComputed
 traces-computed =
     record {
+      once = unfold replayed onceTrace in refl;
       direct = unfold replayed directTraceWith directTrace in refl;
+      told = unfold replayed directTraceWith toldTrace in refl;
       silent = unfold replayed silentTrace in refl;
       spoken = unfold replayed spokenTrace in refl;
       strange = unfold replayed strangeTrace in refl;

@@ -1,28 +1,28 @@
 -- Two traces alike for sound cabinets, run from any two accuracies: in each round every sound cabinet settles the same
 -- sheet, so that it is refused alike and holds the same.
 -- Assumes nothing.
-use mathlib.Core.Bool.{Bool, true}
+use mathlib.Core.Bool.{true}
 use mathlib.Core.List.{List}
 use mathlib.Core.Path.{_≡_, refl, sym, ap, ap₂, _∙_}
 use Prim.Native.Nat.{ℕ, zero, suc, _≤_, _<_}
-use native.Mathlib.Nat.{le-trans}
 use native.Mathlib.Omega.{arith}
 use lib.Dec.{eqb}
 use lib.ListN.{replicate}
 use Rattle.arithmetic.proofs.Bools.{cond-ext}
 use Rattle.model.specs.declared.Settings.{Settings}
-use Rattle.model.specs.Ensemble.{Reading, present, Readings}
+use Rattle.model.specs.Ensemble.{present, Readings}
 use Rattle.model.specs.RoundSheet.{settingsAt}
 use Rattle.model.specs.AnswerSheet.{answerLength, answerBytes}
 use Rattle.model.specs.Steps.{roundOf}
-use Rattle.model.specs.Planner.{Plan, withWindow, nextWindow, planFrom, advance, after, windowAfter, maxAccuracy, maxRounds}
+use Rattle.model.specs.Planner.{Plan, withWindow, nextWindow, planFrom, advance, after, windowAfter}
+use Rattle.model.specs.Planner.{maxAccuracy, maxRounds}
 use Rattle.model.specs.Refusals.{tooManyFaults}
 use Rattle.model.specs.Calls.{Outcome, writtenAfter}
 use Rattle.round_laws.proofs.Local.{EqualBelow, EqualRounds, round-local, answer-local}
 use Rattle.run.specs.Run.{State, holds, heard, settled, next, stateAfter}
-use Rattle.run.specs.Trace.{roundsAt, soundAt, firstAt, tracedStation, tracedSends}
+use Rattle.run.specs.Trace.{roundsAt, soundAt, tracedStation, tracedSends}
 use Rattle.run.proofs.Entries.{seen}
-use Rattle.run.proofs.Ready.{Ready, settles}
+use Rattle.run.proofs.Ready.{settles}
 use Rattle.run.proofs.Traced.{Recorded, traced-start, traced-allowed, traced-ready, traced-seen}
 use Rattle.replay_guarantee.specs.Replayed.{AlikeForSound}
 
@@ -47,8 +47,8 @@ outcome-local c v u same =
     writtenAfter (tooManyFaults count) (answerLength (c .n)) bytes (replicate (answerLength (c .n)) 0))
     (both .count) (answer-local (c .n) (roundOf c v) (roundOf c u) both)
 
--- of the run that starts with accuracy κ: its state after k rounds, the settings of the next, what p reads in it and what
--- settling gives it
+-- of the run that starts with accuracy κ: its state after k rounds, the settings of the next, what p reads in that and
+-- what settling gives it
 abbrev pub stateOf : List ℕ → ℕ → ℕ → State
 stateOf s κ k = stateAfter (tracedStation s κ) (tracedSends s) k
 

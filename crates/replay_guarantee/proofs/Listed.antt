@@ -6,7 +6,7 @@ use Prim.Native.Nat.{ℕ, zero, suc, _+_, _<_}
 use native.Mathlib.Nat.{not-suc-le-zero}
 use native.Mathlib.Omega.{arith}
 use lib.ListN.{length}
-use Rattle.run.specs.Run.{Station, Sends, State, next, stateAfter}
+use Rattle.run.specs.Run.{Station, Sends, State, stateAfter}
 use Rattle.demand_3.specs.Guarantee.{Every, Each}
 
 module _ (sends : ℕ → Sends) where

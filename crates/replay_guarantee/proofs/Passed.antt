@@ -1,9 +1,8 @@
 -- What the checks before 15 leave of a trace: settings that pass, FCA, at most 32 rounds; and then a replay is what 15
 -- says of its rounds, or else its values.
 -- Assumes nothing.
-use mathlib.Core.Bool.{Bool, not, _||_, false}
-use mathlib.Core.List.{List, [], _∷_}
-use mathlib.Core.Option.{none}
+use mathlib.Core.Bool.{not, _||_, false}
+use mathlib.Core.List.{List, _∷_}
 use mathlib.Core.Path.{_≡_, ap, _∙_}
 use Prim.Native.Nat.{ℕ, _*_, _≤_}
 use borrow.Author.Tests.{eqb-true, ltb-false, not-false}

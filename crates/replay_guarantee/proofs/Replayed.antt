@@ -4,14 +4,14 @@
 use mathlib.Core.Bool.{Bool, true, false, cond, _&&_}
 use mathlib.Core.List.{List}
 use mathlib.Core.Logic.{⊎-elim}
-use mathlib.Core.Option.{Option, none, some}
+use mathlib.Core.Option.{none, some}
 use mathlib.Core.Path.{_≡_, refl, sym, ap, ap₂, _∙_, subst}
-use Prim.Native.Nat.{ℕ, zero, suc, _+_, _*_, _≤_, _<_}
+use Prim.Native.Nat.{ℕ, zero, suc, _*_, _≤_, _<_}
 use native.Mathlib.Nat.{zero-add, le-refl, le-trans, not-suc-le-zero}
 use native.Mathlib.Omega.{arith}
 use lib.Dec.{eqb, lit≤}
 use lib.IntN.{ℤ, pos}
-use lib.ListN.{length, drop}
+use lib.ListN.{length}
 use mir.Syntax.{w32}
 use mir.Val.{SFits, toZ, ofZ}
 use mir.Facts.{toZ-ofZ}
@@ -22,20 +22,20 @@ use Rattle.arithmetic.proofs.Counting.{lowest-ext, lowest-none}
 use Rattle.arithmetic.proofs.Writing.{length-table, getD-table, table-ext}
 use Rattle.model.specs.declared.Settings.{Settings}
 use Rattle.model.specs.Ensemble.{Reading, ticks}
-use Rattle.model.specs.RoundSheet.{word, settingsAt, readingBytes}
+use Rattle.model.specs.RoundSheet.{settingsAt, readingBytes}
 use Rattle.model.specs.Planner.{planFrom, after, maxAccuracy, maxRounds}
 use Rattle.model.specs.Refusals.{Check, orNext}
-use Rattle.model.specs.Calls.{Verdict, granted, refused, verdict, lent, Outcome, writtenAfter}
+use Rattle.model.specs.Calls.{granted, verdict, lent, Outcome}
 use Rattle.sheet_laws.proofs.Readings.{word-readings}
-use Rattle.run.specs.Run.{Station, Sends, State, Sound, Allowed, start, next, stateAfter}
+use Rattle.run.specs.Run.{Station, Sound, Allowed, stateAfter}
 use Rattle.run.specs.Trace.{roundsAt, soundAt, tracedStation, tracedSends}
-use Rattle.run.specs.Replay.{tooMany, refusedIn, atRound, inRound, overloaded, shownAfter, valuesTo, replay}
+use Rattle.run.specs.Replay.{tooMany, refusedIn, atRound, overloaded, shownAfter, valuesTo, replay}
 use Rattle.run.proofs.Entries.{reading-fits}
 use Rattle.run.proofs.Traced.{Recorded, traced-start, traced-allowed, traced-ready}
-use Rattle.demand_3.specs.Guarantee.{apart, Good, bad, Close}
+use Rattle.demand_3.specs.Guarantee.{apart, Good, Close}
 use Rattle.demand_3.proofs.Guarantee.{guarantee}
-use Rattle.replay_guarantee.specs.Replayed.{Bytes, Passes, shownIn, valueIn, IsRun, ReplayIsRun, AlikeForSound}
-use Rattle.replay_guarantee.specs.Replayed.{FaultyIgnored, FewBad, finalGap, finalError, Replays, ReplayGuarantee}
+use Rattle.replay_guarantee.specs.Replayed.{Bytes, Passes, valueIn, IsRun, ReplayIsRun, AlikeForSound}
+use Rattle.replay_guarantee.specs.Replayed.{FaultyIgnored, FewBad, Replays, ReplayGuarantee}
 use Rattle.replay_guarantee.proofs.Alike.{stateOf, settledIn, held-alike, settled-alike}
 use Rattle.replay_guarantee.proofs.Listed.{roundsFrom, length-rounds, each-listed, every-listed}
 use Rattle.replay_guarantee.proofs.Passed.{few-rounds, recorded, replay-passed}
@@ -98,21 +98,26 @@ module _ (s values : List ℕ) (small : Bytes s) (pass : Passes s values) where
       ∙ values-back (shownAfter s (roundsAt s)) (settingsAt s .n) values p l
       (values-fit (roundsAt s) p (few-rounds s values pass) l)
 
+  held :
+      (κ : ℕ) → κ ≤ maxAccuracy → (p : ℕ) → p < settingsAt s .n → soundAt s p ≡ true
+      → stateOf s 0 (roundsAt s) .held p ≡ stateOf s κ (roundsAt s) .held p
+  held κ most =
+      held-alike s s rs rs (alike-itself s) (few-rounds s values pass) 0 κ no-accuracy most (roundsAt s)
+      (le-refl (roundsAt s))
+
   pub replayed-run : (κ : ℕ) → κ ≤ maxAccuracy → IsRun s values κ
   unfolding refusedIn
   replayed-run κ most =
-      let most-rounds : roundsAt s ≤ maxRounds = few-rounds s values pass in
       record {
         shown = λ e p l.
             values-stand e p l
             ∙ cond-ext refl
-            (λ q. ap ticks
-            (held-alike s s rs rs (alike-itself s) most-rounds 0 κ no-accuracy most (roundsAt s) (le-refl (roundsAt s)) p l q))
+            (λ q. ap ticks (held κ most p l q))
             refl;
         refuses = λ k p early l e.
             ap (λ (b : Bool). b && tooMany (settledIn s 0 k p .verdict)) e
             ∙ ap (λ (o : Outcome). tooMany (o .verdict))
-            (settled-alike s s rs rs (alike-itself s) most-rounds 0 κ no-accuracy most k p early l e);
+            (settled-alike s s rs rs (alike-itself s) (few-rounds s values pass) 0 κ no-accuracy most k p early l e);
       }
 
 pub replay-is-run : ReplayIsRun
@@ -120,7 +125,8 @@ replay-is-run = replayed-run
 
 -- ---- what faulty cabinets hold first and receive
 
-module _ (s t : List ℕ) (rs : Recorded s) (rt : Recorded t) (alike : AlikeForSound s t) (few : roundsAt s ≤ maxRounds) where
+module _ (s t : List ℕ) (rs : Recorded s) (rt : Recorded t) (alike : AlikeForSound s t)
+    (few : roundsAt s ≤ maxRounds) where
   sound-alike : (p : ℕ) → p < settingsAt s .n → soundAt s p ≡ soundAt t p
   sound-alike p l = ap (λ (x : ℕ). eqb x 1) (alike .roles p l)
 
@@ -188,15 +194,14 @@ module _ (s values : List ℕ) (small : Bytes s) (pass : Passes s values) (κ : 
   close-in : (k : ℕ) → k < roundsAt s → Close st true-value (stateOf s κ k) (tracedSends s k)
   unfolding stateAfter
   close-in k l =
-      let begins = traced-start s (recorded s values pass small) κ most in
+      let traced = recorded s values pass small in
       let listed = roundsFrom (tracedSends s) 0 (roundsAt s) in
       let short : length listed ≤ maxRounds =
       rw (length-rounds (tracedSends s) 0 (roundsAt s)) (few-rounds s values pass) in
-      let each =
-      each-listed (tracedSends s) (Allowed st) (traced-allowed s (recorded s values pass small) κ most) 0 (roundsAt s) in
+      let each = each-listed (tracedSends s) (Allowed st) (traced-allowed s traced κ most) 0 (roundsAt s) in
       subst (λ (i : ℕ). Close st true-value (stateOf s κ i) (tracedSends s i)) (zero-add k)
       (every-listed (tracedSends s) st (Close st true-value) 0 (roundsAt s)
-      (guarantee st begins listed short each good true-value goodness .few few) k l)
+      (guarantee st (traced-start s traced κ most) listed short each good true-value goodness .few few) k l)
 
   -- no sound cabinet meets too many faults
   none-refused : (k p : ℕ) → k < roundsAt s → p < settingsAt s .n → refusedIn s k p ≡ false

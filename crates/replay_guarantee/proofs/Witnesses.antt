@@ -15,13 +15,16 @@ use Rattle.run.specs.Trace.{soundAt, tracedStation}
 use Rattle.run.specs.Rounds.{below}
 use Rattle.run.specs.Traces.{lent17, onceTrace, directTraceWith, directTrace, otherTrace, toldTrace, silentTrace}
 use Rattle.run.proofs.ComputedTraces.{replayed, traces-computed}
-use Rattle.demand_3.proofs.Computed.Tested.{amiss, good-tested}
+use Rattle.demand_3.proofs.Computed.Tested.{good-tested}
 use Rattle.replay_guarantee.specs.Replayed.{Bytes, Passes, AlikeForSound, FewBad, Replays}
-use Rattle.replay_guarantee.specs.Witnesses.{Meets, OnceReached, DirectReached, SilentRefused, OtherIgnored, ToldHeard}
+use Rattle.replay_guarantee.specs.Witnesses.{Meets, OnceReached, DirectReached, SilentRefused, OtherIgnored}
+use Rattle.replay_guarantee.specs.Witnesses.{ToldHeard}
 use Rattle.replay_guarantee.proofs.Replayed.{faulty-ignored, replay-guaranteed}
 use Rattle.replay_guarantee.proofs.Tested.{bytes-tested, alike-tested}
 
-promised : (s : List ℕ) (good : ℕ → Bool) (truth : ℤ) → Meets s 0 good truth → FewBad s 0 good → Replays s lent17 0 truth
+promised :
+    (s : List ℕ) (good : ℕ → Bool) (truth : ℤ) → Meets s 0 good truth → FewBad s 0 good
+    → Replays s lent17 0 truth
 promised s good truth m few =
     replay-guaranteed s lent17 (m .bytes) (m .passes) 0 (lit≤ tt) good truth (m .goodness) few
 
@@ -123,7 +126,8 @@ other-ignored =
 not-alike : ¬ AlikeForSound directTrace toldTrace
 unfolding replayed directTraceWith directTrace toldTrace
 not-alike h =
-    let differ : _≡_ {A = ℕ} 90 50 = ap (λ (r : Reading). natAbs (ticks r)) (h .sent 1 3 2 (lit< tt) (lit< tt) (lit< tt) refl) in
+    let told = h .sent 1 3 2 (lit< tt) (lit< tt) (lit< tt) refl in
+    let differ : _≡_ {A = ℕ} 90 50 = ap (λ (r : Reading). natAbs (ticks r)) told in
     omega arith
 
 pub told-heard : ToldHeard

@@ -52,7 +52,8 @@ pub record IsRun (s values : List ℕ) (κ : ℕ) : Type 0 where
   pub refuses :
       (k p : ℕ) → k < roundsAt s → p < settingsAt s .n → soundAt s p ≡ true
       → refusedIn s k p
-      ≡ tooMany (settled (tracedStation s κ) (stateAfter (tracedStation s κ) (tracedSends s) k) (tracedSends s k) p .verdict)
+      ≡ tooMany
+      (settled (tracedStation s κ) (stateAfter (tracedStation s κ) (tracedSends s) k) (tracedSends s k) p .verdict)
 
 abbrev pub ReplayIsRun : Type 0
 ReplayIsRun = (s values : List ℕ) → Bytes s → Passes s values → (κ : ℕ) → κ ≤ maxAccuracy → IsRun s values κ

@@ -1,6 +1,6 @@
--- Traces of crates/run/specs/Traces.antt beside the statements of Replayed.antt: all that these ask holds of them, their
--- limits are reached, so that none of them can be a tick tighter, and neither the limit on bad cabinets nor what
--- two traces must have in common can be less. The theorems are in proofs/Witnesses.antt.
+-- Traces of crates/run/specs/Traces.antt beside the statements of Replayed.antt: what these ask holds of them; they
+-- reach the limits, so that none can be a tick tighter; with one bad cabinet more 15 is said; and what two traces must
+-- have in common cannot be less. The theorems are in proofs/Witnesses.antt.
 --
 --   finalApart, finalFrom     how far two final values are apart; how far one is from true time
 --   Meets                     what `ReplayGuarantee` asks of a trace, but for the number of bad cabinets
@@ -15,7 +15,7 @@ use mathlib.Core.Path.{_≡_}
 use Prim.Native.Nat.{ℕ, _+_}
 use lib.IntN.{ℤ, pos, negsuc}
 use Rattle.model.specs.RoundSheet.{settingsAt}
-use Rattle.model.specs.Cases.{at, minus}
+use Rattle.model.specs.Cases.{at}
 use Rattle.model.specs.Ensemble.{missing}
 use Rattle.model.specs.Refusals.{refusal, overloadedNumber}
 use Rattle.model.specs.Calls.{refused}

@@ -1,6 +1,6 @@
 -- The traces of specs/Traces.antt, replayed: computed from their bytes to the last byte that is left.
 -- Assumes nothing.
-use mathlib.Core.Path.{_≡_, refl}
+use mathlib.Core.Path.{refl}
 use mathlib.Core.List.{List}
 use Prim.Native.Nat.{ℕ}
 use Rattle.model.specs.Calls.{Outcome}

@@ -1,6 +1,7 @@
-pub mod Alike
+pub mod Computed
 pub mod Listed
 pub mod Passed
 pub mod Replayed
+pub mod Sanity
 pub mod Tested
-pub mod Witnesses
+pub mod TwoRuns

@@ -36,7 +36,7 @@ use Rattle.demand_3.specs.Guarantee.{apart, Good, Close}
 use Rattle.demand_3.proofs.Guarantee.{guarantee}
 use Rattle.replay_guarantee.specs.Replayed.{Bytes, Passes, valueIn, IsRun, ReplayIsRun, AlikeForSound}
 use Rattle.replay_guarantee.specs.Replayed.{FaultyIgnored, FewBad, Replays, ReplayGuarantee}
-use Rattle.replay_guarantee.proofs.Alike.{stateOf, settledIn, held-alike, settled-alike}
+use Rattle.replay_guarantee.proofs.TwoRuns.{stateOf, settledIn, held-alike, settled-alike}
 use Rattle.replay_guarantee.proofs.Listed.{roundsFrom, length-rounds, each-listed, every-listed}
 use Rattle.replay_guarantee.proofs.Passed.{few-rounds, recorded, replay-passed}
 

@@ -7,7 +7,8 @@
 --   shownIn, valueIn             what the run shows of a cabinet after some rounds; the value that stands in a buffer
 --   ReplayIsRun                  a replay gives the run of demand 3, whatever accuracy its plan starts with
 --   AlikeForSound, FaultyIgnored a faulty cabinet's first reading and what it receives change nothing
---   FewBad, finalGap, finalError at most m bad; the planned window and the planned accuracy at the end
+--   FewBad, SomeRound            at most m bad; one round or more
+--   finalGap, finalError         the planned window and the planned accuracy at the end
 --   Replays, ReplayGuarantee     where at most m are bad: the guarantee, of the bytes that a replay leaves
 use mathlib.Core.Bool.{Bool, true, cond}
 use mathlib.Core.List.{List}
@@ -89,16 +90,19 @@ finalGap s κ = after (roundsAt s) (planFrom (settingsAt s) κ) .settings .windo
 abbrev pub finalError : List ℕ → ℕ → ℕ
 finalError s κ = after (roundsAt s) (planFrom (settingsAt s) κ) .accuracy
 
+-- the limits are of rounds: after none of them the first readings stand, of which `Good` speaks
+abbrev pub SomeRound : List ℕ → Type 0
+SomeRound s = 0 < roundsAt s
+
 -- where at most m are bad: no refusal; and from one round on the final values of sound cabinets are within the planned
--- window of each other and within the planned accuracy of true. (After 0 rounds they are the first readings, of which
--- `Good` speaks.)
+-- window of each other and within the planned accuracy of true
 pub record Replays (s values : List ℕ) (κ : ℕ) (true-value : ℤ) : Type 0 where
   pub grants : replay s values .verdict ≡ granted (4 * settingsAt s .n)
   pub precise :
-      0 < roundsAt s → (p q : ℕ) → Sound (tracedStation s κ) p → Sound (tracedStation s κ) q
+      SomeRound s → (p q : ℕ) → Sound (tracedStation s κ) p → Sound (tracedStation s κ) q
       → apart (valueIn (replay s values .buffer) p) (valueIn (replay s values .buffer) q) ≤ finalGap s κ
   pub accurate :
-      0 < roundsAt s → (p : ℕ) → Sound (tracedStation s κ) p
+      SomeRound s → (p : ℕ) → Sound (tracedStation s κ) p
       → apart (valueIn (replay s values .buffer) p) true-value ≤ finalError s κ
 
 abbrev pub ReplayGuarantee : Type 0

@@ -1,18 +1,19 @@
 -- Traces of crates/run/specs/Traces.antt beside the statements of Replayed.antt: what these ask holds of them; they
 -- reach the limits, so that none can be a tick tighter; with one bad cabinet more 15 is said; and what two traces must
--- have in common cannot be less. The theorems are in proofs/Witnesses.antt.
+-- have in common cannot be less. The theorems are in proofs/Computed.antt and proofs/Sanity.antt.
 --
 --   finalApart, finalFrom     how far two final values are apart; how far one is from true time
 --   Meets                     what `ReplayGuarantee` asks of a trace, but for the number of bad cabinets
 --   OnceReached               one round: the planned window and the planned accuracy
 --   DirectReached             two rounds: the planned window
+--   FarStays                  no round: a sound cabinet with a bad first reading keeps it
 --   SilentRefused             m + 1 are bad, and 15 is said
 --   OtherIgnored              two traces that differ for a faulty cabinet: the same replay
 --   ToldHeard                 two traces that differ for a sound one: another replay
 use mathlib.Core.Bool.{Bool}
 use mathlib.Core.List.{List}
 use mathlib.Core.Path.{_≡_}
-use Prim.Native.Nat.{ℕ, _+_}
+use Prim.Native.Nat.{ℕ, _+_, _<_}
 use lib.IntN.{ℤ, pos, negsuc}
 use Rattle.model.specs.RoundSheet.{settingsAt}
 use Rattle.model.specs.Cases.{at}
@@ -22,10 +23,10 @@ use Rattle.model.specs.Calls.{refused}
 use Rattle.run.specs.Trace.{firstAt, soundAt, entryNumber, tracedEntry, tracedStation}
 use Rattle.run.specs.Replay.{replay}
 use Rattle.run.specs.Rounds.{below}
-use Rattle.run.specs.Traces.{lent17, onceTrace, directTrace, otherTrace, toldTrace, silentTrace}
+use Rattle.run.specs.Traces.{lent17, onceTrace, directTrace, otherTrace, toldTrace, silentTrace, farTrace}
 use Rattle.demand_3.specs.Guarantee.{apart, Good, bad}
 use Rattle.replay_guarantee.specs.Replayed.{Bytes, Passes, valueIn, AlikeForSound, FewBad, finalGap, finalError}
-use Rattle.replay_guarantee.specs.Replayed.{Replays}
+use Rattle.replay_guarantee.specs.Replayed.{SomeRound}
 
 abbrev pub finalApart : List ℕ → ℕ → ℕ → ℕ
 finalApart s p q = apart (valueIn (replay s lent17 .buffer) p) (valueIn (replay s lent17 .buffer) q)
@@ -43,7 +44,6 @@ pub record Meets (s : List ℕ) (κ : ℕ) (good : ℕ → Bool) (true-value : �
 pub record OnceReached : Type 0 where
   pub meets : Meets onceTrace 0 (below 3) (pos 0)
   pub few : FewBad onceTrace 0 (below 3)
-  pub promised : Replays onceTrace lent17 0 (pos 0)
   -- 50
   pub widest : finalApart onceTrace 0 1 ≡ finalGap onceTrace 0
   -- 25
@@ -52,9 +52,17 @@ pub record OnceReached : Type 0 where
 pub record DirectReached : Type 0 where
   pub meets : Meets directTrace 0 (below 3) (pos 0)
   pub few : FewBad directTrace 0 (below 3)
-  pub promised : Replays directTrace lent17 0 (pos 0)
   -- 25
   pub widest : finalApart directTrace 0 1 ≡ finalGap directTrace 0
+
+-- ---- No round
+
+pub record FarStays : Type 0 where
+  pub meets : Meets farTrace 1 (below 3) (pos 0)
+  pub few : FewBad farTrace 1 (below 3)
+  pub no-round : ¬ SomeRound farTrace
+  -- 100 and 257
+  pub wider : finalGap farTrace 1 < finalApart farTrace 3 1
 
 -- ---- One bad cabinet more
 

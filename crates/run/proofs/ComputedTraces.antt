@@ -9,7 +9,8 @@ use Rattle.run.specs.Trace.{tracedEntry}
 use Rattle.run.specs.Replay.{badTrace, strangeRole, soundSent, badRoles, refusedIn, overloaded}
 use Rattle.run.specs.Replay.{traceChecks, replayChecks, valuesTo, replayTo, replay}
 use Rattle.run.specs.Traces.{zeros, lent17, onceTrace, directTraceWith, directTrace, toldTrace, silentTrace}
-use Rattle.run.specs.Traces.{spokenTrace, strangeTrace, longTrace, headTrace, firstTrace, TracesComputed}
+use Rattle.run.specs.Traces.{spokenTrace, strangeTrace, longTrace, headTrace, firstTraceWith, firstTrace}
+use Rattle.run.specs.Traces.{farTrace, TracesComputed}
 use Rattle.run.proofs.Computed.{computed}
 
 -- a replay, with all that it computes by
@@ -29,5 +30,6 @@ traces-computed =
       strange = unfold replayed strangeTrace in refl;
       long = unfold replayed longTrace in refl;
       head = unfold replayed headTrace in refl;
-      first = unfold replayed firstTrace in refl;
+      first = unfold replayed firstTraceWith firstTrace in refl;
+      far = unfold replayed firstTraceWith farTrace in refl;
     }

@@ -89,11 +89,19 @@ headTrace = 4 ∷ 1 ∷ 0 ∷ 2 ∷ 100 ∷ 0 ∷ 0 ∷ 0 ∷ []
 
 -- ---- No round
 
--- N 4, m 1; cabinets 0, 1, 2 are sound and read 1, -1 and 256; cabinet 3 is faulty, and its first reading is 7
+-- N 4, m 1, δ 100; cabinets 0, 1, 2 are sound and read 1, -1 and 0; cabinet 3 reads 256. Left open is its role
+unfoldable pub firstTraceWith : ℕ → List ℕ
+firstTraceWith role =
+    (4 ∷ 1 ∷ 0 ∷ 2 ∷ 100 ∷ 0 ∷ 0 ∷ 0 ∷ 0 ∷ 1 ∷ 1 ∷ 1 ∷ role ∷ [])
+    ++ (1 ∷ 0 ∷ 0 ∷ 0 ∷ 255 ∷ 255 ∷ 255 ∷ 255 ∷ 0 ∷ 0 ∷ 0 ∷ 0 ∷ 0 ∷ 1 ∷ 0 ∷ 0 ∷ [])
+
+-- it is faulty
 unfoldable pub firstTrace : List ℕ
-firstTrace =
-    (4 ∷ 1 ∷ 0 ∷ 2 ∷ 100 ∷ 0 ∷ 0 ∷ 0 ∷ 0 ∷ 1 ∷ 1 ∷ 1 ∷ 0 ∷ [])
-    ++ (1 ∷ 0 ∷ 0 ∷ 0 ∷ 255 ∷ 255 ∷ 255 ∷ 255 ∷ 0 ∷ 1 ∷ 0 ∷ 0 ∷ 7 ∷ 0 ∷ 0 ∷ 0 ∷ [])
+firstTrace = firstTraceWith 0
+
+-- it is sound
+unfoldable pub farTrace : List ℕ
+farTrace = firstTraceWith 1
 
 -- ---- What a replay gives
 
@@ -123,4 +131,8 @@ pub record TracesComputed : Type 0 where
   pub first :
       replay firstTrace lent17
       ≡ outcome (granted 16)
-      (1 ∷ 0 ∷ 0 ∷ 0 ∷ 255 ∷ 255 ∷ 255 ∷ 255 ∷ 0 ∷ 1 ∷ 0 ∷ 0 ∷ 0 ∷ 0 ∷ 0 ∷ 0 ∷ 255 ∷ [])
+      (1 ∷ 0 ∷ 0 ∷ 0 ∷ 255 ∷ 255 ∷ 255 ∷ 255 ∷ 0 ∷ 0 ∷ 0 ∷ 0 ∷ 0 ∷ 0 ∷ 0 ∷ 0 ∷ 255 ∷ [])
+  pub far :
+      replay farTrace lent17
+      ≡ outcome (granted 16)
+      (1 ∷ 0 ∷ 0 ∷ 0 ∷ 255 ∷ 255 ∷ 255 ∷ 255 ∷ 0 ∷ 0 ∷ 0 ∷ 0 ∷ 0 ∷ 1 ∷ 0 ∷ 0 ∷ 255 ∷ [])

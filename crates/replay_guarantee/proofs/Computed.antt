@@ -1,32 +1,24 @@
 -- The claims of specs/Witnesses.antt. What the traces' replays give was computed (`traces-computed` of crate run); here
--- it is laid beside the limits, and the theorems of Replayed.antt are applied.
+-- it is laid beside the limits. A check comes to this before it comes to the theorems.
 -- Assumes nothing.
-use mathlib.Core.Bool.{Bool}
-use mathlib.Core.List.{List}
 use mathlib.Core.Path.{_≡_, refl, ap}
 use Prim.Native.Nat.{ℕ}
 use native.Mathlib.Omega.{arith}
 use lib.Dec.{lit<, lit≤}
-use lib.IntN.{ℤ, pos, natAbs}
+use lib.IntN.{pos, natAbs}
 use Rattle.model.specs.Ensemble.{Reading, ticks}
 use Rattle.model.specs.Planner.{after}
 use Rattle.model.specs.Calls.{Outcome}
 use Rattle.run.specs.Trace.{soundAt, tracedStation}
 use Rattle.run.specs.Rounds.{below}
-use Rattle.run.specs.Traces.{lent17, onceTrace, directTraceWith, directTrace, otherTrace, toldTrace, silentTrace}
+use Rattle.run.specs.Traces.{onceTrace, directTraceWith, directTrace, toldTrace, silentTrace}
+use Rattle.run.specs.Traces.{firstTraceWith, farTrace}
 use Rattle.run.proofs.ComputedTraces.{replayed, traces-computed}
 use Rattle.demand_3.proofs.Computed.Tested.{good-tested}
-use Rattle.replay_guarantee.specs.Replayed.{Bytes, Passes, AlikeForSound, FewBad, Replays}
-use Rattle.replay_guarantee.specs.Witnesses.{Meets, OnceReached, DirectReached, SilentRefused, OtherIgnored}
+use Rattle.replay_guarantee.specs.Replayed.{AlikeForSound, FewBad}
+use Rattle.replay_guarantee.specs.Witnesses.{Meets, OnceReached, DirectReached, FarStays, SilentRefused}
 use Rattle.replay_guarantee.specs.Witnesses.{ToldHeard}
-use Rattle.replay_guarantee.proofs.Replayed.{faulty-ignored, replay-guaranteed}
-use Rattle.replay_guarantee.proofs.Tested.{bytes-tested, alike-tested}
-
-promised :
-    (s : List ℕ) (good : ℕ → Bool) (truth : ℤ) → Meets s 0 good truth → FewBad s 0 good
-    → Replays s lent17 0 truth
-promised s good truth m few =
-    replay-guaranteed s lent17 (m .bytes) (m .passes) 0 (lit≤ tt) good truth (m .goodness) few
+use Rattle.replay_guarantee.proofs.Tested.{bytes-tested}
 
 -- ---- the limits
 
@@ -48,7 +40,6 @@ once-reached =
     record {
       meets = once-meets;
       few = once-few;
-      promised = promised onceTrace (below 3) (pos 0) once-meets once-few;
       widest = rw (traces-computed .once) (unfold replayed after onceTrace in refl);
       farthest = rw (traces-computed .once) (unfold replayed after onceTrace in refl);
     }
@@ -71,8 +62,27 @@ direct-reached =
     record {
       meets = direct-meets;
       few = direct-few;
-      promised = promised directTrace (below 3) (pos 0) direct-meets direct-few;
       widest = rw (traces-computed .direct) (unfold replayed after directTraceWith directTrace in refl);
+    }
+
+-- ---- no round
+
+far-meets : Meets farTrace 1 (below 3) (pos 0)
+unfolding replayed firstTraceWith farTrace
+far-meets =
+    record {
+      bytes = bytes-tested farTrace refl;
+      passes = refl;
+      goodness = good-tested (tracedStation farTrace 1) (below 3) (pos 0) refl;
+    }
+
+pub far-stays : FarStays
+far-stays =
+    record {
+      meets = far-meets;
+      few = unfold replayed firstTraceWith farTrace in lit≤ tt;
+      no-round = unfold replayed firstTraceWith farTrace in (λ h. omega arith);
+      wider = rw (traces-computed .far) (unfold replayed after firstTraceWith farTrace in lit< tt);
     }
 
 -- ---- one bad cabinet more
@@ -96,31 +106,6 @@ silent-refused =
     }
 
 -- ---- what cabinets receive
-
-alike : AlikeForSound directTrace otherTrace
-unfolding replayed directTraceWith directTrace otherTrace
-alike = alike-tested directTrace otherTrace (refl, refl, refl, refl, refl)
-
-other-bytes : Bytes otherTrace
-unfolding replayed directTraceWith otherTrace
-other-bytes = bytes-tested otherTrace refl
-
-other-passes : Passes otherTrace lent17
-unfolding replayed directTraceWith otherTrace
-other-passes = refl
-
-pub other-ignored : OtherIgnored
-other-ignored =
-    record {
-      alike = alike;
-      first = unfold replayed directTraceWith directTrace in refl;
-      other-first = unfold replayed directTraceWith otherTrace in refl;
-      received = unfold replayed directTraceWith directTrace in refl;
-      other-received = unfold replayed directTraceWith otherTrace in refl;
-      same =
-          faulty-ignored directTrace otherTrace lent17 (direct-meets .bytes) other-bytes alike (direct-meets .passes)
-          other-passes;
-    }
 
 -- what cabinet 2 is told in the second round is 90, and 50
 not-alike : ¬ AlikeForSound directTrace toldTrace

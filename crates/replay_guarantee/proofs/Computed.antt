@@ -1,24 +1,37 @@
 -- The claims of specs/Witnesses.antt. What the traces' replays give was computed (`traces-computed` of crate run); here
 -- it is laid beside the limits. A check comes to this before it comes to the theorems.
 -- Assumes nothing.
+use mathlib.Core.Bool.{Bool, true, _&&_}
+use mathlib.Core.List.{List, [], _∷_}
 use mathlib.Core.Path.{_≡_, refl, ap}
-use Prim.Native.Nat.{ℕ}
+use Prim.Native.Nat.{ℕ, zero, suc}
 use native.Mathlib.Omega.{arith}
-use lib.Dec.{lit<, lit≤}
+use borrow.Author.Tests.{ltb-true}
+use lib.Dec.{ltb, lit<, lit≤}
 use lib.IntN.{pos, natAbs}
+use Rattle.arithmetic.proofs.Bools.{and-left, and-right}
 use Rattle.model.specs.Ensemble.{Reading, ticks}
 use Rattle.model.specs.Planner.{after}
 use Rattle.model.specs.Calls.{Outcome}
 use Rattle.run.specs.Trace.{soundAt, tracedStation}
 use Rattle.run.specs.Rounds.{below}
-use Rattle.run.specs.Traces.{onceTrace, directTraceWith, directTrace, toldTrace, silentTrace}
-use Rattle.run.specs.Traces.{firstTraceWith, farTrace}
+use Rattle.run.specs.Traces.{onceTrace, directTraceWith, directTrace, toldTrace, silentTrace, firstTraceWith, farTrace}
 use Rattle.run.proofs.ComputedTraces.{replayed, traces-computed}
 use Rattle.demand_3.proofs.Computed.Tested.{good-tested}
-use Rattle.replay_guarantee.specs.Replayed.{AlikeForSound, FewBad}
+use Rattle.replay_guarantee.specs.Replayed.{Bytes, AlikeForSound, FewBad}
 use Rattle.replay_guarantee.specs.Witnesses.{Meets, OnceReached, DirectReached, FarStays, SilentRefused}
 use Rattle.replay_guarantee.specs.Witnesses.{ToldHeard}
-use Rattle.replay_guarantee.proofs.Tested.{bytes-tested}
+
+-- ---- bytes
+
+abbrev pub all-bytes : List ℕ → Bool
+all-bytes [] = true
+all-bytes (b ∷ bs) = ltb b 256 && all-bytes bs
+
+pub bytes-tested : (s : List ℕ) → all-bytes s ≡ true → Bytes s
+bytes-tested [] e i = lit< tt
+bytes-tested (b ∷ bs) e zero = ltb-true b 256 (and-left (ltb b 256) (all-bytes bs) e)
+bytes-tested (b ∷ bs) e (suc i) = bytes-tested bs (and-right (ltb b 256) (all-bytes bs) e) i
 
 -- ---- the limits
 

@@ -3,5 +3,4 @@ pub mod Listed
 pub mod Passed
 pub mod Replayed
 pub mod Sanity
-pub mod Tested
 pub mod TwoRuns

@@ -1,5 +1,6 @@
 -- Document 02, "Paper 1. Replay of a station run" (docs/FORMAT.md, 11): what holds of a replay. Its theorems are
--- `replay-is-run`, `faulty-ignored` and `replay-guaranteed` of proofs/Replayed.antt.
+-- `replay-is-run`, `faulty-ignored` and `replay-guaranteed` of proofs/Replayed.antt; Witnesses.antt has traces that reach
+-- its limits.
 --
 -- What is not claimed: that the trace is what happened at the station; limits where more than m are bad.
 --

@@ -115,6 +115,7 @@ silent-refused =
       meets = silent-meets;
       counts = unfold replayed silentTrace in refl;
       too-many = unfold replayed silentTrace in (λ few. omega arith);
+      somebody = unfold replayed silentTrace in refl;
       refuses = ap (λ (o : Outcome). o .verdict) (traces-computed .silent);
     }
 

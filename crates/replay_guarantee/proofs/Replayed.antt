@@ -4,7 +4,7 @@
 use mathlib.Core.Bool.{Bool, true, false, cond, _&&_}
 use mathlib.Core.List.{List}
 use mathlib.Core.Logic.{⊎-elim}
-use mathlib.Core.Option.{none, some}
+use mathlib.Core.Option.{Option, none, some}
 use mathlib.Core.Path.{_≡_, refl, sym, ap, ap₂, _∙_, subst}
 use Prim.Native.Nat.{ℕ, zero, suc, _*_, _≤_, _<_}
 use native.Mathlib.Nat.{zero-add, le-refl, le-trans, not-suc-le-zero}
@@ -18,7 +18,7 @@ use mir.Facts.{toZ-ofZ}
 use Rattle.arithmetic.specs.Counting.{lowest}
 use Rattle.arithmetic.specs.Writing.{table, overwrite}
 use Rattle.arithmetic.proofs.Bools.{both-ways, and-ext, cond-ext}
-use Rattle.arithmetic.proofs.Counting.{lowest-ext, lowest-none}
+use Rattle.arithmetic.proofs.Counting.{split-last, lowest-ext, lowest-none, lowest-missed}
 use Rattle.arithmetic.proofs.Writing.{length-table, getD-table, table-ext}
 use Rattle.model.specs.declared.Settings.{Settings}
 use Rattle.model.specs.Ensemble.{Reading, ticks}
@@ -26,17 +26,18 @@ use Rattle.model.specs.RoundSheet.{settingsAt, readingBytes}
 use Rattle.model.specs.Planner.{planFrom, after, maxAccuracy, maxRounds}
 use Rattle.model.specs.Refusals.{Check, orNext}
 use Rattle.model.specs.Calls.{granted, verdict, lent, Outcome}
+use Rattle.refusal_laws.proofs.Checks.{next-none-left, next-none-right}
 use Rattle.sheet_laws.proofs.Readings.{word-readings}
 use Rattle.run.specs.Run.{Station, Sound, Allowed, stateAfter}
 use Rattle.run.specs.Trace.{roundsAt, soundAt, tracedStation, tracedSends}
-use Rattle.run.specs.Replay.{tooMany, refusedIn, atRound, overloaded, shownAfter, valuesTo, replay}
+use Rattle.run.specs.Replay.{tooMany, refusedIn, atRound, inRound, overloaded, shownAfter, valuesTo, replay}
 use Rattle.run.proofs.Entries.{reading-fits}
 use Rattle.run.proofs.Traced.{Recorded, traced-start, traced-allowed, traced-ready}
 use Rattle.demand_3.specs.Guarantee.{apart, Good, Close}
 use Rattle.demand_3.proofs.Guarantee.{guarantee}
-use Rattle.replay_guarantee.specs.Replayed.{Bytes, Passes, valueIn, IsRun, ReplayIsRun, AlikeForSound}
-use Rattle.replay_guarantee.specs.Replayed.{FaultyIgnored, FewBad, Replays, ReplayGuarantee}
-use Rattle.replay_guarantee.proofs.TwoRuns.{stateOf, settledIn, held-alike, settled-alike}
+use Rattle.replay_guarantee.specs.Replayed.{Bytes, Passes, valueIn, meetsTooMany, NobodyMeets, IsRun, ReplayIsRun}
+use Rattle.replay_guarantee.specs.Replayed.{AlikeForSound, FaultyIgnored, FewBad, Replays, ReplayGuarantee}
+use Rattle.replay_guarantee.proofs.TwoRuns.{stateOf, held-alike, settled-alike}
 use Rattle.replay_guarantee.proofs.Listed.{roundsFrom, length-rounds, each-listed, every-listed}
 use Rattle.replay_guarantee.proofs.Passed.{few-rounds, recorded, replay-passed}
 
@@ -56,10 +57,13 @@ values-back f n old p l fits =
     ∙ ap (ofZ w32) (getD-table f n p (pos 0) l))
     ∙ toZ-ofZ fits
 
-granted-writes :
-    (check : Check) (size : ℕ) (new old : List ℕ) → verdict check size ≡ granted size → lent check new old ≡ new
-granted-writes none size new old e = refl
-granted-writes (some r) size new old e = cc
+granted-none : (check : Check) (size : ℕ) → verdict check size ≡ granted size → check ≡ none
+granted-none none size e = refl
+granted-none (some r) size e = cc
+
+round-none : (k : ℕ) (o : Option ℕ) → atRound k o ≡ none → o ≡ none
+round-none k none e = refl
+round-none k (some p) e = cc
 
 shown-fits : (b : Bool) (y : Reading) → (b ≡ true → SFits w32 (ticks y)) → SFits w32 (cond b (ticks y) (pos 0))
 shown-fits true y f = f refl
@@ -84,17 +88,21 @@ module _ (s values : List ℕ) (small : Bytes s) (pass : Passes s values) where
       shown-fits (soundAt s p) (stateOf s 0 k .held p)
       (λ e. reading-fits (stateOf s 0 k .held p) (traced-ready s rs 0 no-accuracy k l .readings p (lp, e)))
 
-  -- what is granted stands in the buffer
+  -- what is granted is not refused under 15
+  none-said : replay s values .verdict ≡ granted (4 * settingsAt s .n) → overloaded s (roundsAt s) ≡ none
+  none-said e =
+      granted-none (overloaded s (roundsAt s)) (4 * settingsAt s .n)
+      (sym (ap (λ (o : Outcome). o .verdict) (replay-passed s values pass)) ∙ e)
+
+  -- and stands in the buffer
   values-stand :
       replay s values .verdict ≡ granted (4 * settingsAt s .n)
       → (p : ℕ) → p < settingsAt s .n → valueIn (replay s values .buffer) p ≡ shownAfter s (roundsAt s) p
   unfolding valuesTo
   values-stand e p l =
-      let is = replay-passed s values pass in
       ap (λ (b : List ℕ). valueIn b p)
-      (ap (λ (o : Outcome). o .buffer) is
-      ∙ granted-writes (overloaded s (roundsAt s)) (4 * settingsAt s .n) _ values
-      (sym (ap (λ (o : Outcome). o .verdict) is) ∙ e))
+      (ap (λ (o : Outcome). o .buffer) (replay-passed s values pass)
+      ∙ ap (λ (c : Check). lent c (overwrite (readingBytes (valuesTo s (roundsAt s))) values) values) (none-said e))
       ∙ values-back (shownAfter s (roundsAt s)) (settingsAt s .n) values p l
       (values-fit (roundsAt s) p (few-rounds s values pass) l)
 
@@ -105,19 +113,62 @@ module _ (s values : List ℕ) (small : Bytes s) (pass : Passes s values) where
       held-alike s s rs rs (alike-itself s) (few-rounds s values pass) 0 κ no-accuracy most (roundsAt s)
       (le-refl (roundsAt s))
 
-  pub replayed-run : (κ : ℕ) → κ ≤ maxAccuracy → IsRun s values κ
+  refused-is :
+      (κ : ℕ) → κ ≤ maxAccuracy → (k p : ℕ) → k < roundsAt s → p < settingsAt s .n → soundAt s p ≡ true
+      → refusedIn s k p ≡ meetsTooMany s κ k p
   unfolding refusedIn
+  refused-is κ most k p early l e =
+      ap (λ (b : Bool). b && meetsTooMany s 0 k p) e
+      ∙ ap (λ (o : Outcome). tooMany (o .verdict))
+      (settled-alike s s rs rs (alike-itself s) (few-rounds s values pass) 0 κ no-accuracy most k p early l e)
+
+  module _ (κ : ℕ) (most : κ ≤ maxAccuracy) where
+    -- ---- 15 is said exactly where a sound cabinet meets too many faults
+
+    not-refused : NobodyMeets s κ → (k p : ℕ) → k < roundsAt s → p < settingsAt s .n → refusedIn s k p ≡ false
+    unfolding refusedIn
+    not-refused nobody k p early l =
+        ⊎-elim
+        (λ e. refused-is κ most k p early l e ∙ nobody k p early l e)
+        (λ e. ap (λ (b : Bool). b && meetsTooMany s 0 k p) e)
+        (both-ways (soundAt s p))
+
+    never-overloaded : NobodyMeets s κ → (k : ℕ) → k ≤ roundsAt s → overloaded s k ≡ none
+    unfolding overloaded
+    never-overloaded nobody zero l = refl
+    never-overloaded nobody (suc k) l =
+        ap₂ orNext (never-overloaded nobody k (omega arith))
+        (ap (atRound k) (lowest-none (refusedIn s k) (settingsAt s .n) (λ p lp. not-refused nobody k p l lp)))
+
+    none-in-round : (n : ℕ) → overloaded s n ≡ none → (k : ℕ) → k < n → inRound s k ≡ none
+    unfolding overloaded
+    none-in-round zero e k l = absurd (not-suc-le-zero l)
+    none-in-round (suc n) e k l =
+        ⊎-elim
+        (λ h. none-in-round n (next-none-left (overloaded s n) (inRound s n) e) k h)
+        (λ h. ap (inRound s) h ∙ next-none-right (overloaded s n) (inRound s n) e)
+        (split-last k n l)
+
+    nobody-meets : overloaded s (roundsAt s) ≡ none → NobodyMeets s κ
+    nobody-meets e k p early l sound =
+        sym (refused-is κ most k p early l sound)
+        ∙ lowest-missed (refusedIn s k) (settingsAt s .n)
+        (round-none k (lowest (refusedIn s k) (settingsAt s .n)) (none-in-round (roundsAt s) e k early)) p l
+
+  pub replayed-run : (κ : ℕ) → κ ≤ maxAccuracy → IsRun s values κ
   replayed-run κ most =
       record {
+        grants = λ nobody.
+            ap (λ (o : Outcome). o .verdict) (replay-passed s values pass)
+            ∙ ap (λ (c : Check). verdict c (4 * settingsAt s .n))
+            (never-overloaded κ most nobody (roundsAt s) (le-refl (roundsAt s)));
+        nobody = λ e. nobody-meets κ most (none-said e);
         shown = λ e p l.
             values-stand e p l
             ∙ cond-ext refl
             (λ q. ap ticks (held κ most p l q))
             refl;
-        refuses = λ k p early l e.
-            ap (λ (b : Bool). b && tooMany (settledIn s 0 k p .verdict)) e
-            ∙ ap (λ (o : Outcome). tooMany (o .verdict))
-            (settled-alike s s rs rs (alike-itself s) (few-rounds s values pass) 0 κ no-accuracy most k p early l e);
+        refuses = refused-is κ most;
       }
 
 pub replay-is-run : ReplayIsRun
@@ -203,26 +254,8 @@ module _ (s values : List ℕ) (small : Bytes s) (pass : Passes s values) (κ : 
       (every-listed (tracedSends s) st (Close st true-value) 0 (roundsAt s)
       (guarantee st (traced-start s traced κ most) listed short each good true-value goodness .few few) k l)
 
-  -- no sound cabinet meets too many faults
-  none-refused : (k p : ℕ) → k < roundsAt s → p < settingsAt s .n → refusedIn s k p ≡ false
-  unfolding refusedIn
-  none-refused k p early l =
-      ⊎-elim
-      (λ e. run .refuses k p early l e ∙ ap tooMany (close-in k early .unrefused p (l, e)))
-      (λ e. ap (λ (b : Bool). b && tooMany (settledIn s 0 k p .verdict)) e)
-      (both-ways (soundAt s p))
-
-  never-overloaded : (k : ℕ) → k ≤ roundsAt s → overloaded s k ≡ none
-  unfolding overloaded
-  never-overloaded zero l = refl
-  never-overloaded (suc k) l =
-      ap₂ orNext (never-overloaded k (omega arith))
-      (ap (atRound k) (lowest-none (refusedIn s k) (settingsAt s .n) (λ p lp. none-refused k p l lp)))
-
   grants : replay s values .verdict ≡ granted (4 * settingsAt s .n)
-  grants =
-      ap (λ (o : Outcome). o .verdict) (replay-passed s values pass)
-      ∙ ap (λ (c : Check). verdict c (4 * settingsAt s .n)) (never-overloaded (roundsAt s) (le-refl (roundsAt s)))
+  grants = run .grants (λ k p early l e. ap tooMany (close-in k early .unrefused p (l, e)))
 
   -- a sound cabinet's place shows what it holds at the end
   shows : (p : ℕ) → Sound st p → valueIn (replay s values .buffer) p ≡ ticks (stateOf s κ (roundsAt s) .held p)

@@ -10,7 +10,7 @@
 --   SilentRefused             m + 1 are bad, and 15 is said
 --   OtherIgnored              two traces that differ for a faulty cabinet: the same replay
 --   ToldHeard                 two traces that differ for a sound one: another replay
-use mathlib.Core.Bool.{Bool}
+use mathlib.Core.Bool.{Bool, true}
 use mathlib.Core.List.{List}
 use mathlib.Core.Path.{_≡_}
 use Prim.Native.Nat.{ℕ, _+_, _<_}
@@ -25,8 +25,8 @@ use Rattle.run.specs.Replay.{replay}
 use Rattle.run.specs.Rounds.{below}
 use Rattle.run.specs.Traces.{lent17, onceTrace, directTrace, otherTrace, toldTrace, silentTrace, farTrace}
 use Rattle.demand_3.specs.Guarantee.{apart, Good, bad}
-use Rattle.replay_guarantee.specs.Replayed.{Bytes, Passes, valueIn, AlikeForSound, FewBad, finalGap, finalError}
-use Rattle.replay_guarantee.specs.Replayed.{SomeRound}
+use Rattle.replay_guarantee.specs.Replayed.{Bytes, Passes, valueIn, meetsTooMany, AlikeForSound, FewBad}
+use Rattle.replay_guarantee.specs.Replayed.{SomeRound, finalGap, finalError}
 
 abbrev pub finalApart : List ℕ → ℕ → ℕ → ℕ
 finalApart s p q = apart (valueIn (replay s lent17 .buffer) p) (valueIn (replay s lent17 .buffer) q)
@@ -70,6 +70,8 @@ pub record SilentRefused : Type 0 where
   pub meets : Meets silentTrace 0 (soundAt silentTrace) (pos 0)
   pub counts : bad (tracedStation silentTrace 0) (soundAt silentTrace) ≡ settingsAt silentTrace .m + 1
   pub too-many : ¬ FewBad silentTrace 0 (soundAt silentTrace)
+  -- round 2, from 1, and cabinet 1: 64 × 2 + 1
+  pub somebody : meetsTooMany silentTrace 0 1 1 ≡ true
   pub refuses : replay silentTrace lent17 .verdict ≡ refused (refusal overloadedNumber 129)
 
 -- ---- What cabinets receive

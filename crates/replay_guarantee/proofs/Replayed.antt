@@ -155,7 +155,7 @@ module _ (s values : List ℕ) (small : Bytes s) (pass : Passes s values) where
         ∙ lowest-missed (refusedIn s k) (settingsAt s .n)
         (round-none k (lowest (refusedIn s k) (settingsAt s .n)) (none-in-round (roundsAt s) e k early)) p l
 
-  pub replayed-run : (κ : ℕ) → κ ≤ maxAccuracy → IsRun s values κ
+  replayed-run : (κ : ℕ) → κ ≤ maxAccuracy → IsRun s values κ
   replayed-run κ most =
       record {
         grants = λ nobody.

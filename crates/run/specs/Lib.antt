@@ -2,3 +2,4 @@ pub mod Replay
 pub mod Rounds
 pub mod Run
 pub mod Trace
+pub mod Traces

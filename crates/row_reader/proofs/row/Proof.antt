@@ -1,4 +1,4 @@
--- `sheet_reader::row` meets its contract: the part returned is where the row lies, and it is empty where `validate`
+-- `row_reader::row` meets its contract: the part returned is where the row lies, and it is empty where `validate`
 -- refuses.
 -- Assumes nothing.
 use borrow.Author.Needs.{needs}
@@ -9,8 +9,8 @@ use Rattle.sheet_checks.specs.Answers.{openedOf}
 use Rattle.sheet_laws.proofs.Outcomes.{refused-some, row-refused}
 use Rattle.sheet_laws.proofs.Inspection.{validated}
 use Rattle.rows.proofs.Parts.{part-shown}
-use Rattle.sheet_reader.proofs.row.Statement.{statement}
-use Rattle.sheet_reader.proofs.row.Tie as tie
+use Rattle.row_reader.proofs.row.Statement.{statement}
+use Rattle.row_reader.proofs.row.Tie as tie
 
 validate-requires : tie.Need-validate-requires
 validate-requires c κs = search needs

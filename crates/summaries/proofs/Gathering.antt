@@ -21,7 +21,7 @@ use Rattle.loop_laws.proofs.Loops.{Counts, count-none, count-one, count-all, Ad
 use Rattle.held.specs.Held.{presentIn, valueAt}
 use Rattle.selection.specs.Order.{numberedAt}
 use Rattle.selection.proofs.Selection.{lowest-first, highest-last}
-use Rattle.estimates.specs.Values.{usedAt, presentCount, Summarizes}
+use Rattle.summaries.specs.Summaries.{usedAt, presentCount, Summarizes}
 
 module _ (marks values : List ℕ) where
   -- the number of a present reading

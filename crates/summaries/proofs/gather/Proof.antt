@@ -1,4 +1,4 @@
--- `estimates::summarize` meets its contract: what is gathered is that of the readings passed; the measure is the
+-- `summaries::gather` meets its contract: what is gathered is that of the readings passed; the measure is the
 -- readings left.
 -- Assumes nothing.
 use borrow.Author.Needs.{needs}
@@ -9,9 +9,9 @@ use lib.ListN.{length, getD}
 use mathlib.Core.Logic.{⊎-elim}
 use Rattle.loop_laws.proofs.Loops.{count-small}
 use Rattle.held.specs.Held.{presentIn}
-use Rattle.estimates.proofs.Gathering.{Gathered, gather-none, gather-present, gather-missing, gather-all}
-use Rattle.estimates.proofs.summarize.Statement.{statement}
-use Rattle.estimates.proofs.summarize.Tie as tie
+use Rattle.summaries.proofs.Gathering.{Gathered, gather-none, gather-present, gather-missing, gather-all}
+use Rattle.summaries.proofs.gather.Statement.{statement}
+use Rattle.summaries.proofs.gather.Tie as tie
 
 abbrev Inv-readings : tie.InvT-readings
 Inv-readings marks values count₀ sum₀ low₀ high₀ t₀ count sum low high t =
@@ -97,8 +97,8 @@ returns c =
     gather-all (a .marks .now) (a .values .now) (λ j. known .shared-slice-known2 .given j .fits)
     (r .count) (r .sum) (r .low) (r .high) (r .t) (r .inv) (c .readings-test .left)
 
-pub summarize-spec : {M : Type 1} → statement M
-summarize-spec =
+pub gather-spec : {M : Type 1} → statement M
+gather-spec =
     tie.close
     (tie.spec
     Inv-readings

@@ -40,7 +40,7 @@ fn put_used(marks: &[u8], values: &[u32], estimate: u32, tail: &mut [u8])
 {
     let mut r: usize = 0;
     'values: while r < marks.len() {
-        words::put_word(tail, 4 * r, used(marks[r], values[r], estimate));
+        word_writer::put_word(tail, 4 * r, used(marks[r], values[r], estimate));
         r += 1;
     }
 }
@@ -52,8 +52,8 @@ fn put_header(n: u8, count: u8, estimate: u32, value: u32, answer: &mut [u8])
 {
     answer[0] = n;
     answer[1] = count;
-    words::put_word(answer, 2, estimate);
-    words::put_word(answer, 6, value);
+    word_writer::put_word(answer, 2, estimate);
+    word_writer::put_word(answer, 6, value);
 }
 
 // The header, the marks behind it, and the used values in the tail from byte 10 + N on.

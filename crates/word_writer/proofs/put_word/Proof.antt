@@ -1,13 +1,13 @@
--- `words::put_word` meets its contract: four stores are the number's four bytes, and none is made where they do not
+-- `word_writer::put_word` meets its contract: four stores are the number's four bytes, and none is made where they do not
 -- fit.
 -- Assumes nothing.
 use borrow.Author.Needs.{needs}
 use mathlib.Core.Path.{sym}
 use native.Mathlib.Omega.{arith}
 use lib.ListN.{length-set}
-use Rattle.words.proofs.Places.{put-word-fits, put-word-past}
-use Rattle.words.proofs.put_word.Statement.{statement}
-use Rattle.words.proofs.put_word.Tie as tie
+use Rattle.word_writer.proofs.Places.{put-word-fits, put-word-past}
+use Rattle.word_writer.proofs.put_word.Statement.{statement}
+use Rattle.word_writer.proofs.put_word.Tie as tie
 
 returns : tie.Need-returns
 returns c = sym (put-word-past (c .before .args .buffer .now) (c .before .args .i) (c .before .args .x) (omega arith))

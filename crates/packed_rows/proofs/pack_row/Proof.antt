@@ -1,4 +1,4 @@
--- `packing::pack_row` meets its contract: the answer is the row's start and length, and 0 where `validate` refuses or
+-- `packed_rows::pack_row` meets its contract: the answer is the row's start and length, and 0 where `validate` refuses or
 -- the cabinet is past N.
 -- Assumes nothing.
 use borrow.Author.Needs.{needs}
@@ -13,9 +13,9 @@ use Rattle.sheet_checks.specs.Answers.{openedOf}
 use Rattle.sheet_laws.proofs.Outcomes.{refused-some, row-refused}
 use Rattle.sheet_laws.proofs.Inspection.{Validated, validated}
 use Rattle.sheet_laws.proofs.Shown.{row-empty}
-use Rattle.packing.proofs.Rows.{empty-packed, row-starts, row-narrow, row-packed}
-use Rattle.packing.proofs.pack_row.Statement.{statement}
-use Rattle.packing.proofs.pack_row.Tie as tie
+use Rattle.packed_rows.proofs.Rows.{empty-packed, row-starts, row-narrow, row-packed}
+use Rattle.packed_rows.proofs.pack_row.Statement.{statement}
+use Rattle.packed_rows.proofs.pack_row.Tie as tie
 
 -- ---- what is known once start and width are computed
 

@@ -15,7 +15,7 @@ use Rattle.model.specs.RoundSheet.{cca, rowEntries, rowStart, rowLength, rowPar
 use Rattle.model.specs.Calls.{row}
 use Rattle.sheet_laws.proofs.Inspection.{Validated}
 use Rattle.sheet_laws.proofs.Shown.{row-within, row-part}
-use Rattle.packing.specs.Answers.{packedRow}
+use Rattle.packed_rows.specs.Answers.{packedRow}
 
 -- an empty part
 pub empty-packed : (s : List ℕ) (r : ℕ) → row s r ≡ [] → 0 ≡ packedRow s r

@@ -1,4 +1,4 @@
--- `packing::pack_planned` meets its contract: the rounds done stand beside the plan, and a refusal is packed beside
+-- `packed_records::pack_planned` meets its contract: the rounds done stand beside the plan, and a refusal is packed beside
 -- zeros.
 -- Assumes nothing.
 use borrow.Author.Needs.{needs}
@@ -8,9 +8,9 @@ use Rattle.model.specs.declared.Settings.{Settings}
 use Rattle.model.specs.Planner.{planFrom}
 use Rattle.planner.specs.declared.Planned.{Planned}
 use Rattle.planner.specs.Answers.{plannedOf}
-use Rattle.packing.specs.Answers.{handed, planningOf}
-use Rattle.packing.proofs.pack_planned.Statement.{statement}
-use Rattle.packing.proofs.pack_planned.Tie as tie
+use Rattle.packed_records.specs.Answers.{handed, planningOf}
+use Rattle.packed_records.proofs.pack_planned.Statement.{statement}
+use Rattle.packed_records.proofs.pack_planned.Tie as tie
 
 enum-known-planned : tie.Need-enum-known-planned
 enum-known-planned c = search needs

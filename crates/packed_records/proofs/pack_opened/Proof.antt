@@ -1,4 +1,4 @@
--- `packing::pack_opened` meets its contract: the entries are counted beside the settings, and a refusal is packed
+-- `packed_records::pack_opened` meets its contract: the entries are counted beside the settings, and a refusal is packed
 -- beside zeros.
 -- Assumes nothing.
 use borrow.Author.Needs.{needs}
@@ -7,10 +7,10 @@ use Prim.Native.Nat.{ℕ}
 use Rattle.model.specs.declared.Settings.{Settings}
 use Rattle.sheet_checks.specs.declared.Opened.{Opened}
 use Rattle.sheet_checks.specs.Answers.{openedOf}
-use Rattle.packing.specs.declared.Opening.{Opening}
-use Rattle.packing.specs.Answers.{openingOf}
-use Rattle.packing.proofs.pack_opened.Statement.{statement}
-use Rattle.packing.proofs.pack_opened.Tie as tie
+use Rattle.packed_records.specs.declared.Opening.{Opening}
+use Rattle.packed_records.specs.Answers.{openingOf}
+use Rattle.packed_records.proofs.pack_opened.Statement.{statement}
+use Rattle.packed_records.proofs.pack_opened.Tie as tie
 
 abbrev opening : ℕ → Settings → Opening
 opening answer settings = record { answer = answer; settings = settings }

@@ -1,9 +1,9 @@
--- `answer_writer::used` meets its contract: a mark of 1 is an accepted reading.
+-- `answer_parts::used` meets its contract: a mark of 1 is an accepted reading.
 -- Assumes nothing.
 use borrow.Author.Needs.{needs}
 use borrow.Author.Tests.{eq-eqb, ne-eqb}
-use Rattle.answer_writer.proofs.used.Statement.{statement}
-use Rattle.answer_writer.proofs.used.Tie as tie
+use Rattle.answer_parts.proofs.used.Statement.{statement}
+use Rattle.answer_parts.proofs.used.Tie as tie
 
 unbias-requires : tie.Need-unbias-requires
 unbias-requires c κs = search needs

@@ -26,8 +26,10 @@ use Rattle.sheet_laws.proofs.Words.{word-ext}
 use Rattle.held.specs.Held.{heldMark, heldValue}
 use Rattle.decisions.specs.Rows.{copyAt, rowDecision}
 use Rattle.rows.specs.Parts.{partAt}
-use Rattle.reception.specs.Receiving.{readingAt, rowReading, fitting, marksReceived, valuesReceived, Stored}
-use Rattle.reception.proofs.Squares.{row-room}
+use Rattle.held_laws.specs.Stored.{Stored}
+use Rattle.decided_readings.specs.Rows.{rowReading}
+use Rattle.decided_readings.proofs.Squares.{row-room}
+use Rattle.reception.specs.Receiving.{readingAt, fitting, marksReceived, valuesReceived}
 
 -- ---- bytes and words of a part
 

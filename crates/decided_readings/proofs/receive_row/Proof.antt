@@ -1,12 +1,12 @@
--- `reception::receive_row` meets its contract: a decided value is held as present, an undecided row as missing.
+-- `decided_readings::receive_row` meets its contract: a decided value is held as present, an undecided row as missing.
 -- Assumes nothing.
 use borrow.Author.Needs.{needs}
 use mathlib.Core.Path.{sym, ap, _∙_}
 use Rattle.model.specs.Steps.{decidedReading}
 use Rattle.held.specs.Held.{heldMark, heldValue}
 use Rattle.decisions.specs.Rows.{decisionOf}
-use Rattle.reception.proofs.receive_row.Statement.{statement}
-use Rattle.reception.proofs.receive_row.Tie as tie
+use Rattle.decided_readings.proofs.receive_row.Statement.{statement}
+use Rattle.decided_readings.proofs.receive_row.Tie as tie
 
 decide-requires : tie.Need-decide-requires
 decide-requires c κs = search needs

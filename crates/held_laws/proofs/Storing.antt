@@ -8,7 +8,7 @@ use lib.ListN.{length, set, length-set}
 use Rattle.model.specs.Ensemble.{Readings}
 use Rattle.held.specs.Held.{heldMark, heldValue}
 use Rattle.loop_laws.proofs.Loops.{store-none, store-next, store-ended}
-use Rattle.reception.specs.Receiving.{Stored}
+use Rattle.held_laws.specs.Stored.{Stored}
 
 module _ (v : Readings) (n : ℕ) (marks₀ values₀ : List ℕ) where
   -- where the first t of n readings are stored

@@ -1,4 +1,4 @@
--- `reception::receive_relayed` meets its contract. The loop's invariant: the first r decisions are held, and the
+-- `decided_readings::receive_decided` meets its contract. The loop's invariant: the first r decisions are held, and the
 -- others are as they were. The measure is what is left of the rows.
 -- Assumes nothing.
 use borrow.Author.Needs.{needs}
@@ -12,11 +12,11 @@ use Rattle.model.specs.RoundSheet.{headerSize}
 use Rattle.held.specs.Held.{heldMark, heldValue}
 use Rattle.decisions.specs.Rows.{rowDecision}
 use Rattle.rows.specs.Parts.{partAt}
-use Rattle.reception.specs.Receiving.{rowReading}
-use Rattle.reception.proofs.Squares.{row-room, square-most}
-use Rattle.reception.proofs.Storing.{Storing, begin, store, ended}
-use Rattle.reception.proofs.receive_relayed.Statement.{statement}
-use Rattle.reception.proofs.receive_relayed.Tie as tie
+use Rattle.decided_readings.specs.Rows.{rowReading, taken}
+use Rattle.decided_readings.proofs.Squares.{row-room, square-most}
+use Rattle.held_laws.proofs.Storing.{Storing, begin, store, ended}
+use Rattle.decided_readings.proofs.receive_decided.Statement.{statement}
+use Rattle.decided_readings.proofs.receive_decided.Tie as tie
 
 abbrev Inv-rows : tie.InvT-rows
 Inv-rows sheet settings need marks₀ values₀ n r₀ marks values r =
@@ -151,8 +151,8 @@ returns c =
     (rows .inv .1)
     (c .rows-test .left)
 
-pub receive-relayed-spec : {M : Type 1} → statement M
-receive-relayed-spec =
+pub receive-decided-spec : {M : Type 1} → statement M
+receive-decided-spec =
     tie.close
     (tie.spec
     Inv-rows

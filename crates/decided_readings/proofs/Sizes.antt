@@ -9,28 +9,28 @@ use lib.Dec.{leb}
 use Rattle.arithmetic.proofs.Bools.{and-left, and-right}
 use Rattle.model.specs.Ensemble.{maxCabinets}
 use Rattle.model.specs.RoundSheet.{headerSize}
-use Rattle.decided_readings.specs.Rows.{taken}
+use Rattle.decided_readings.specs.Rows.{rowsTaken}
 
 module _ (n sheet marks values : ℕ) where
   abbrev fits : Bool
   fits = leb n maxCabinets && (leb (headerSize + n * n) sheet && (leb n marks && leb n values))
 
   pub record Taken : Type 0 where
-    pub all : taken n sheet marks values ≡ n
+    pub all : rowsTaken n sheet marks values ≡ n
     pub few : n ≤ maxCabinets
     pub long : headerSize + n * n ≤ sheet
     pub markRoom : n ≤ marks
     pub valueRoom : n ≤ values
 
-  pub all-taken :
-      n ≤ maxCabinets → headerSize + n * n ≤ sheet → n ≤ marks → n ≤ values → taken n sheet marks values ≡ n
-  unfolding taken
-  all-taken a b c d =
+  pub all-rows :
+      n ≤ maxCabinets → headerSize + n * n ≤ sheet → n ≤ marks → n ≤ values → rowsTaken n sheet marks values ≡ n
+  unfolding rowsTaken
+  all-rows a b c d =
       rw (le-leb n maxCabinets a, le-leb (headerSize + n * n) sheet b, le-leb n marks c, le-leb n values d)
 
   -- one is taken, so all are
-  pub some-taken : (t : ℕ) → t < taken n sheet marks values → Taken
-  unfolding taken
+  pub some-taken : (t : ℕ) → t < rowsTaken n sheet marks values → Taken
+  unfolding rowsTaken
   some-taken t h = go fits refl
     where
       go : (b : Bool) → fits ≡ b → Taken

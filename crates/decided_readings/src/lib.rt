@@ -6,7 +6,7 @@ ghost use Rattle.model.specs.Steps.{decidedReading};
 ghost use Rattle.held.specs.Held.{heldMark, heldValue};
 ghost use Rattle.held_laws.specs.Stored.{Stored};
 ghost use Rattle.decisions.specs.Rows.{rowDecision};
-ghost use Rattle.decided_readings.specs.Rows.{rowReading, taken};
+ghost use Rattle.decided_readings.specs.Rows.{rowReading, rowsTaken};
 use decisions::Decided;
 use held::MISSING;
 use held::PRESENT;
@@ -43,7 +43,7 @@ fn receive_row(sent: &[u8], row: &[u8], need: u32) -> Held
 
 // How many rows are taken: all of at most 64, or none where the sheet's marks or the lent lists are too short.
 fn takes(n: usize, sheet: usize, marks: usize, values: usize) -> usize
-    ensures { λ r. ⌜ r ≡ taken n sheet marks values ⌝ }
+    ensures { λ r. ⌜ r ≡ rowsTaken n sheet marks values ⌝ }
 {
     if (MAX_CABINETS as usize) < n {
         return 0;
@@ -66,7 +66,7 @@ pub fn receive_decided(
     ensures { λ _. ⌜
         Stored
         (rowReading (now (sheet .entry)) settings need)
-        (taken
+        (rowsTaken
         (settings .n)
         (length (now (sheet .entry)))
         (length (now (marks .entry)))

@@ -7,26 +7,26 @@ use native.Mathlib.Omega.{arith}
 use borrow.Author.Tests.{le-leb, leb-true}
 use lib.Dec.{leb}
 use Rattle.arithmetic.proofs.Bools.{and-intro, and-left, and-right}
-use Rattle.sent_readings.specs.Sizes.{taken}
+use Rattle.sent_readings.specs.Sizes.{readingsTaken}
 
 module _ (sent row marks values : ℕ) where
   abbrev fits : Bool
   fits = leb sent (row / 4) && (leb sent marks && leb sent values)
 
   pub record Taken : Type 0 where
-    pub all : taken sent row marks values ≡ sent
+    pub all : readingsTaken sent row marks values ≡ sent
     pub bytes : sent ≤ row / 4
     pub markRoom : sent ≤ marks
     pub valueRoom : sent ≤ values
 
-  pub all-taken : sent ≤ row / 4 → sent ≤ marks → sent ≤ values → taken sent row marks values ≡ sent
-  unfolding taken
-  all-taken a b c =
+  pub all-readings : sent ≤ row / 4 → sent ≤ marks → sent ≤ values → readingsTaken sent row marks values ≡ sent
+  unfolding readingsTaken
+  all-readings a b c =
       rw (le-leb sent (row / 4) a, le-leb sent marks b, le-leb sent values c)
 
   -- one is taken, so all are
-  pub some-taken : (t : ℕ) → t < taken sent row marks values → Taken
-  unfolding taken
+  pub some-taken : (t : ℕ) → t < readingsTaken sent row marks values → Taken
+  unfolding readingsTaken
   some-taken t h = go fits refl
     where
       go : (b : Bool) → fits ≡ b → Taken

@@ -3,11 +3,11 @@ ghost use mathlib.Core.Path.{_≡_};
 ghost use lib.ListN.{length};
 ghost use Rattle.held_laws.specs.Stored.{Stored};
 ghost use Rattle.decisions.specs.Rows.{copyAt};
-ghost use Rattle.sent_readings.specs.Sizes.{taken};
+ghost use Rattle.sent_readings.specs.Sizes.{readingsTaken};
 
 // How many readings are taken: all that have a mark, or none where their bytes or the lent lists are too short.
 fn takes(sent: usize, row: usize, marks: usize, values: usize) -> usize
-    ensures { λ r. ⌜ r ≡ taken sent row marks values ⌝ }
+    ensures { λ r. ⌜ r ≡ readingsTaken sent row marks values ⌝ }
 {
     if (sent <= row / 4) & ((sent <= marks) & (sent <= values)) {
         sent
@@ -21,7 +21,7 @@ pub fn receive_sent(sent: &[u8], row: &[u8], marks: &mut [u8], values: &mut [u32
     ensures { λ _. ⌜
         Stored
         (copyAt (now (sent .entry)) (now (row .entry)))
-        (taken
+        (readingsTaken
         (length (now (sent .entry)))
         (length (now (row .entry)))
         (length (now (marks .entry)))

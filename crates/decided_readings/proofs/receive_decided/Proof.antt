@@ -12,7 +12,7 @@ use Rattle.model.specs.RoundSheet.{headerSize}
 use Rattle.held.specs.Held.{heldMark, heldValue}
 use Rattle.decisions.specs.Rows.{rowDecision}
 use Rattle.rows.specs.Parts.{partAt}
-use Rattle.decided_readings.specs.Rows.{rowReading, taken}
+use Rattle.decided_readings.specs.Rows.{rowReading, rowsTaken}
 use Rattle.decided_readings.proofs.Sizes.{Taken, some-taken}
 use Rattle.decided_readings.proofs.Squares.{row-room, square-most}
 use Rattle.held_laws.specs.Stored.{Stored}
@@ -23,7 +23,7 @@ use Rattle.decided_readings.proofs.receive_decided.Tie as tie
 abbrev Inv-rows : tie.InvT-rows
 Inv-rows sheet settings need marks₀ values₀ n rows r₀ marks values r =
     (n ≡ settings .n)
-    × (rows ≡ taken (settings .n) (length sheet) (length marks₀) (length values₀))
+    × (rows ≡ rowsTaken (settings .n) (length sheet) (length marks₀) (length values₀))
     × Storing (rowReading sheet settings need) rows marks₀ values₀ marks values r
 
 abbrev μ-rows : tie.MeasureT-rows

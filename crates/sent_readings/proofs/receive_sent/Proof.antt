@@ -11,14 +11,14 @@ use Rattle.held.specs.Held.{entryReading, heldMark, heldValue}
 use Rattle.decisions.specs.Rows.{copyAt}
 use Rattle.held_laws.specs.Stored.{Stored}
 use Rattle.held_laws.proofs.Storing.{Storing, begin, store, ended}
-use Rattle.sent_readings.specs.Sizes.{taken}
+use Rattle.sent_readings.specs.Sizes.{readingsTaken}
 use Rattle.sent_readings.proofs.Sizes.{Taken, some-taken}
 use Rattle.sent_readings.proofs.receive_sent.Statement.{statement}
 use Rattle.sent_readings.proofs.receive_sent.Tie as tie
 
 abbrev Inv-readings : tie.InvT-readings
 Inv-readings sent row marks₀ values₀ n t₀ marks values t =
-    (n ≡ taken (length sent) (length row) (length marks₀) (length values₀))
+    (n ≡ readingsTaken (length sent) (length row) (length marks₀) (length values₀))
     × Storing (copyAt sent row) n marks₀ values₀ marks values t
 
 abbrev μ-readings : tie.MeasureT-readings

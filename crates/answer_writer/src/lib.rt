@@ -23,7 +23,11 @@ fn put_used(marks: &[u8], values: &[u32], estimate: u32, tail: &mut [u8])
 {
     let mut r: usize = 0;
     'values: while r < marks.len() {
-        word_writer::put_word(tail, 4 * r, answer_parts::used(marks[r], values[r], estimate));
+        word_writer::put_word(
+            tail,
+            4 * r,
+            answer_parts::used(marks[r], values[r], estimate),
+        );
         r += 1;
     }
 }

@@ -15,7 +15,7 @@ use Rattle.model.specs.Refusals.{Check, orNext, firstOf, tooShort, settingsChec
 use Rattle.model.specs.Calls.{writtenAfter}
 use Rattle.refusal_laws.proofs.Checks.{first-snoc, next-none-right, none-at, none-left, when-none}
 use Rattle.run.specs.Trace.{roundsAt, traceLength}
-use Rattle.run.specs.Replay.{badTrace, traceChecks, replayChecks, overloaded, valuesTo, replayTo, replay}
+use Rattle.run.specs.Replay.{badTrace, traceChecks, replayChecks, runStopped, valuesTo, replayTo, replay}
 use Rattle.run.proofs.Traced.{Recorded}
 use Rattle.replay_guarantee.specs.Replayed.{Bytes, Passes}
 
@@ -46,9 +46,9 @@ module _ (s values : List ℕ) (pass : Passes s values) where
   -- of the checks only 15 can refuse
   pub replay-passed :
       replay s values
-      ≡ writtenAfter (overloaded s (roundsAt s)) (4 * settingsAt s .n) (readingBytes (valuesTo s (roundsAt s))) values
+      ≡ writtenAfter (runStopped s (roundsAt s)) (4 * settingsAt s .n) (readingBytes (valuesTo s (roundsAt s))) values
   unfolding replay replayTo replayChecks
   replay-passed =
       ap (λ (c : Check). writtenAfter c (4 * settingsAt s .n) (readingBytes (valuesTo s (roundsAt s))) values)
-      (first-snoc (traceChecks s (length values)) (overloaded s (roundsAt s))
-      ∙ ap (λ (c : Check). orNext c (overloaded s (roundsAt s))) pass)
+      (first-snoc (traceChecks s (length values)) (runStopped s (roundsAt s))
+      ∙ ap (λ (c : Check). orNext c (runStopped s (roundsAt s))) pass)

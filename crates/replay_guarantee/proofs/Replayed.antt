@@ -30,7 +30,7 @@ use Rattle.refusal_laws.proofs.Checks.{next-none-left, next-none-right}
 use Rattle.sheet_laws.proofs.Readings.{word-readings}
 use Rattle.run.specs.Run.{Station, Sound, Allowed, stateAfter}
 use Rattle.run.specs.Trace.{roundsAt, soundAt, tracedStation, tracedSends}
-use Rattle.run.specs.Replay.{tooMany, refusedIn, atRound, inRound, overloaded, shownAfter, valuesTo, replay}
+use Rattle.run.specs.Replay.{tooMany, refusedIn, atRound, inRound, runStopped, shownAfter, valuesTo, replay}
 use Rattle.run.proofs.Entries.{reading-fits}
 use Rattle.run.proofs.Traced.{Recorded, traced-start, traced-allowed, traced-ready}
 use Rattle.demand_3.specs.Guarantee.{apart, Good, Close}
@@ -89,9 +89,9 @@ module _ (s values : List ℕ) (small : Bytes s) (pass : Passes s values) where
       (λ e. reading-fits (stateOf s 0 k .held p) (traced-ready s rs 0 no-accuracy k l .readings p (lp, e)))
 
   -- what is granted is not refused under 15
-  none-said : replay s values .verdict ≡ granted (4 * settingsAt s .n) → overloaded s (roundsAt s) ≡ none
+  none-said : replay s values .verdict ≡ granted (4 * settingsAt s .n) → runStopped s (roundsAt s) ≡ none
   none-said e =
-      granted-none (overloaded s (roundsAt s)) (4 * settingsAt s .n)
+      granted-none (runStopped s (roundsAt s)) (4 * settingsAt s .n)
       (sym (ap (λ (o : Outcome). o .verdict) (replay-passed s values pass)) ∙ e)
 
   -- and stands in the buffer
@@ -133,23 +133,23 @@ module _ (s values : List ℕ) (small : Bytes s) (pass : Passes s values) where
         (λ e. ap (λ (b : Bool). b && meetsTooMany s 0 k p) e)
         (both-ways (soundAt s p))
 
-    never-overloaded : NobodyMeets s κ → (k : ℕ) → k ≤ roundsAt s → overloaded s k ≡ none
-    unfolding overloaded
-    never-overloaded nobody zero l = refl
-    never-overloaded nobody (suc k) l =
-        ap₂ orNext (never-overloaded nobody k (omega arith))
+    never-runStopped : NobodyMeets s κ → (k : ℕ) → k ≤ roundsAt s → runStopped s k ≡ none
+    unfolding runStopped
+    never-runStopped nobody zero l = refl
+    never-runStopped nobody (suc k) l =
+        ap₂ orNext (never-runStopped nobody k (omega arith))
         (ap (atRound k) (lowest-none (refusedIn s k) (settingsAt s .n) (λ p lp. not-refused nobody k p l lp)))
 
-    none-in-round : (n : ℕ) → overloaded s n ≡ none → (k : ℕ) → k < n → inRound s k ≡ none
-    unfolding overloaded
+    none-in-round : (n : ℕ) → runStopped s n ≡ none → (k : ℕ) → k < n → inRound s k ≡ none
+    unfolding runStopped
     none-in-round zero e k l = absurd (not-suc-le-zero l)
     none-in-round (suc n) e k l =
         ⊎-elim
-        (λ h. none-in-round n (next-none-left (overloaded s n) (inRound s n) e) k h)
-        (λ h. ap (inRound s) h ∙ next-none-right (overloaded s n) (inRound s n) e)
+        (λ h. none-in-round n (next-none-left (runStopped s n) (inRound s n) e) k h)
+        (λ h. ap (inRound s) h ∙ next-none-right (runStopped s n) (inRound s n) e)
         (split-last k n l)
 
-    nobody-meets : overloaded s (roundsAt s) ≡ none → NobodyMeets s κ
+    nobody-meets : runStopped s (roundsAt s) ≡ none → NobodyMeets s κ
     nobody-meets e k p early l sound =
         sym (refused-is κ most k p early l sound)
         ∙ lowest-missed (refusedIn s k) (settingsAt s .n)
@@ -161,7 +161,7 @@ module _ (s values : List ℕ) (small : Bytes s) (pass : Passes s values) where
         grants = λ nobody.
             ap (λ (o : Outcome). o .verdict) (replay-passed s values pass)
             ∙ ap (λ (c : Check). verdict c (4 * settingsAt s .n))
-            (never-overloaded κ most nobody (roundsAt s) (le-refl (roundsAt s)));
+            (never-runStopped κ most nobody (roundsAt s) (le-refl (roundsAt s)));
         nobody = λ e. nobody-meets κ most (none-said e);
         shown = λ e p l.
             values-stand e p l
@@ -191,11 +191,11 @@ module _ (s t : List ℕ) (rs : Recorded s) (rt : Recorded t) (alike : AlikeForS
       (λ e. ap (λ (o : Outcome). tooMany (o .verdict))
       (settled-alike s t rs rt alike few 0 0 no-accuracy no-accuracy k p early l e))
 
-  overloaded-alike : (k : ℕ) → k ≤ roundsAt s → overloaded s k ≡ overloaded t k
-  unfolding overloaded
-  overloaded-alike zero l = refl
-  overloaded-alike (suc k) l =
-      ap₂ orNext (overloaded-alike k (omega arith))
+  runStopped-alike : (k : ℕ) → k ≤ roundsAt s → runStopped s k ≡ runStopped t k
+  unfolding runStopped
+  runStopped-alike zero l = refl
+  runStopped-alike (suc k) l =
+      ap₂ orNext (runStopped-alike k (omega arith))
       (ap (atRound k)
       (lowest-ext (refusedIn s k) (refusedIn t k) (settingsAt s .n) (λ p lp. refused-alike k p l lp)
       ∙ ap (lowest (refusedIn t k)) same-cabinets))
@@ -214,7 +214,7 @@ pub faulty-ignored : FaultyIgnored
 faulty-ignored s t values small-s small-t alike pass-s pass-t =
     replay-passed s values pass-s
     ∙ cc (
-      overloaded-alike s t rs rt alike few (roundsAt s) (le-refl (roundsAt s)),
+      runStopped-alike s t rs rt alike few (roundsAt s) (le-refl (roundsAt s)),
       values-alike s t rs rt alike few (roundsAt s) (le-refl (roundsAt s)),
       same-cabinets s t rs rt alike few,
       alike .rounds,

@@ -18,7 +18,7 @@ use lib.IntN.{ℤ, pos, negsuc}
 use Rattle.model.specs.RoundSheet.{settingsAt}
 use Rattle.model.specs.Cases.{at}
 use Rattle.model.specs.Ensemble.{missing}
-use Rattle.model.specs.Refusals.{refusal, overloadedNumber}
+use Rattle.model.specs.Refusals.{refusal, runStoppedNumber}
 use Rattle.model.specs.Calls.{refused}
 use Rattle.run.specs.Trace.{firstAt, soundAt, entryNumber, tracedEntry, tracedStation}
 use Rattle.run.specs.Replay.{replay}
@@ -72,7 +72,7 @@ pub record SilentRefused : Type 0 where
   pub too-many : ¬ FewBad silentTrace 0 (soundAt silentTrace)
   -- round 2, from 1, and cabinet 1: 64 × 2 + 1
   pub somebody : meetsTooMany silentTrace 0 1 1 ≡ true
-  pub refuses : replay silentTrace lent17 .verdict ≡ refused (refusal overloadedNumber 129)
+  pub refuses : replay silentTrace lent17 .verdict ≡ refused (refusal runStoppedNumber 129)
 
 -- ---- What cabinets receive
 

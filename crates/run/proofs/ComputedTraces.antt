@@ -6,7 +6,7 @@ use Prim.Native.Nat.{ℕ}
 use Rattle.model.specs.Calls.{Outcome}
 use Rattle.run.specs.Run.{stateAfter}
 use Rattle.run.specs.Trace.{tracedEntry}
-use Rattle.run.specs.Replay.{badTrace, strangeRole, soundSent, badRoles, refusedIn, overloaded}
+use Rattle.run.specs.Replay.{badTrace, strangeRole, soundSent, badRoles, refusedIn, runStopped}
 use Rattle.run.specs.Replay.{traceChecks, replayChecks, valuesTo, replayTo, replay}
 use Rattle.run.specs.Traces.{zeros, lent17, onceTrace, directTraceWith, directTrace, toldTrace, silentTrace}
 use Rattle.run.specs.Traces.{spokenTrace, strangeTrace, longTrace, headTrace, firstTraceWith, firstTrace}
@@ -15,7 +15,7 @@ use Rattle.run.proofs.Computed.{computed}
 
 -- a replay, with all that it computes by
 unfoldable pub replayed : List ℕ → List ℕ → Outcome
-unfolding computed stateAfter tracedEntry badTrace strangeRole soundSent badRoles refusedIn overloaded
+unfolding computed stateAfter tracedEntry badTrace strangeRole soundSent badRoles refusedIn runStopped
     traceChecks replayChecks valuesTo replayTo replay zeros lent17
 replayed = replay
 

@@ -9,7 +9,7 @@ use mathlib.Core.List.{List, [], _∷_, _++_}
 use mathlib.Core.Path.{_≡_}
 use Prim.Native.Nat.{ℕ}
 use lib.ListN.{replicate}
-use Rattle.model.specs.Refusals.{refusal, badTraceNumber, badRolesNumber, overloadedNumber}
+use Rattle.model.specs.Refusals.{refusal, badTraceNumber, badRolesNumber, runStoppedNumber}
 use Rattle.model.specs.Calls.{Verdict, granted, refused, Outcome}
 use Rattle.run.specs.Replay.{replay}
 
@@ -122,7 +122,7 @@ pub record TracesComputed : Type 0 where
       ≡ outcome (granted 16)
       (244 ∷ 255 ∷ 255 ∷ 255 ∷ 13 ∷ 0 ∷ 0 ∷ 0 ∷ 13 ∷ 0 ∷ 0 ∷ 0 ∷ 0 ∷ 0 ∷ 0 ∷ 0 ∷ 255 ∷ [])
   -- cabinets 1 and 2 meet too many faults in rounds 2 and 3: 64 × 2 + 1
-  pub silent : replay silentTrace lent17 ≡ outcome (refused (refusal overloadedNumber 129)) lent17
+  pub silent : replay silentTrace lent17 ≡ outcome (refused (refusal runStoppedNumber 129)) lent17
   pub spoken : replay spokenTrace lent17 .verdict ≡ refused (refusal badRolesNumber 0)
   pub strange : replay strangeTrace lent17 .verdict ≡ refused (refusal badRolesNumber 0)
   -- lent nothing: 13 comes before 7

@@ -8,7 +8,7 @@ use native.Mathlib.Omega.{arith}
 use lib.Arith.{digits-lt}
 use lib.ListN.{length, getD}
 use Rattle.held.specs.Held.{heldMark, heldValue}
-use Rattle.reception.proofs.Storing.{Storing, begin, store, ended}
+use Rattle.held_laws.proofs.Storing.{Storing, begin, store, ended}
 use Rattle.hearing.specs.Heard.{spoken, heardFrom}
 use Rattle.hearing.proofs.hear_each.Statement.{statement}
 use Rattle.hearing.proofs.hear_each.Tie as tie

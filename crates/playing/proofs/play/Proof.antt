@@ -56,7 +56,7 @@ returns c =
     let short = c .before in
     let a = short .before .before .before .args in (
       ap refused (c .refuse .ensures)
-      ∙ short-given (a .trace .now) (a .most) (a .room) (length (a .held .now)) (short .if1 .taken),
+          ∙ short-given (a .trace .now) (a .most) (a .room) (length (a .held .now)) (short .if1 .taken),
       no-grant _ _,
     )
 
@@ -125,12 +125,15 @@ returns-3 c =
           (openedOf (c .unless-refused .result))
           answered,
       λ grant.
-      held-whole (a .trace .now) _ (r .last .1 .1 .1 .0) (drop (settings .n) (a .held .now))
-      (omega
-      (arith, r .kept .1 .1 .1 .0, length-take-le (settings .n) (a .held .now) (room-here told),
-      ap (λ (d : Settings). d .n) (o .settings)))
-      (r .ensures .holds
-      (granted-none (checkOf (r .result)) settings (settingsAt (a .trace .now)) (sym answered ∙ grant))),
+          held-whole (a .trace .now) _ (r .last .1 .1 .1 .0) (drop (settings .n) (a .held .now))
+          (omega (
+            arith,
+            r .kept .1 .1 .1 .0,
+            length-take-le (settings .n) (a .held .now) (room-here told),
+            ap (λ (d : Settings). d .n) (o .settings),
+          ))
+          (r .ensures .holds
+          (granted-none (checkOf (r .result)) settings (settingsAt (a .trace .now)) (sym answered ∙ grant))),
     )
 
 pub play-spec : {M : Type 1} → statement M

@@ -33,9 +33,11 @@ mul-start c =
 add-start : tie.Need-add-start
 add-start c =
     let a = c .before .before .before .args in
-    omega
-    (arith, start-few c,
-    few (a .n) (a .k) (c .trace-entries .result) (omega arith) (omega arith) (c .trace-entries .ensures))
+    omega (
+      arith,
+      start-few c,
+      few (a .n) (a .k) (c .trace-entries .result) (omega arith) (omega arith) (c .trace-entries .ensures),
+    )
 
 trace-entries-requires-2 : tie.Need-trace-entries-requires-2
 trace-entries-requires-2 c κs = search needs

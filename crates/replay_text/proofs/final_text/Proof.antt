@@ -1,47 +1,70 @@
+-- `replay_text::final_text` meets its contract: a buffer below the capacity is left as it was, and in any other the
+-- first line and the cabinets' lines, of the bytes that were read, are the text of the final values.
+-- Assumes nothing.
 use borrow.Author.Needs.{needs}
+use mathlib.Core.List.{List}
+use Prim.Native.Nat.{ℕ}
+use Rattle.model.specs.RoundSheet.{byte}
+use Rattle.run.specs.Trace.{roundsAt, roleAt}
+use Rattle.run.specs.ReplayText.{finalText}
+use Rattle.fields.proofs.Putting.{puts-then}
+use Rattle.text.proofs.Texts.{text-refused, text-written}
+use Rattle.replay_text.specs.Final.{valueAt, finalCapacity, finalWritten}
+use Rattle.replay_text.proofs.Lines.{final-lines, length-final}
 use Rattle.replay_text.proofs.final_text.Statement.{statement}
 use Rattle.replay_text.proofs.final_text.Tie as tie
-use Rattle.replay_text.proofs.final_text.Reads as reads
-use Rattle.replay_text.proofs.final_text.Lts as lts
-use Rattle.replay_text.proofs.put_first.Reads as put-first-reads
-use Rattle.replay_text.proofs.put_values.Reads as put-values-reads
-use Rattle.words.proofs.byte_at.Reads as byte-at-reads
 
--- src/lib.rt:53:9
+abbrev text : tie.Start → List ℕ
+text start =
+    let trace = start .args .trace .now in
+    finalText (byte trace 0) (roundsAt trace) (roleAt trace) (valueAt (start .args .values .now))
+
 returns : tie.Need-returns
-returns c = ?
+unfolding finalWritten
+returns c =
+    let start = c .before .before .before .before in
+    text-refused finalCapacity (text start) (start .args .text .now) (c .if1 .taken)
 
--- src/lib.rt:55:13
 byte-at-requires : tie.Need-byte-at-requires
 byte-at-requires c κs = search needs
 
--- src/lib.rt:55:13
 cast-n : tie.Need-cast-n
 cast-n c = search needs
 
--- src/lib.rt:56:18
 byte-at-requires-2 : tie.Need-byte-at-requires-2
 byte-at-requires-2 c κs = search needs
 
--- src/lib.rt:56:18
 cast-rounds : tie.Need-cast-rounds
 cast-rounds c = search needs
 
--- src/lib.rt:57:9
 put-first-requires : tie.Need-put-first-requires
 put-first-requires c κs = search needs
 
--- src/lib.rt:58:5
 put-values-requires : tie.Need-put-values-requires
 put-values-requires c κs = search needs
 
--- src/lib.rt:47:1
 same-length : tie.Need-same-length
 same-length c = search needs
 
--- src/lib.rt:47:1
 returns-2 : tie.Need-returns-2
-returns-2 c = ?
+unfolding finalWritten
+returns-2 c =
+    let put = c .before .before in
+    let first = put .before .before .before .before in
+    let read = first .before .before in
+    let branch = read .before .before in
+    let known = branch .before .before .before in
+    let start = known .before in
+    let trace = start .args .trace .now in
+    text-written finalCapacity (text start) (start .args .text .now) (branch .if1 .left)
+    (length-final trace (valueAt (start .args .values .now)) (λ j. (known .shared-slice-known .given j) .fits))
+    (rw
+    (final-lines trace (valueAt (start .args .values .now))
+    (read .before .byte-at .result)
+    (read .byte-at2 .result)
+    (read .before .byte-at .ensures)
+    (read .byte-at2 .ensures))
+    (puts-then (first .put-first .ensures) (put .put-values .ensures)))
 
 pub final-text-spec : {M : Type 1} → statement M
 final-text-spec =

@@ -10,7 +10,6 @@ use mathlib.Core.Option.{none, some}
 use Prim.Native.Nat.{ℕ, zero, suc, _+_, _*_}
 use lib.Dec.{ltb}
 use lib.IntN.{ℤ}
-use lib.ListN.{take}
 use Rattle.arithmetic.specs.Writing.{table}
 use Rattle.model.specs.Ensemble.{maxCabinets}
 use Rattle.model.specs.RoundSheet.{settingsAt}
@@ -20,7 +19,7 @@ use Rattle.model.specs.Listing.{decimal, signedDecimal, line, textAfter}
 use Rattle.run.specs.Trace.{roundsAt, roleAt, traceLength}
 use Rattle.run.specs.Replay.{replayChecks, shownAfter}
 
--- "reads a trace from standard input": the longest trace and a byte; a longer input gets the first refusal that those
+-- "reads a trace from standard input": the longest trace and a byte. A longer input gets the first refusal that those
 -- bytes give
 abbrev pub maxTraceInput : ℕ
 maxTraceInput = traceLength maxCabinets maxRounds + 1
@@ -53,8 +52,7 @@ listedRoom = 4 * maxCabinets
 
 -- "a refusal as `settle` writes it". A faulty cabinet's value is 0 (`shownAfter`)
 unfoldable pub replayListing : List ℕ → List ℕ
-replayListing input =
-    let s : List ℕ = take maxTraceInput input in
+replayListing s =
     textAfter
     (firstOf (replayChecks s (roundsAt s) listedRoom))
     (finalText (settingsAt s .n) (roundsAt s) (roleAt s) (shownAfter s (roundsAt s)))
@@ -66,8 +64,7 @@ unlessRefused (some r) text = []
 -- for k from 0, the first readings, up to the rounds of the trace: a line while the run goes on, and none of a trace
 -- that is refused before it is played
 unfoldable pub afterListing : List ℕ → ℕ → List ℕ
-afterListing input k =
-    let s : List ℕ = take maxTraceInput input in
+afterListing s k =
     cond (ltb (roundsAt s) k) []
     (unlessRefused
     (firstOf (replayChecks s k listedRoom))

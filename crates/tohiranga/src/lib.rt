@@ -10,6 +10,8 @@ use planner::Plan;
 
 mod answers;
 
+mod replays;
+
 // Settles a round sheet. The answer is the answer sheet's length.
 #[no_mangle]
 pub extern "C" fn tohiranga_settle(sheet: &[u8], answer: &mut [u8]) -> u64

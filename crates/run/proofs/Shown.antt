@@ -3,7 +3,7 @@
 -- Assumes nothing.
 use mathlib.Core.Bool.{Bool, true, false, cond, not, _||_}
 use mathlib.Core.List.{List, [], _∷_, _++_}
-use mathlib.Core.Option.{none}
+use mathlib.Core.Option.{none, some}
 use mathlib.Core.Path.{_≡_, refl, sym, ap, _∙_, subst}
 use Prim.Native.Nat.{ℕ, _+_, _*_, _≤_, _<_}
 use native.Mathlib.Nat.{le-trans}
@@ -17,15 +17,18 @@ use mir.Val.{SFits, toZ}
 use Rattle.arithmetic.specs.Writing.{table, overwrite}
 use Rattle.arithmetic.proofs.Bools.{or-left, or-right}
 use Rattle.arithmetic.proofs.Writing.{length-table, getD-table}
+use Rattle.model.specs.declared.Refusal.{Refusal}
 use Rattle.model.specs.Ensemble.{ticks}
 use Rattle.model.specs.RoundSheet.{fca, byte, word, settingsAt, readingBytes}
 use Rattle.model.specs.Planner.{maxRounds}
 use Rattle.model.specs.Refusals.{Check, firstOf, settingsChecks, tooShort, noRoom, arrayChecks, badTraceNumber}
+use Rattle.model.specs.Calls.{granted, refused, lent, Outcome}
 use Rattle.refusal_laws.proofs.Checks.{none-left, none-right, none-at, when-none}
+use Rattle.sheet_laws.proofs.Outcomes.{granted-none, refused-some}
 use Rattle.sheet_laws.proofs.Readings.{bits-again, word-readings}
 use Rattle.run.specs.Trace.{roundsAt, traceEntries, tracedMark, tracedBits, traceLength, soundAt, tracedStation}
 use Rattle.run.specs.Replay.{badTrace, badRoles, runStopped, traceChecks, replayChecks, stateTo, shownAfter}
-use Rattle.run.specs.Replay.{valuesTo}
+use Rattle.run.specs.Replay.{valuesTo, replayTo}
 use Rattle.run.proofs.Entries.{reading-fits}
 use Rattle.run.proofs.Traced.{Recorded, traced-ready}
 
@@ -103,3 +106,35 @@ module _ (s : List ℕ) (room k : ℕ) (passes : firstOf (replayChecks s k room)
       where
         shown : List ℤ
         shown = table (shownAfter s k) (settingsAt s .n)
+
+-- ---- the bytes that a replay leaves
+
+module _ (s values left : List ℕ) (k : ℕ) where
+  pub replay-refused :
+      (r : Refusal) → record { verdict = refused r; buffer = left } ≡ replayTo s k values
+      → firstOf (replayChecks s k (length values)) ≡ some r
+  unfolding replayTo
+  replay-refused r e =
+      refused-some (firstOf (replayChecks s k (length values))) (4 * settingsAt s .n) r
+      (sym (ap (λ (w : Outcome). w .verdict) e))
+
+  module _ (size : ℕ) (e : record { verdict = granted size; buffer = left } ≡ replayTo s k values) where
+    pub replay-granted : firstOf (replayChecks s k (length values)) ≡ none
+    unfolding replayTo
+    replay-granted =
+        granted-none (firstOf (replayChecks s k (length values))) (4 * settingsAt s .n) size
+        (sym (ap (λ (w : Outcome). w .verdict) e))
+
+    left-written : left ≡ overwrite (readingBytes (valuesTo s k)) values
+    unfolding replayTo
+    left-written =
+        ap (λ (w : Outcome). w .buffer) e
+        ∙ ap (λ (x : Check). lent x (overwrite (readingBytes (valuesTo s k)) values) values) replay-granted
+
+    -- they show what the run shows
+    pub replay-shows :
+        ((j : ℕ) → byte s j < 256) → k ≤ roundsAt s → (p : ℕ) → p < settingsAt s .n
+        → toZ w32 (word left (4 * p)) ≡ shownAfter s k p
+    replay-shows small early p inside =
+        ap (λ (l : List ℕ). toZ w32 (word l (4 * p))) left-written
+        ∙ shown-again s (length values) k replay-granted small early p inside values

@@ -1,27 +1,29 @@
+-- `replay_listing::listing` meets its contract: a buffer below the capacity is left as it was, and any other is handed
+-- on with a buffer for the values.
+-- Assumes nothing.
 use borrow.Author.Needs.{needs}
+use Rattle.run.specs.ReplayText.{replayListing}
+use Rattle.text.proofs.Texts.{text-refused}
+use Rattle.replay_text.specs.Final.{finalCapacity}
+use Rattle.replay_listing.specs.Listed.{replayListed}
 use Rattle.replay_listing.proofs.listing.Statement.{statement}
 use Rattle.replay_listing.proofs.listing.Tie as tie
-use Rattle.replay_listing.proofs.listing.Reads as reads
-use Rattle.replay_listing.proofs.listing.Lts as lts
-use Rattle.replay_listing.proofs.listing_in.Reads as listing-in-reads
 
--- src/lib.rt:31:9
 returns : tie.Need-returns
-returns c = ?
+unfolding replayListed
+returns c =
+    let args = c .before .before .before .args in
+    text-refused finalCapacity (replayListing (args .trace .now)) (args .text .now) (c .if1 .taken)
 
--- src/lib.rt:34:23
 slice-aggregate-listing-in : tie.Need-slice-aggregate-listing-in
 slice-aggregate-listing-in c = search needs
 
--- src/lib.rt:34:5
 listing-in-requires : tie.Need-listing-in-requires
 listing-in-requires c κs = search needs
 
--- src/lib.rt:26:1
 same-length : tie.Need-same-length
 same-length c = search needs
 
--- src/lib.rt:26:1
 returns-2 : tie.Need-returns-2
 returns-2 c = search needs
 

@@ -2,11 +2,10 @@
 -- or the replay is refused, there is none.
 -- Assumes nothing.
 use mathlib.Core.List.{List, []}
-use mathlib.Core.Path.{_≡_, refl, sym, ap, _∙_}
+use mathlib.Core.Path.{_≡_, refl, ap, _∙_}
 use Prim.Native.Nat.{ℕ, _≤_, _<_, min}
 use native.Mathlib.Nat.{min-eq-left}
 use borrow.Author.Tests.{lt-ltb, le-ltb}
-use lib.Dec.{ltb}
 use lib.IntN.{ℤ}
 use lib.ListN.{length}
 use Rattle.arithmetic.specs.Writing.{overwrite}
@@ -20,6 +19,7 @@ use Rattle.run.specs.Replay.{shownAfter, replayTo}
 use Rattle.run.specs.ReplayText.{listedRoom, afterText, afterListing}
 use Rattle.run.proofs.Shown.{replay-refused, replay-granted, replay-shows}
 use Rattle.text.specs.Text.{textIn}
+use Rattle.text.proofs.Texts.{text-fits}
 use Rattle.replay_text.specs.Final.{valueAt}
 use Rattle.after_text.specs.After.{afterCapacity, afterWritten}
 use Rattle.replaying.specs.declared.Replayed.the-variants.{Granted, Refused}
@@ -78,3 +78,12 @@ module _ (s : List ℕ) (k : ℕ) (buffer : List ℕ) where
         (ap (λ (l : List ℕ). textIn afterCapacity l buffer)
         (after-alike (settingsAt s .n) k (valueAt left) (shownAfter s k)
         (replay-shows s values left k size same small early)))
+
+-- a buffer that keeps its length holds the whole line
+pub line-fits :
+    (s : List ℕ) (k : ℕ) (buffer new : List ℕ) (size : ℕ) → size ≡ afterListed s k buffer .size
+    → new ≡ afterListed s k buffer .buffer
+    → length new ≡ length buffer
+    → size ≤ length new
+unfolding afterListed
+line-fits s k buffer new size = text-fits afterCapacity (afterListing s k) buffer new size

@@ -1,7 +1,7 @@
 -- What a replay left in the buffer of values, or its refusal, has the listing as its text.
 -- Assumes nothing.
 use mathlib.Core.List.{List}
-use mathlib.Core.Path.{_≡_, ap, _∙_}
+use mathlib.Core.Path.{_≡_}
 use Prim.Native.Nat.{ℕ, _≤_, _<_}
 use native.Mathlib.Nat.{le-refl}
 use lib.ListN.{length}
@@ -9,9 +9,10 @@ use Rattle.model.specs.declared.Refusal.{Refusal}
 use Rattle.model.specs.RoundSheet.{byte}
 use Rattle.run.specs.Trace.{roundsAt}
 use Rattle.run.specs.Replay.{replay}
-use Rattle.run.specs.ReplayText.{listedRoom}
+use Rattle.run.specs.ReplayText.{listedRoom, replayListing}
 use Rattle.run.proofs.Shown.{replay-refused, replay-granted, replay-shows}
 use Rattle.text.specs.Text.{refusalWritten}
+use Rattle.text.proofs.Texts.{text-fits}
 use Rattle.replay_text.specs.Final.{finalCapacity, finalWritten}
 use Rattle.replay_text.proofs.Listings as text
 use Rattle.replaying.specs.declared.Replayed.the-variants.{Granted, Refused}
@@ -34,3 +35,11 @@ module _ (s buffer values left : List ℕ) (room : length values ≡ listedRoom)
       text.final-listed s buffer left
       (rw room at (replay-granted s values left (roundsAt s) size e))
       (replay-shows s values left (roundsAt s) size e small (le-refl (roundsAt s)))
+
+-- a buffer that keeps its length holds the whole listing
+pub listing-fits :
+    (s buffer new : List ℕ) (size : ℕ) → size ≡ replayListed s buffer .size → new ≡ replayListed s buffer .buffer
+    → length new ≡ length buffer
+    → size ≤ length new
+unfolding replayListed
+listing-fits s buffer new size = text-fits finalCapacity (replayListing s) buffer new size

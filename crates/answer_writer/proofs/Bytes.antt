@@ -1,46 +1,38 @@
 -- The bytes of an answer sheet, as the code stores them; and what is left in a buffer with and without room.
 -- Assumes nothing.
 use mathlib.Core.Bool.{true, false, _&&_}
-use mathlib.Core.List.{List, [], _∷_, _++_, append-assoc}
+use mathlib.Core.List.{List, _++_, append-assoc}
 use mathlib.Core.Path.{_≡_, refl, sym, ap, ap₂, _∙_}
-use Prim.Native.Nat.{ℕ, suc, _+_, _-_, _≤_}
+use Prim.Native.Nat.{ℕ, _+_, _-_, _≤_}
 use native.Mathlib.Omega.{arith}
-use borrow.Author.Tests.{leb-true, eqb-true}
+use borrow.Author.Tests.{leb-true, eqb-true, le-leb}
 use lib.Dec.{leb, eqb}
-use lib.ListN.{length, set, take, drop, length-append}
+use lib.ListN.{length, take, drop, length-append}
 use mir.Syntax.{w32}
 use mir.Val.{ofZ}
 use Rattle.arithmetic.specs.Writing.{table, overwrite}
 use Rattle.arithmetic.specs.Naturals.{down}
 use Rattle.arithmetic.specs.Words.{twoTo31}
 use Rattle.arithmetic.proofs.Bools.{and-left, and-right}
-use Rattle.arithmetic.proofs.Writing.{overwrite-nil, overwrite-snoc, table-getD}
+use Rattle.arithmetic.proofs.Writing.{table-getD}
 use Rattle.model.specs.Ensemble.{maxCabinets}
 use Rattle.model.specs.RoundSheet.{bytes4, readingBytes}
 use Rattle.model.specs.AnswerSheet.{headerBytes, answerHeader, answerBytes, answerLength, answerHeaderSize}
-use Rattle.sheet_laws.specs.Storing.{putWord}
-use Rattle.sheet_laws.proofs.Readings.{length-bytes4}
-use Rattle.sheet_laws.proofs.Storing.{put-word-next, copy-overwrites, tail-written}
-use Rattle.answer_writer.specs.Answers.{usedIn, roundHeld, roomy, writtenOf}
+use Rattle.sheet_laws.proofs.Storing.{copy-overwrites, tail-written}
+use Rattle.answer_parts.specs.Parts.{roomy, headed}
+use Rattle.answer_writer.specs.Answers.{usedIn, roundHeld, writtenOf}
 
 length-header : (n count e v : ℕ) → length (headerBytes n count e v) ≡ answerHeaderSize
 unfolding bytes4
 length-header n count e v = refl
 
--- two bytes and two numbers of four bytes
-pub header-stored :
-    (b : List ℕ) (n count e v : ℕ)
-    → answerHeaderSize ≤ length b
-    → putWord (putWord (set (set b 0 n) 1 count) 2 e) 6 v ≡ overwrite (headerBytes n count e v) b
-header-stored b n count e v h =
-    ap (λ (l : List ℕ). putWord (putWord (set (set l 0 n) 1 count) 2 e) 6 v) (sym (overwrite-nil b))
-    ∙ ap (λ (l : List ℕ). putWord (putWord (set l 1 count) 2 e) 6 v) (overwrite-snoc [] b n (omega arith))
-    ∙ ap (λ (l : List ℕ). putWord (putWord l 2 e) 6 v) (overwrite-snoc (n ∷ []) b count (omega arith))
-    ∙ ap (λ (l : List ℕ). putWord l 6 v) (put-word-next (n ∷ count ∷ []) b 2 e refl (omega arith))
-    ∙ put-word-next (n ∷ count ∷ bytes4 e) b 6 v six (omega arith)
-  where
-    six : length (n ∷ count ∷ bytes4 e) ≡ 6
-    six = ap (λ (k : ℕ). suc (suc k)) (length-bytes4 e)
+-- where there is room, the header is written
+header-put :
+    (n count e v : ℕ) (old : List ℕ)
+    → answerHeaderSize ≤ length old
+    → headed n count e v old ≡ overwrite (headerBytes n count e v) old
+unfolding headed
+header-put n count e v old h = rw (le-leb answerHeaderSize (length old) h)
 
 -- ---- the answer sheet, as the calls write it
 
@@ -70,7 +62,8 @@ module _ (marks values old : List ℕ) (count e v : ℕ) where
       → e-bits ≡ ofZ w32 (down twoTo31 e)
       → v-bits ≡ ofZ w32 (down twoTo31 v)
       → (after-header marked filled : List ℕ)
-      → after-header ≡ overwrite (headerBytes (length marks) count e-bits v-bits) old
+      → answerHeaderSize ≤ length old
+      → after-header ≡ headed (length marks) count e-bits v-bits old
       → marked
       ≡ take (length marks) marks ++ drop (length marks) (lent answerHeaderSize after-header)
       → filled
@@ -79,12 +72,14 @@ module _ (marks values old : List ℕ) (count e v : ℕ) where
       → spliced (answerHeaderSize + length marks) (spliced answerHeaderSize after-header marked) filled
       ≡ overwrite (answerBytes (length marks) (roundHeld count e v marks values)) old
   unfolding header used
-  answer-written e-bits v-bits p q after-header marked filled h r u =
+  answer-written e-bits v-bits p q after-header marked filled large h r u =
       tail-written (header ++ marks) used old (spliced answerHeaderSize after-header marked) filled
       (answerHeaderSize + length marks)
       (length-append header marks ∙ ap (λ (k : ℕ). k + length marks) long)
       (tail-written header marks old after-header marked answerHeaderSize long
-      (h ∙ ap₂ (λ (a d : ℕ). overwrite (headerBytes (length marks) count a d) old) p q)
+      (h
+      ∙ header-put (length marks) count e-bits v-bits old large
+      ∙ ap₂ (λ (a d : ℕ). overwrite (headerBytes (length marks) count a d) old) p q)
       (r ∙ copy-overwrites marks (lent answerHeaderSize after-header)))
       u
       ∙ ap (λ (x : List ℕ). overwrite x old) answer-parts

@@ -4,21 +4,19 @@
 -- round of the sheet.
 --   usedIn       the value used for a cabinet
 --   roundHeld    the round
---   roomy        at most 64 marks, as many values, and room for the answer sheet
 --   writtenOf    what `put_answer` leaves in the buffer
-use mathlib.Core.Bool.{Bool, cond, _&&_}
+use mathlib.Core.Bool.{cond}
 use mathlib.Core.List.{List}
 use Prim.Native.Nat.{ℕ}
-use lib.Dec.{leb, eqb}
 use lib.IntN.{ℤ}
 use lib.ListN.{length, getD}
 use Rattle.arithmetic.specs.Naturals.{down}
 use Rattle.arithmetic.specs.Words.{twoTo31}
 use Rattle.arithmetic.specs.Writing.{overwrite}
-use Rattle.model.specs.Ensemble.{maxCabinets}
 use Rattle.model.specs.Steps.{Round}
-use Rattle.model.specs.AnswerSheet.{answerBytes, answerLength}
+use Rattle.model.specs.AnswerSheet.{answerBytes}
 use Rattle.held.specs.Held.{valueAt, presentIn}
+use Rattle.answer_parts.specs.Parts.{roomy}
 
 -- a mark of 1 is an accepted reading
 abbrev pub usedIn : List ℕ → List ℕ → ℕ → ℕ → ℤ
@@ -33,9 +31,6 @@ roundHeld count e v marks values =
       mark = λ r. getD marks r 0;
       used = usedIn marks values e;
     }
-
-unfoldable pub roomy : ℕ → ℕ → ℕ → Bool
-roomy n values room = leb n maxCabinets && (eqb values n && leb (answerLength n) room)
 
 unfoldable pub writtenOf : ℕ → ℕ → ℕ → List ℕ → List ℕ → List ℕ → List ℕ
 writtenOf count e v marks values old =

@@ -3,6 +3,7 @@
 -- Assumes nothing.
 use mathlib.Core.Bool.{Bool, true, false, not, cond}
 use mathlib.Core.List.{List}
+use mathlib.Core.Logic.{⊎-elim}
 use mathlib.Core.Path.{_≡_, sym, ap, _∙_}
 use Prim.Native.Nat.{ℕ, _+_, _*_, _-_, _/_, _≤_, _<_}
 use native.Mathlib.Nat.{mul-le-mul-left, mul-comm, pos-of-ne-zero}
@@ -10,6 +11,7 @@ use native.Mathlib.Omega.{arith}
 use borrow.Author.Tests.{eq-eqb, ne-eqb}
 use lib.ListN.{length}
 use Rattle.arithmetic.specs.Counting.{bit, count, sum}
+use Rattle.arithmetic.proofs.Bools.{both-ways}
 use Rattle.arithmetic.proofs.Counting.{count-le, count-not}
 use Rattle.arithmetic.specs.Naturals.{down, up, total}
 use Rattle.arithmetic.proofs.Shift.{up-down}
@@ -20,34 +22,24 @@ use Rattle.model.specs.Steps.{mean, usedValue}
 use Rattle.round_laws.specs.Naturals.{average-nat, median-nat, midpoint-nat, estimate-nat, mean-nat}
 use Rattle.round_laws.proofs.Shifted.{estimate-shifted, value-shifted}
 use Rattle.held.specs.Held.{presentIn, valueAt, readingsIn, unfit}
-use Rattle.held.proofs.Held.{fit-few, fit-even, fit-intro}
+use Rattle.held.proofs.Held.{fit-intro}
 use Rattle.means.specs.Means.{floorMean, nearestMean}
 use Rattle.means.proofs.Means.{summable-intro, floor-is, nearest-is}
 use Rattle.selection.specs.Order.{numberedAt, numberedOf}
-use Rattle.estimates.specs.Values.{usedAt, presentCount, Summarizes, Fitting, estimateOfHeld, meanIn, estimateAt}
+use Rattle.summaries.specs.Summaries.{usedAt, presentCount, Summarizes, Fitting, Gathers}
+use Rattle.summaries.specs.declared.Summary.{Summary}
+use Rattle.summaries.proofs.Fits.{fitting}
+use Rattle.estimates.specs.Values.{estimateOfHeld, meanIn, estimateAt}
 use Rattle.estimates.specs.Values.{nothing, evaluatedOf}
 use Rattle.estimates.specs.declared.Estimated.{Estimated}
-use Rattle.estimates.specs.declared.Summary.{Summary}
 
 module _ (marks values : List ℕ) where
-  pub fitting : {b : Bool} → b ≡ unfit (length marks) (length values) → b ≡ false → Fitting marks values
-  fitting e f =
-      record {
-        few = fit-few (length marks) (length values) (sym e ∙ f);
-        even = fit-even (length marks) (length values) (sym e ∙ f);
-      }
-
   fits : Fitting marks values → unfit (length marks) (length values) ≡ false
   fits f = fit-intro (length marks) (length values) (f .few) (f .even)
 
-  pub evaluate-unfit :
-      (kind : ℕ)
-      → {b : Bool}
-      → b ≡ unfit (length marks) (length values)
-      → b ≡ true
-      → nothing ≡ evaluatedOf kind marks values
+  evaluate-unfit : (kind : ℕ) → unfit (length marks) (length values) ≡ true → nothing ≡ evaluatedOf kind marks values
   unfolding evaluatedOf
-  evaluate-unfit kind e f = rw (sym e ∙ f)
+  evaluate-unfit kind t = rw t
 
   -- what replaces each missing reading is added once for each
   total-used :
@@ -134,7 +126,7 @@ module _ (marks values : List ℕ) where
       estimate-midpoint d e =
           rw (ne-eqb kind 0 d, ne-eqb kind 1 e, ← gathered .lowest some-present, ← gathered .highest some-present)
 
-    pub evaluate-none : (kind : ℕ) → r .count ≡ 0 → nothing ≡ evaluatedOf kind marks values
+    evaluate-none : (kind : ℕ) → r .count ≡ 0 → nothing ≡ evaluatedOf kind marks values
     unfolding evaluatedOf
     evaluate-none kind e = rw (fits fit, eq-eqb (presentCount marks) 0 (sym (gathered .counted) ∙ e))
 
@@ -165,3 +157,10 @@ module _ (marks values : List ℕ) where
           gathered .counted,
           gathered .added,
         )
+
+  -- nothing is counted: the lists do not fit, or no reading is present
+  pub evaluate-empty : (kind : ℕ) (r : Summary) → Gathers r marks values → r .count ≡ 0
+      → nothing ≡ evaluatedOf kind marks values
+  evaluate-empty kind r g e =
+      ⊎-elim (evaluate-unfit kind) (λ f. evaluate-none (fitting marks values f) r (g .fit f) kind e)
+      (both-ways (unfit (length marks) (length values)))

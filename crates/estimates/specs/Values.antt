@@ -1,14 +1,10 @@
 -- INNER: no reader needs this page to believe a public promise. Document 01's estimate and mean of the readings that
 -- two lists hold: a list of marks, and a list of naturals that are ticks moved up by 2^31.
---   presentCount          how many readings are present
 --   estimateOfHeld        document 01's estimate of the present readings
 --   meanIn                document 01's mean of the readings, the missing ones replaced
 --   nothing, evaluatedOf  what `evaluate` gives: all 0 where none is present, there are more than 64 readings, or the
 --                         lists are not equally long
--- What the functions below it give, over naturals:
---   Fitting               the lists are of at most 64 readings, and equally long
---   usedAt                a present reading, or what replaces it
---   Summarizes            what one pass over the readings gathers of the present ones
+-- What the function below it gives, over naturals:
 --   estimateAt            the estimate of the present readings
 use mathlib.Core.Bool.{cond}
 use mathlib.Core.List.{List}
@@ -24,12 +20,8 @@ use Rattle.model.specs.Steps.{estimate, mean, usedValue}
 use Rattle.model.specs.Ensemble.{maxCabinets}
 use Rattle.round_laws.specs.Naturals.{estimate-nat, used-nat}
 use Rattle.held.specs.Held.{presentIn, valueAt, readingsIn, unfit}
-use Rattle.selection.specs.Order.{numberedAt}
+use Rattle.summaries.specs.Summaries.{presentCount}
 use Rattle.estimates.specs.declared.Estimated.{Estimated}
-use Rattle.estimates.specs.declared.Summary.{Summary}
-
-abbrev pub presentCount : List ℕ → ℕ
-presentCount marks = count (presentIn marks) (length marks)
 
 -- "Estimate, over accepted readings only": those that are present in the lists
 unfoldable pub estimateOfHeld : ℕ → List ℕ → List ℕ → ℤ
@@ -54,22 +46,7 @@ evaluatedOf kind marks values =
       value = up twoTo31 (meanIn marks values (estimateOfHeld kind marks values));
     }))
 
--- ---- the functions below it
-
-pub record Fitting (marks values : List ℕ) : Type 0 where
-  pub few : length marks ≤ maxCabinets
-  pub even : length values ≡ length marks
-
-abbrev pub usedAt : List ℕ → List ℕ → ℕ → ℕ → ℕ
-usedAt marks values e = used-nat (presentIn marks) (valueAt values) e
-
--- the count and the sum of the present readings; the lowest and the highest, where one is present
-pub record Summarizes (r : Summary) (marks values : List ℕ) : Type 0 where
-  pub counted : r .count ≡ presentCount marks
-  pub added : r .sum ≡ total (usedAt marks values 0) (length marks)
-  pub small : r .sum ≤ (twoTo32 - 1) * r .count
-  pub lowest : 0 < presentCount marks → r .low ≡ numberedAt marks values 1
-  pub highest : 0 < presentCount marks → r .high ≡ numberedAt marks values (presentCount marks)
+-- ---- the function below it
 
 unfoldable pub estimateAt : ℕ → List ℕ → List ℕ → ℕ
 estimateAt kind marks values = estimate-nat twoTo31 kind (presentIn marks) (length marks) (valueAt values)

@@ -1,13 +1,13 @@
 // The estimate of readings and the mean of used values. Readings are held by their marks and by their ticks moved up
 // by 2^31.
 ghost use mathlib.Core.Path.{_≡_};
-ghost use Prim.Native.Nat.{min, max, _≤_, _<_};
-ghost use lib.ListN.{length};
+ghost use Prim.Native.Nat.{_≤_, _<_};
 ghost use Rattle.model.specs.Ensemble.{maxCabinets};
-ghost use Rattle.estimates.specs.Values.{Fitting, Summarizes, estimateAt, evaluatedOf};
-use held::PRESENT;
+ghost use Rattle.summaries.specs.Summaries.{Fitting, Summarizes};
+ghost use Rattle.estimates.specs.Values.{estimateAt, evaluatedOf};
 use model::AVERAGE;
 use model::MEDIAN;
+use summaries::Summary;
 
 // The count of the present readings, their estimate and the new value; all 0 where none is present, there are more
 // than 64, or there are not as many numbers as marks.
@@ -15,54 +15,6 @@ pub struct Estimated {
     pub count: u32,
     pub estimate: u32,
     pub value: u32,
-}
-
-// What one pass over the readings gathers of the present ones.
-struct Summary {
-    count: u32,
-    sum: u64,
-    low: u32,
-    high: u32,
-}
-
-fn lower(a: u32, b: u32) -> u32
-    ensures { λ r. ⌜ r ≡ min a b ⌝ }
-{
-    if a < b { a } else { b }
-}
-
-fn higher(a: u32, b: u32) -> u32
-    ensures { λ r. ⌜ r ≡ max a b ⌝ }
-{
-    if a < b { b } else { a }
-}
-
-// Where no reading is present, the lowest is the highest number and the highest is 0.
-fn summarize(marks: &[u8], values: &[u32]) -> Summary
-    requires { ⌜ Fitting (now marks) (now values) ⌝ }
-    ensures { λ r. ⌜ Summarizes r (now (marks .entry)) (now (values .entry)) ⌝ }
-{
-    let mut count: u32 = 0;
-    let mut sum: u64 = 0;
-    let mut low = u32::MAX;
-    let mut high: u32 = 0;
-    let mut t = 0;
-    'readings: while t < marks.len() {
-        let v = values[t];
-        if marks[t] == PRESENT {
-            count += 1;
-            sum += v as u64;
-            low = lower(v, low);
-            high = higher(high, v);
-        }
-        t += 1;
-    }
-    Summary {
-        count,
-        sum,
-        low,
-        high,
-    }
 }
 
 // Document 01's estimate of the present readings: average, median or midpoint.
@@ -85,14 +37,7 @@ pub fn evaluate(kind: u8, marks: &[u8], values: &[u32]) -> Estimated
     ensures { λ r. ⌜ r ≡ evaluatedOf kind (now (marks .entry)) (now (values .entry)) ⌝ }
     ensures { λ r. ⌜ r .count ≤ maxCabinets ⌝ }
 {
-    if held::unfit(marks.len(), values.len()) {
-        return Estimated {
-            count: 0,
-            estimate: 0,
-            value: 0,
-        };
-    }
-    let summary = summarize(marks, values);
+    let summary = summaries::summarize(marks, values);
     if summary.count == 0 {
         return Estimated {
             count: 0,

@@ -18,7 +18,7 @@ use Rattle.arithmetic.proofs.Writing.{length-table, overwrite-whole}
 use Rattle.model.specs.Ensemble.{Reading, present, maxCabinets}
 use Rattle.held.specs.Held.{entryReading, heldMark, heldValue}
 use Rattle.model.specs.RoundSheet.{byte, word}
-use Rattle.reception.specs.Receiving.{Stored}
+use Rattle.held_laws.specs.Stored.{Stored}
 use Rattle.hearing.specs.Heard.{spoken, heardFrom, audible, marksHeard, valuesHeard}
 
 -- ---- one sender

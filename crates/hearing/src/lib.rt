@@ -5,7 +5,7 @@ ghost use Prim.Native.Nat.{_+_, _*_, _≤_, _<_};
 ghost use lib.ListN.{length};
 ghost use Rattle.model.specs.Ensemble.{maxCabinets};
 ghost use Rattle.held.specs.Held.{heldMark, heldValue};
-ghost use Rattle.reception.specs.Receiving.{Stored};
+ghost use Rattle.held_laws.specs.Stored.{Stored};
 ghost use Rattle.hearing.specs.Heard.{spoken, heardFrom, audible, marksHeard, valuesHeard};
 use held::PRESENT;
 use model::MAX_CABINETS;

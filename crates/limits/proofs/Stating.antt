@@ -24,8 +24,9 @@ use Rattle.limit_laws.proofs.Means.{rise, fall}
 use Rattle.demand_3.specs.Exact.{exactGap, exactError}
 use Rattle.demand_3.proofs.Exact.{gap-is, error-is}
 use Rattle.sharpness.specs.Sharpness.{Covered}
+use Rattle.reached_limits.specs.Reached.{reachable}
 use Rattle.limits.specs.Limits.{Stated, planned, wider, nothing, refused}
-use Rattle.limits.specs.Limits.{stationOf, reachable, widerAt, bounds, stated}
+use Rattle.limits.specs.Limits.{stationOf, widerAt, bounds, stated}
 use Rattle.limits.proofs.Quotients.{rise-is, fall-is}
 
 ceil-div-le : (n : ℕ) → 0 < n → (a : ℕ) → ceilDiv a n ≤ a

@@ -1,21 +1,20 @@
 -- Document 01, "Limits for sound cabinets", in numbers: what the guarantee states for t bad cabinets.
 --   Stated       the planned limits, the wider ones, nothing, or a refusal. The wider ones: document 01's gap and
 --                error, the exact gap and error, and whether a round is known to reach both of these
---   reachable    the settings for which `always-reached` (crates/sharpness) has such a round, where m < t < N-m
 --   bounds       what is stated of settings and an accuracy that the planner grants
 --   stated       what is stated of any
 --   widerAt      the wider limits
 --   statedOf     what this crate's enum says in these terms
-use mathlib.Core.Bool.{Bool, true, cond, _&&_}
+use mathlib.Core.Bool.{Bool, true, cond}
 use mathlib.Core.Option.{none, some}
 use Prim.Native.Nat.{ℕ, _+_, _*_, _-_}
-use lib.Dec.{leb, ltb, eqb}
+use lib.Dec.{leb}
 use Rattle.model.specs.declared.Settings.{Settings}
 use Rattle.model.specs.declared.Refusal.{Refusal}
 use Rattle.model.specs.Ensemble.{missing}
-use Rattle.model.specs.RoundSheet.{fca, median}
 use Rattle.model.specs.Refusals.{Check, firstOf, planChecks}
 use Rattle.run.specs.Run.{Station}
+use Rattle.reached_limits.specs.Reached.{reachable}
 use Rattle.demand_3.specs.Guarantee.{wideGap, wideError}
 use Rattle.demand_3.specs.Exact.{exactGap, exactError}
 use Rattle.limits.specs.declared.Limits.{Limits}
@@ -30,12 +29,6 @@ pub data Stated : Type 0 where
 -- a station with these settings and this accuracy; the limits do not depend on its cabinets
 abbrev pub stationOf : Settings → ℕ → Station
 stationOf c κ = record { settings = c; accuracy = κ; sound = λ p. true; first = λ p. missing }
-
--- FCA with median; N ≤ 2m+t; 0 < κ, δ ≤ 2κ
-unfoldable pub reachable : Settings → ℕ → ℕ → Bool
-reachable c κ t =
-    (eqb (c .rule) fca && eqb (c .estimator) median)
-    && (leb (c .n) (2 * c .m + t) && (ltb 0 κ && leb (c .window) (2 * κ)))
 
 unfoldable pub widerAt : Settings → ℕ → ℕ → Stated
 widerAt c κ t =

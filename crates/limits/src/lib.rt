@@ -1,20 +1,14 @@
 // The limits that the guarantee states for t bad cabinets: the planned ones up to m, the wider ones of the first round
 // below N-m.
-ghost use mathlib.Core.Bool.{_&&_};
 ghost use mathlib.Core.Option.{none};
 ghost use mathlib.Core.Path.{_≡_};
 ghost use Prim.Native.Nat.{_+_, _*_, _-_, _/_, _≤_, _<_};
-ghost use lib.Dec.{eqb};
 ghost use Rattle.model.specs.Ensemble.{maxCabinets};
-ghost use Rattle.model.specs.RoundSheet.{fca, median};
-ghost use Rattle.model.specs.Planner.{maxAccuracy};
 ghost use Rattle.model.specs.Refusals.{firstOf, planChecks};
-ghost use Rattle.limits.specs.Limits.{stated, bounds, statedOf, reachable, widerAt, widerOf};
-use model::FCA;
-use model::MEDIAN;
+ghost use Rattle.limits.specs.Limits.{stated, bounds, statedOf, widerAt, widerOf};
 use model::Refusal;
 use model::Settings;
-use planner::Planned;
+use refusals::Screened;
 
 // After the first round, of new values: how far two may be apart and how far one may be from true time, by document
 // 01; both to the tick; and whether a round is known that reaches these.
@@ -45,23 +39,6 @@ fn nearest(n: u32, excess: u32, half: u32) -> u32
     (2 * excess + half) / (2 * n)
 }
 
-fn is_fast_median(rule: u8, estimator: u8) -> bool
-    ensures { λ r. ⌜ r ≡ (eqb rule fca && eqb estimator median) ⌝ }
-{
-    (rule == FCA) & (estimator == MEDIAN)
-}
-
-// Whether a round is known that reaches the exact limits.
-fn is_reached(settings: Settings, accuracy: u32, t: u32) -> bool
-    requires { ⌜ (accuracy ≤ maxAccuracy) × (t ≤ maxCabinets) ⌝ }
-    ensures { λ r. ⌜ r ≡ reachable settings accuracy t ⌝ }
-{
-    let n = settings.n as u32;
-    let m = settings.m as u32;
-    let is_method = is_fast_median(settings.rule, settings.estimator);
-    is_method & ((n <= 2 * m + t) & ((0 < accuracy) & (settings.window <= 2 * accuracy)))
-}
-
 // The wider limits, where m < t < N-m.
 fn widened(settings: Settings, accuracy: u32, t: u32) -> Wider
     requires { ⌜ (firstOf (planChecks settings accuracy 0) ≡ none) × (t < settings .n - settings .m) ⌝ }
@@ -80,7 +57,7 @@ fn widened(settings: Settings, accuracy: u32, t: u32) -> Wider
         error: accuracy + growth,
         widest: window + (above + below),
         farthest: accuracy + above,
-        reached: is_reached(settings, accuracy, t),
+        reached: reached_limits::is_reached(settings, accuracy, t),
     }
 }
 
@@ -104,8 +81,8 @@ fn bound(settings: Settings, accuracy: u32, t: u32) -> Limits
 pub fn limits_for(settings: Settings, accuracy: u32, t: u32) -> Limits
     ensures { λ r. ⌜ statedOf r ≡ stated settings accuracy t ⌝ }
 {
-    match planner::plan_for(settings, accuracy, 0) {
-        Planned::Refused(refusal) => Limits::Refused(refusal),
-        Planned::Granted(_) => bound(settings, accuracy, t),
+    match plan_checks::check_start(settings, accuracy, 0) {
+        Screened::Refused(refusal) => Limits::Refused(refusal),
+        Screened::Passed => bound(settings, accuracy, t),
     }
 }

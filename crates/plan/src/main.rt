@@ -30,31 +30,42 @@ fn show_rounds(settings: Settings, accuracy: u32, last: u32) -> bool {
     is_written & is_shown
 }
 
+fn show_reached(reached: bool) -> bool {
+    if reached {
+        return plan_text::say(b"; both can be reached");
+    }
+    true
+}
+
 fn show_wider(wider: Wider) -> bool {
     let is_first = plan_text::say(b"after the first round, of those that do not refuse:\n");
     let is_stated = plan_text::show_apart(b"  by document 01", wider.gap, wider.error);
     let is_exact = plan_text::show_apart(b"\n  to the tick", wider.widest, wider.farthest);
-    let is_reached = if wider.reached {
-        plan_text::say(b"; both can be reached")
-    } else {
-        true
-    };
+    let is_reached = show_reached(wider.reached);
     let is_later = plan_text::say(b"\n  of later rounds nothing is promised\n");
     is_first & is_stated & is_exact & is_reached & is_later
+}
+
+fn show_planned() -> bool {
+    plan_text::say(
+        b"no sound cabinet refuses; after each round two are at most its window apart, each within its \
+          accuracy of true time\n",
+    )
+}
+
+fn show_stated(limits: Limits) -> bool {
+    match limits {
+        Limits::Planned => show_planned(),
+        Limits::Wider(wider) => show_wider(wider),
+        Limits::Nothing => plan_text::say(b"nothing is promised\n"),
+        Limits::Refused(refusal) => plan_text::show_refusal(refusal),
+    }
 }
 
 fn show_limits(settings: Settings, accuracy: u32, t: u32) -> bool {
     let is_number = plan_text::say_number(b"with ", t as u64);
     let is_bad = plan_text::say(b" bad: ");
-    let is_told = match limits::limits_for(settings, accuracy, t) {
-        Limits::Planned => plan_text::say(
-            b"no sound cabinet refuses; after each round two are at most its window apart, each within its \
-              accuracy of true time\n",
-        ),
-        Limits::Wider(wider) => show_wider(wider),
-        Limits::Nothing => plan_text::say(b"nothing is promised\n"),
-        Limits::Refused(refusal) => plan_text::show_refusal(refusal),
-    };
+    let is_told = show_stated(limits::limits_for(settings, accuracy, t));
     is_number & is_bad & is_told
 }
 

@@ -25,28 +25,17 @@ pub fn say_ticks(name: &[u8], ticks: u32, unit: &[u8]) -> bool {
 }
 
 pub fn usage() -> bool {
-    let is_call = say(
+    say(
         b"usage: plan N M RULE ESTIMATOR WINDOW ACCURACY rounds COUNT [T]\n       plan N M RULE ESTIMATOR \
-          WINDOW ACCURACY target TICKS [T]\n       plan --help, plan --version\n",
-    );
-    let is_ensemble = say(
-        b"  N, M              cabinets, and faults planned for: 3M+1 <= N <= 64\n  RULE, ESTIMATOR   fca or \
-          cca; average, median or midpoint\n",
-    );
-    let is_start = say(
-        b"  WINDOW, ACCURACY  in ticks of 1/16777216 second: how far apart good clocks are, and how far from \
-          true time\n",
-    );
-    let is_end = say(
-        b"  COUNT, TICKS      how many rounds, or the window to reach, in ticks\n  T                 bad \
-          cabinets, at most N: shows the limits that hold for them\n",
-    );
-    let is_answer = say(
-        b"It prints the window and the accuracy after each round, in ticks and, rounded up, in microseconds; or \
-          `refused`, a number and a place.\nIt always ends with status 0; a bad argument is named on standard \
-          error, and then nothing is printed.\n",
-    );
-    is_call & is_ensemble & is_start & is_end & is_answer
+          WINDOW ACCURACY target TICKS [T]\n       plan --help, plan --version\n  N, M              \
+          cabinets, and faults planned for: 3M+1 <= N <= 64\n  RULE, ESTIMATOR   fca or cca; average, \
+          median or midpoint\n  WINDOW, ACCURACY  in ticks of 1/16777216 second: how far apart good clocks \
+          are, and how far from true time\n  COUNT, TICKS      how many rounds, or the window to reach, in \
+          ticks\n  T                 bad cabinets, at most N: shows the limits that hold for them\nIt \
+          prints the window and the accuracy after each round, in ticks and, rounded up, in microseconds; \
+          or `refused`, a number and a place.\nIt always ends with status 0; a bad argument is named on \
+          standard error, and then nothing is printed.\n",
+    )
 }
 
 pub fn show_version() -> bool {

@@ -14,8 +14,7 @@ use lib.Arith.{digits-lt}
 use lib.Dec.{eqb, ltb, lit≤}
 use lib.IntN.{ℤ}
 use lib.Signed.{mag}
-use lib.ListN.{length, getD, take, drop}
-use lib.Seq.{getD-take, getD-drop}
+use lib.ListN.{length, getD}
 use mir.Syntax.{w32}
 use mir.Val.{SFits}
 use Rattle.arithmetic.specs.Counting.{lowest}
@@ -32,7 +31,6 @@ use Rattle.model.specs.RoundSheet.{byte, word, settingsAt}
 use Rattle.model.specs.Planner.{maxRounds, withWindow}
 use Rattle.model.specs.Steps.{Round, roundOf}
 use Rattle.round_laws.proofs.Local.{EqualBelow, EqualRounds, round-local}
-use Rattle.sheet_laws.proofs.Words.{word-ext}
 use Rattle.held.specs.Held.{entryReading}
 use Rattle.hearing.specs.Heard.{heardFrom}
 use Rattle.station_rounds.specs.Rounds.{heardRound, meetsTooMany, nextValue, placeOf, firstRefused}
@@ -44,16 +42,6 @@ use Rattle.run.proofs.Entries.{seen}
 use Rattle.run.proofs.Ready.{plan-settings}
 use Rattle.run.proofs.Traced.{Recorded, traced-start, traced-ready, traced-seen, traced-holds, windowIn, foundIn, replay-refuses}
 use Rattle.playing.specs.Playing.{HeldTo, Playable, below}
-
--- ---- parts of a list
-
-pub part-at : (s : List ℕ) (a m i : ℕ) → i < m → getD (take m (drop a s)) i 0 ≡ getD s (a + i) 0
-part-at s a m i h = getD-take m (drop a s) i 0 h ∙ getD-drop a s i 0
-
-pub word-part : (s : List ℕ) (a m i : ℕ) → i + 3 < m → word (take m (drop a s)) i ≡ word s (a + i)
-word-part s a m i h =
-    word-ext (take m (drop a s)) s i (a + i)
-    (λ b l. part-at s a m (i + b) (omega arith) ∙ ap (λ (j : ℕ). getD s j 0) (omega arith))
 
 -- the entry's number by its round and its number in the round
 entry-split : (n k r p : ℕ) → k * (n * n) + (r * n + p) ≡ entryNumber n k r p
@@ -94,7 +82,7 @@ module _ (s : List ℕ) (small : (j : ℕ) → byte s j < 256) (ok : Playable s)
     abbrev run-round : ℕ → Round
     run-round p = foundIn s recorded 0 (lit≤ tt) k p
 
-    planned : stateTo s k .plan .settings ≡ withWindow (settingsAt s) (windowIn s recorded 0 (lit≤ tt) k)
+    pub planned : stateTo s k .plan .settings ≡ withWindow (settingsAt s) (windowIn s recorded 0 (lit≤ tt) k)
     planned =
         plan-settings st (traced-start s recorded 0 (lit≤ tt)) k (stateTo s k)
         (traced-ready s recorded 0 (lit≤ tt) k (omega (arith, soon)))

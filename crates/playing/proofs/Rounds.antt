@@ -6,7 +6,7 @@ use mathlib.Core.List.{List}
 use mathlib.Core.Logic.{⊎-elim}
 use mathlib.Core.Option.{Option, none, some}
 use mathlib.Core.Path.{_≡_, refl, sym, ap, ap₂, _∙_}
-use Prim.Native.Nat.{ℕ, zero, suc, _+_, _*_, _≤_, _<_}
+use Prim.Native.Nat.{ℕ, zero, suc, _+_, _*_, _≤_, _<_, zero-le}
 use native.Mathlib.Numerals.{add-one}
 use native.Mathlib.Omega.{arith}
 use borrow.Author.Tests.{lt-ltb, le-ltb, ne-eqb}
@@ -63,9 +63,8 @@ module _ (s : List ℕ) where
       → runStopped s (k + 1) ≡ none
   unfolding runStopped
   none-passes k r held played all before =
-      ap (runStopped s) (add-one k)
-      ∙ ap₂ orNext before
-      (ap (atRound k) (played .first ∙ rw (le-ltb r (settingsAt s .n) all)))
+      let nobody : below (settingsAt s .n) r ≡ none = rw (le-ltb r (settingsAt s .n) all) in
+      ap (runStopped s) (add-one k) ∙ ap₂ orNext before (ap (atRound k) (played .first ∙ nobody))
 
   -- a round that stops stands for all later ones
   stops-on :
@@ -83,10 +82,11 @@ module _ (s : List ℕ) where
       → RoundsPlayed s most (maxCabinets * (k + 1) + r) held
   unfolding stoppedAt
   stops-here k r most held played few before early =
+      let here : below (settingsAt s .n) r ≡ some r = rw (lt-ltb r (settingsAt s .n) few) in
       record {
         stops =
             stops-on k (refusal runStoppedNumber (maxCabinets * (k + 1) + r)) before
-            (ap (atRound k) (played .first ∙ rw (lt-ltb r (settingsAt s .n) few))) most early
+            (ap (atRound k) (played .first ∙ here)) most early
             ∙ rw (ne-eqb (maxCabinets * (k + 1) + r) 0 (λ h. omega arith));
         holds = λ h. absurd (omega arith);
       }
@@ -102,3 +102,32 @@ module _ (s : List ℕ) where
         stops = ap (runStopped s) (sym same) ∙ before;
         holds = λ z. rw same at holds;
       }
+
+-- ---- while they are played
+
+pub record Going (s : List ℕ) (most room : ℕ) (plan : Plan) (k : ℕ) (held : List ℕ) : Type 0 where
+  pub upTo : k ≤ most
+  pub planned : plan ≡ stateTo s k .plan
+  pub before : runStopped s k ≡ none
+  pub holds : HeldTo s k held
+  pub long : length held ≡ room
+
+pub going-first :
+    (s : List ℕ) (most : ℕ) (c : Settings) (held : List ℕ) → c ≡ settingsAt s → HeldTo s 0 held
+    → Going s most (length held) (planFrom c 0) 0 held
+unfolding runStopped
+going-first s most c held own holds =
+    record { upTo = zero-le; planned = plan-first s c own; before = refl; holds = holds; long = refl }
+
+pub going-next :
+    (s : List ℕ) (most room : ℕ) (p q : Plan) (k r : ℕ) (held later : List ℕ) → Going s most room p k held
+    → k < most → RoundPlayed s k r later → settingsAt s .n ≤ r → q ≡ stepped (step p) p → length later ≡ length held
+    → Going s most room q (k + 1) later
+going-next s most room p q k r held later going early played all e same =
+    record {
+      upTo = omega arith;
+      planned = plan-next s k p q (going .planned) e;
+      before = none-passes s k r later played all (going .before);
+      holds = played .holds all;
+      long = same ∙ going .long;
+    }

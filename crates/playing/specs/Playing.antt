@@ -6,22 +6,26 @@
 --   RoundPlayed   what playing a round gives and leaves
 --   stoppedAt     a place as check 15; 0 where it passes
 --   RoundsPlayed  what playing some rounds gives and leaves
+--   Played        the same from the first readings on
+--   playedGiven   what `play` gives
 use mathlib.Core.Bool.{true, cond}
 use mathlib.Core.List.{List}
 use mathlib.Core.Option.{Option, none, some}
 use mathlib.Core.Path.{_≡_}
-use Prim.Native.Nat.{ℕ, _+_, _≤_, _<_}
+use Prim.Native.Nat.{ℕ, _+_, _≤_, _<_, min}
 use lib.Dec.{ltb, eqb}
 use lib.ListN.{length, getD}
 use Rattle.arithmetic.specs.Counting.{lowest}
 use Rattle.arithmetic.specs.Naturals.{down}
 use Rattle.arithmetic.specs.Words.{twoTo31}
-use Rattle.model.specs.Ensemble.{present}
+use Rattle.model.specs.declared.Settings.{Settings}
+use Rattle.model.specs.Ensemble.{present, maxCabinets}
 use Rattle.model.specs.RoundSheet.{fca, settingsAt}
 use Rattle.model.specs.Planner.{maxRounds}
-use Rattle.model.specs.Refusals.{Check, refusal, firstOf, settingsChecks, runStoppedNumber}
+use Rattle.model.specs.Refusals.{Check, refusal, firstOf, settingsChecks, noRoomNumber, runStoppedNumber}
+use Rattle.model.specs.Calls.{Verdict, refused, verdict}
 use Rattle.run.specs.Trace.{roundsAt, soundAt, traceLength}
-use Rattle.run.specs.Replay.{stateTo, refusedIn, runStopped}
+use Rattle.run.specs.Replay.{stateTo, refusedIn, runStopped, replayChecks}
 
 abbrev pub HeldTo : List ℕ → ℕ → List ℕ → Type 0
 HeldTo s k held =
@@ -47,3 +51,14 @@ stoppedAt place = cond (eqb place 0) none (some (refusal runStoppedNumber place)
 pub record RoundsPlayed (s : List ℕ) (k place : ℕ) (held : List ℕ) : Type 0 where
   pub stops : runStopped s k ≡ stoppedAt place
   pub holds : place ≡ 0 → HeldTo s k held
+
+-- the rounds of a trace that passes its other checks, from the first readings on
+pub record Played (s : List ℕ) (k : ℕ) (check : Check) (held : List ℕ) : Type 0 where
+  pub stops : check ≡ runStopped s k
+  pub holds : check ≡ none → HeldTo s k held
+
+-- what `play` gives, lent a list of this length
+unfoldable pub playedGiven : List ℕ → ℕ → ℕ → ℕ → Verdict Settings
+playedGiven s most room held =
+    cond (ltb held maxCabinets) (refused (refusal noRoomNumber 0))
+    (verdict (firstOf (replayChecks s (min most (roundsAt s)) room)) (settingsAt s))

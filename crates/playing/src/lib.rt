@@ -2,7 +2,6 @@
 // 2^31.
 ghost use mathlib.Core.Path.{_≡_};
 ghost use mathlib.Core.Bool.{cond};
-ghost use mathlib.Core.Option.{none};
 ghost use Prim.Native.Nat.{_+_, _≤_, _<_, min};
 ghost use lib.Dec.{eqb};
 ghost use lib.ListN.{length, getD};
@@ -11,16 +10,17 @@ ghost use Rattle.arithmetic.specs.Words.{twoTo31};
 ghost use Rattle.arithmetic.specs.Writing.{table};
 ghost use Rattle.model.specs.Ensemble.{maxCabinets};
 ghost use Rattle.model.specs.RoundSheet.{settingsAt};
-ghost use Rattle.model.specs.Refusals.{firstOf};
-ghost use Rattle.model.specs.Calls.{verdict, step};
+ghost use Rattle.model.specs.Calls.{granted, step};
 ghost use Rattle.planner.specs.Answers.{planOf};
 ghost use Rattle.refusals.specs.Answers.{checkOf};
 ghost use Rattle.sheet_checks.specs.Answers.{openedOf};
 ghost use Rattle.run.specs.Run.{stepped};
 ghost use Rattle.run.specs.Trace.{roundsAt, firstAt};
-ghost use Rattle.run.specs.Replay.{stateTo, replayChecks};
-ghost use Rattle.playing.specs.Playing.{HeldTo, Playable, RoundPlayed, stoppedAt, RoundsPlayed};
+ghost use Rattle.run.specs.Replay.{stateTo};
+ghost use Rattle.playing.specs.Playing.{HeldTo, Playable, RoundPlayed, stoppedAt, RoundsPlayed, Played, playedGiven};
 use model::HEADER_SIZE;
+use model::MAX_CABINETS;
+use model::NO_ROOM;
 use model::RUN_STOPPED;
 use model::Settings;
 use model::TRACE_HEADER_SIZE;
@@ -71,34 +71,43 @@ fn take_over(roles: &[u8], next: &[u32], held: &mut [u32])
     }
 }
 
-// Plays round k, from 0: the first cabinet that meets too many faults, or else the number of cabinets, which then hold
-// their next values.
-fn play_round(trace: &[u8], settings: Settings, rounds: u8, k: usize, held: &mut [u32]) -> usize
-    requires { ⌜ Playable (now trace) ⌝ }
-    requires { ⌜ settings ≡ stateTo (now trace) k .plan .settings ⌝ }
-    requires { ⌜ (rounds ≡ roundsAt (now trace)) × (k < rounds) × (length (now held) ≡ settings .n) ⌝ }
+// Plays round k, from 0, with lent places for the next values.
+fn play_in(
+    trace: &[u8],
+    settings: Settings,
+    rounds: u8,
+    k: u8,
+    next: &mut [u32],
+    held: &mut [u32],
+) -> usize
+    requires { ⌜ Playable (now trace) × (settings ≡ stateTo (now trace) k .plan .settings) ⌝ }
+    requires { ⌜ (rounds ≡ roundsAt (now trace)) × (k < rounds) ⌝ }
+    requires { ⌜ (length (now next) ≡ settings .n) × (length (now held) ≡ settings .n) ⌝ }
     requires { ⌜ HeldTo (now trace) k (now held) ⌝ }
     ensures { λ r. ⌜ RoundPlayed (now (trace .entry)) k r (now (held .exit)) ⌝ }
 {
-    let n = settings.n as usize;
-    let pairs = n * n;
-    let marks = trace_sizes::marks_start(settings.n) + k * pairs;
-    let readings = trace_sizes::readings_start(settings.n, rounds) + 4 * (k * pairs);
-    let roles = &trace[TRACE_HEADER_SIZE..TRACE_HEADER_SIZE + n];
-    let mut next = [0u32; 64];
-    let refused = station_rounds::settle_round(
-        settings,
-        roles,
-        &*held,
-        &trace[marks..marks + pairs],
-        &trace[readings..readings + 4 * pairs],
-        &mut next[..n],
-    );
-    if refused < n {
+    let roles = trace_parts::roles(trace, settings.n);
+    let sent = trace_parts::marks(trace, settings.n, k);
+    let readings = trace_parts::readings(trace, settings.n, rounds, k);
+    let refused = station_rounds::settle_round(settings, roles, &*held, sent, readings, &mut *next);
+    if refused < (settings.n as usize) {
         return refused;
     }
-    take_over(roles, &next[..n], held);
+    take_over(roles, &*next, held);
     refused
+}
+
+// Plays round k, from 0: the first cabinet that meets too many faults, or else the number of cabinets, which then hold
+// their next values.
+fn play_round(trace: &[u8], settings: Settings, rounds: u8, k: u8, held: &mut [u32]) -> usize
+    requires { ⌜ Playable (now trace) × (settings ≡ stateTo (now trace) k .plan .settings) ⌝ }
+    requires { ⌜ (rounds ≡ roundsAt (now trace)) × (k < rounds) × (length (now held) ≡ settings .n) ⌝ }
+    requires { ⌜ (settings .n ≤ maxCabinets) × HeldTo (now trace) k (now held) ⌝ }
+    ensures { λ r. ⌜ RoundPlayed (now (trace .entry)) k r (now (held .exit)) ⌝ }
+{
+    let n = settings.n as usize;
+    let mut next = [0u32; 64];
+    play_in(trace, settings, rounds, k, &mut next[..n], held)
 }
 
 // The plan one round on; one that can go no further stays.
@@ -107,7 +116,7 @@ fn stepped(plan: Plan) -> Plan
 {
     match plan.step() {
         Planned::Granted(next) => next,
-        Planned::Refused(_) => plan,
+        Planned::Refused(r) => plan,
     }
 }
 
@@ -125,12 +134,11 @@ fn play_rounds(trace: &[u8], settings: Settings, rounds: u8, most: u8, held: &mu
         accuracy: 0,
         rounds: 0,
     };
-    let mut k: u32 = 0;
-    'rounds: while k < (most as u32) {
-        let planned = plan.settings;
-        let refused = play_round(trace, planned, rounds, k as usize, &mut *held) as u32;
+    let mut k: u8 = 0;
+    'rounds: while k < most {
+        let refused = play_round(trace, plan.settings, rounds, k, &mut *held) as u32;
         if refused < n {
-            return 64 * (k + 1) + refused;
+            return 64 * ((k as u32) + 1) + refused;
         }
         plan = stepped(plan);
         k += 1;
@@ -154,27 +162,36 @@ fn lower(a: u8, b: u8) -> u8
     if a < b { a } else { b }
 }
 
-// Plays the first rounds of a trace, at most as many as it has, for a buffer of this length: its settings, or the first
-// refusal. Where it is granted, the lent list has what sound cabinets hold after them.
-pub fn play(trace: &[u8], room: usize, most: u8, held: &mut [u32; 64]) -> Opened
+// Plays the first rounds of a trace that passes its other checks.
+fn play_checked(trace: &[u8], settings: Settings, most: u8, held: &mut [u32]) -> Screened
+    requires { ⌜ Playable (now trace) × (settings ≡ settingsAt (now trace)) × (length (now held) ≡ settings .n) ⌝ }
     ensures { λ r. ⌜
-        openedOf r
-        ≡ verdict
-        (firstOf (replayChecks (now (trace .entry)) (min most (roundsAt (now (trace .entry)))) room))
-        (settingsAt (now (trace .entry))) ⌝ }
-    ensures { λ _. ⌜
-        (firstOf (replayChecks (now (trace .entry)) (min most (roundsAt (now (trace .entry)))) room) ≡ none
+        Played (now (trace .entry)) (min most (roundsAt (now (trace .entry)))) (checkOf r) (now (held .exit)) ⌝ }
+{
+    let rounds = words::byte_at(trace, HEADER_SIZE);
+    first_readings(trace, &mut *held);
+    let place = play_rounds(trace, settings, rounds, lower(most, rounds), held);
+    stopped(place)
+}
+
+// Plays the first rounds of a trace, at most as many as it has, for a buffer of this length: its settings, or the first
+// refusal. Where it is granted, the lent list, which has room for 64 cabinets, has what sound cabinets hold after them.
+// A shorter list is refused as a short buffer is.
+pub fn play(trace: &[u8], room: usize, most: u8, held: &mut [u32]) -> Opened
+    ensures { λ r. ⌜ openedOf r ≡ playedGiven (now (trace .entry)) most room (length (now (held .entry))) ⌝ }
+    ensures { λ r. ⌜
+        (openedOf r ≡ granted (settingsAt (now (trace .entry)))
         → HeldTo (now (trace .entry)) (min most (roundsAt (now (trace .entry)))) (now (held .exit))) ⌝ }
 {
+    if held.len() < (MAX_CABINETS as usize) {
+        return Opened::Refused(refusals::refuse(NO_ROOM));
+    }
     match trace_checks::screen(trace, room) {
         Opened::Refused(r) => Opened::Refused(r),
         Opened::Granted(settings) => {
             let n = settings.n as usize;
-            let rounds = words::byte_at(trace, HEADER_SIZE);
-            let first = lower(most, rounds);
-            first_readings(trace, &mut held[..n]);
-            let place = play_rounds(trace, settings, rounds, first, &mut held[..n]);
-            sheet_checks::unless_refused(stopped(place), settings)
+            let played = play_checked(trace, settings, most, &mut held[..n]);
+            sheet_checks::unless_refused(played, settings)
         }
     }
 }

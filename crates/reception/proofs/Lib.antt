@@ -1,4 +1,2 @@
-pub mod Squares
-pub mod Storing
 pub mod Sheets
 pub mod Holding

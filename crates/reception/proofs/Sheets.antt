@@ -26,8 +26,13 @@ use Rattle.sheet_laws.proofs.Words.{word-ext}
 use Rattle.held.specs.Held.{heldMark, heldValue}
 use Rattle.decisions.specs.Rows.{copyAt, rowDecision}
 use Rattle.rows.specs.Parts.{partAt}
-use Rattle.reception.specs.Receiving.{readingAt, rowReading, fitting, marksReceived, valuesReceived, Stored}
-use Rattle.reception.proofs.Squares.{row-room}
+use Rattle.held_laws.specs.Stored.{Stored}
+use Rattle.sent_readings.specs.Sizes.{readingsTaken}
+use Rattle.sent_readings.proofs.Sizes.{all-readings}
+use Rattle.decided_readings.specs.Rows.{rowReading, rowsTaken}
+use Rattle.decided_readings.proofs.Sizes.{all-rows}
+use Rattle.decided_readings.proofs.Squares.{row-room}
+use Rattle.reception.specs.Receiving.{readingAt, fitting, marksReceived, valuesReceived}
 
 -- ---- bytes and words of a part
 
@@ -56,11 +61,11 @@ sentMarks s n = take (headerSize + n - headerSize) (drop headerSize s)
 abbrev pub sentBytes : List ℕ → ℕ → List ℕ
 sentBytes s n = take (headerSize + n + 4 * n - (headerSize + n)) (drop (headerSize + n) s)
 
-pub marks-long : (s : List ℕ) (n : ℕ) → headerSize + n ≤ length s → length (sentMarks s n) ≡ n
+marks-long : (s : List ℕ) (n : ℕ) → headerSize + n ≤ length s → length (sentMarks s n) ≡ n
 marks-long s n h = rw (cut headerSize n) (length-part s headerSize n h)
 
 -- four bytes for each mark
-pub row-long :
+row-long :
     (s : List ℕ) (n : ℕ) → headerSize + n + 4 * n ≤ length s → length (sentBytes s n) ≡ 4 * length (sentMarks s n)
 row-long s n h =
     rw (cut (headerSize + n) (4 * n), marks-long s n (omega arith)) (length-part s (headerSize + n) (4 * n) h)
@@ -129,7 +134,7 @@ module _ (s : List ℕ) (c : Settings) (marks₀ values₀ marks values : List �
           (λ r l. ap hold (sym (same r l)))
 
   -- FCA: the marks and the readings as they stand
-  module _ (b : eqb (c .rule) cca ≡ false) (long : headerSize + c .n ≤ length s) where
+  module _ (b : eqb (c .rule) cca ≡ false) (long : headerSize + c .n + 4 * c .n ≤ length s) where
     direct-copies :
         (r : ℕ)
         → r < c .n
@@ -141,13 +146,29 @@ module _ (s : List ℕ) (c : Settings) (marks₀ values₀ marks values : List �
         ∙ rw b
         (entry-part s (c .n) headerSize (c .n) (headerSize + c .n) (4 * c .n) r r l (omega arith) refl refl)
 
+    -- all of them are taken
+    all-sent :
+        readingsTaken (length (sentMarks s (c .n))) (length (sentBytes s (c .n))) (length marks₀) (length values₀) ≡ c .n
+    all-sent =
+        let few = marks-long s (c .n) (omega arith) in
+        let four = row-long s (c .n) long in
+        all-readings (length (sentMarks s (c .n))) (length (sentBytes s (c .n))) (length marks₀) (length values₀)
+        (omega arith)
+        (omega arith)
+        (omega arith)
+        ∙ few
+
     pub direct-filled :
         Stored (copyAt (sentMarks s (c .n)) (sentBytes s (c .n)))
-        (length (sentMarks s (c .n))) marks₀ values₀ marks values
+        (readingsTaken (length (sentMarks s (c .n))) (length (sentBytes s (c .n))) (length marks₀) (length values₀))
+        marks₀
+        values₀
+        marks
+        values
         → Filled s c marks values
     direct-filled st =
         filled (copyAt (take (c .n) (drop headerSize s)) (take (4 * c .n) (drop (headerSize + c .n) s))) direct-copies
-        (rw (cut headerSize (c .n), cut (headerSize + c .n) (4 * c .n), length-part s headerSize (c .n) long) at st)
+        (rw (cut headerSize (c .n), cut (headerSize + c .n) (4 * c .n)) at (rw all-sent at st))
 
   -- CCA: the row of each cabinet
   module _ (b : eqb (c .rule) cca ≡ true) (few : 2 * c .m < c .n) (small : c .n ≤ maxCabinets)
@@ -211,8 +232,16 @@ module _ (s : List ℕ) (c : Settings) (marks₀ values₀ marks values : List �
         half n m h = omega arith
 
     pub relayed-filled :
-        Stored (rowReading s c (c .n - c .m)) (c .n) marks₀ values₀ marks values → Filled s c marks values
-    relayed-filled = filled (rowReading s c (c .n - c .m)) row-decided
+        Stored (rowReading s c (c .n - c .m)) (rowsTaken (c .n) (length s) (length marks₀) (length values₀)) marks₀
+        values₀
+        marks
+        values
+        → Filled s c marks values
+    relayed-filled st =
+        filled (rowReading s c (c .n - c .m)) row-decided
+        (rw
+        (all-rows (c .n) (length s) (length marks₀) (length values₀) small (omega arith) (omega arith) (omega arith))
+        at st)
 
 -- ---- sizes that fit
 

@@ -3,23 +3,17 @@
 --   readingAt         document 01's reading of a cabinet: as sent for FCA, as decided for CCA
 --   fitting           sizes that fit
 --   marksReceived, valuesReceived    the lists that `receive` leaves
--- What the functions below it give:
---   rowReading        what is decided of one cabinet, from the bytes of its copies
---   Stored            lent lists whose first entries hold the first readings; the others are as they were
 use mathlib.Core.Bool.{Bool, cond, _&&_}
 use mathlib.Core.List.{List}
-use mathlib.Core.Path.{_≡_}
-use Prim.Native.Nat.{ℕ, _+_, _*_}
+use Prim.Native.Nat.{ℕ, _*_}
 use lib.Dec.{leb, ltb, eqb}
-use lib.ListN.{length, take, drop}
-use Rattle.arithmetic.specs.Writing.{table, overwrite}
+use lib.ListN.{length}
+use Rattle.arithmetic.specs.Writing.{table}
 use Rattle.model.specs.declared.Settings.{Settings}
-use Rattle.model.specs.Ensemble.{Reading, Readings, maxCabinets}
-use Rattle.model.specs.RoundSheet.{entryCount, entryAt, sheetLength, headerSize}
-use Rattle.model.specs.Steps.{decidedReading, readingsOf}
+use Rattle.model.specs.Ensemble.{Reading, maxCabinets}
+use Rattle.model.specs.RoundSheet.{entryCount, entryAt, sheetLength}
+use Rattle.model.specs.Steps.{readingsOf}
 use Rattle.held.specs.Held.{heldMark, heldValue}
-use Rattle.decisions.specs.Rows.{rowDecision}
-use Rattle.rows.specs.Parts.{partAt}
 
 abbrev pub readingAt : List ℕ → Settings → ℕ → Reading
 readingAt s c r = readingsOf c (entryAt s (entryCount c)) r
@@ -39,12 +33,3 @@ marksReceived s c marks values =
 unfoldable pub valuesReceived : List ℕ → Settings → List ℕ → List ℕ → List ℕ
 valuesReceived s c marks values =
     cond (fitting c (length s) (length marks) (length values)) (table (λ r. heldValue (readingAt s c r)) (c .n)) values
-
--- ---- the functions below it
-
-abbrev pub rowReading : List ℕ → Settings → ℕ → ℕ → Reading
-rowReading s c need r = decidedReading (rowDecision need (take (c .n) (drop (headerSize + r * c .n) s)) (partAt s c r))
-
-pub record Stored (v : Readings) (n : ℕ) (marks₀ values₀ marks values : List ℕ) : Type 0 where
-  pub marked : marks ≡ overwrite (table (λ r. heldMark (v r)) n) marks₀
-  pub valued : values ≡ overwrite (table (λ r. heldValue (v r)) n) values₀

@@ -2,7 +2,7 @@
 // of a refusal.
 ghost use mathlib.Core.Path.{_≡_};
 ghost use Rattle.replaying.specs.Answers.{replayedOf};
-ghost use Rattle.packing.specs.Answers.{packed};
+ghost use Rattle.packed_refusals.specs.Answers.{packed};
 use replaying::Replayed;
 
 // The length of the final values.
@@ -11,6 +11,6 @@ pub fn pack_replayed(replayed: Replayed) -> u64
 {
     match replayed {
         Replayed::Granted(size) => size as u64,
-        Replayed::Refused(refusal) => (refusal.number as u64) * 4_294_967_296 + (refusal.place as u64),
+        Replayed::Refused(refusal) => packed_refusals::pack_refusal(refusal),
     }
 }

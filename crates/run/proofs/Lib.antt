@@ -1,4 +1,5 @@
 pub mod Computed
+pub mod ComputedTraces
 pub mod Entries
 pub mod Filled
 pub mod Link

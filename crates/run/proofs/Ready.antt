@@ -14,10 +14,10 @@ use Rattle.arithmetic.proofs.Bools.{clash}
 use Rattle.model.specs.declared.Settings.{Settings}
 use Rattle.model.specs.Ensemble.{missing, present, isPresent, ticks}
 use Rattle.model.specs.RoundSheet.{entryCount}
-use Rattle.model.specs.AnswerSheet.{answerLength}
+use Rattle.model.specs.AnswerSheet.{answerLength, answerBytes}
 use Rattle.model.specs.Planner.{Plan, planFrom, advance, after, withWindow, maxRounds}
-use Rattle.model.specs.Refusals.{refusal, firstOf, settingsChecks, tooManyFaultsNumber}
-use Rattle.model.specs.Calls.{Verdict, granted, refused, step}
+use Rattle.model.specs.Refusals.{refusal, firstOf, settingsChecks, tooManyFaults, tooManyFaultsNumber}
+use Rattle.model.specs.Calls.{Verdict, granted, refused, writtenAfter, step}
 use Rattle.refusal_laws.proofs.Limits.{Limits, limits-pass}
 use Rattle.planner_laws.proofs.Checks.{none-may-start}
 use Rattle.planner_laws.proofs.Rounds.{settings-after}
@@ -27,7 +27,7 @@ use Rattle.value_laws.proofs.Fits as values
 use Rattle.run.specs.Run.{IsReading, Station, N, m, κ, Start, Sends, Allowed, State, start, entryOf}
 use Rattle.run.specs.Run.{settled, holds, next, Sound}
 use Rattle.run.proofs.Entries.{reading-fits, seen, seen-reading, entry-fits}
-use Rattle.run.proofs.Link.{found, settled-refused, settled-granted, settled-holds}
+use Rattle.run.proofs.Link.{found, settled-is, settled-refused, settled-granted, settled-holds}
 
 -- j rounds are done before
 pub record Ready (st : Station) (j : ℕ) (now : State) : Type 0 where
@@ -84,6 +84,13 @@ module _ (st : Station) (begins : Start st) (j : ℕ) (now : State) (ready : Rea
     -- ---- a cabinet's sheet
 
     module _ (p : ℕ) where
+      -- it is settled by the round of what p reads
+      pub settles :
+          settled st now x p
+          ≡ writtenAfter (tooManyFaults (found st now x w p .count)) (answerLength (N st))
+          (answerBytes (N st) (found st now x w p)) (x .buffer p)
+      settles = settled-is st now x w p plan-settings pass allowed (fits p)
+
       pub refuses : found st now x w p .count ≡ 0 → settled st now x p .verdict ≡ refused (refusal tooManyFaultsNumber 0)
       refuses = settled-refused st now x w p plan-settings pass allowed (fits p)
 

@@ -3,3 +3,4 @@ pub mod ReplayText
 pub mod Rounds
 pub mod Run
 pub mod Trace
+pub mod Traces

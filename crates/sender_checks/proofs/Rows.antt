@@ -4,7 +4,7 @@
 use mathlib.Core.Bool.{Bool, true, false, cond, _&&_, _||_}
 use mathlib.Core.List.{List}
 use mathlib.Core.Path.{_≡_, refl, sym, ap, ap₂, _∙_}
-use Prim.Native.Nat.{ℕ, suc, _+_, _*_, _-_, _/_, _%_, _≤_, _<_, min, zero-le}
+use Prim.Native.Nat.{ℕ, suc, _+_, _*_, _-_, _%_, _≤_, _<_, min, zero-le}
 use native.Mathlib.Nat.{suc-mul, zero-mul}
 use native.Mathlib.Omega.{arith}
 use borrow.Author.Tests.{ltb-true, ltb-false}
@@ -147,6 +147,8 @@ module _ (roles marks : List ℕ) where
           let l = p .turn in
           omega arith
 
-  pub passed-all : {found : Bool} {sender start : ℕ} → Passed found sender start → length marks ≤ start → found ≡ sentIn roles marks
+  pub passed-all :
+      {found : Bool} {sender start : ℕ} → Passed found sender start → length marks ≤ start
+      → found ≡ sentIn roles marks
   unfolding sentIn
   passed-all {start = start} p h = any-ended (sentAt roles marks) (length marks) start (p .upTo) h (p .exact)

@@ -1,5 +1,5 @@
-// Document 02, "Paper 1. Replay of a station run": whether a sound sender's entry is present, of a list of roles, and of
-// marks in rows of as many marks as there are roles, one row for each sender in turn.
+// Document 02, "Paper 1. Replay of a station run": whether a sound sender's entry is present, of a list of roles, and
+// of marks in rows of as many marks as there are roles, one row for each sender in turn.
 ghost use mathlib.Core.Path.{_≡_};
 ghost use mathlib.Core.Bool.{cond, _&&_};
 ghost use Prim.Native.Nat.{_+_, _<_, min};

@@ -2,7 +2,7 @@
 -- Assumes nothing.
 use mathlib.Core.Bool.{Bool, true, false, cond}
 use mathlib.Core.List.{List}
-use mathlib.Core.Option.{none}
+use mathlib.Core.Option.{none, some}
 use mathlib.Core.Path.{_≡_, refl, sym, ap, ap₂, _∙_, subst}
 use Prim.Native.Nat.{ℕ, zero, suc, _*_, _≤_, _<_}
 use native.Mathlib.Nat.{pos-of-ne-zero}
@@ -17,6 +17,7 @@ use Rattle.arithmetic.specs.Writing.{table, overwrite}
 use Rattle.arithmetic.specs.Words.{twoTo31}
 use Rattle.arithmetic.proofs.Bools.{and-intro}
 use Rattle.arithmetic.proofs.Writing.{length-table, getD-table}
+use Rattle.model.specs.declared.Refusal.{Refusal}
 use Rattle.model.specs.declared.Settings.{Settings}
 use Rattle.model.specs.Ensemble.{Readings, ticks, quorum, maxCabinets}
 use Rattle.model.specs.RoundSheet.{byte, settingsAt, sheetLength}
@@ -38,8 +39,11 @@ use Rattle.agreement.proofs.Agreeing.{kept-at, kept-present}
 use Rattle.agreement.proofs.Rounds.{estimate-back, value-back}
 use Rattle.reception.specs.Receiving.{readingAt, fitting, marksReceived, valuesReceived}
 use Rattle.reception.proofs.Holding.{sheet-kept}
-use Rattle.answer_writer.specs.Answers.{usedIn, roundHeld, roomy, writtenOf}
+use Rattle.answer_parts.specs.Parts.{roomy}
+use Rattle.answer_writer.specs.Answers.{usedIn, roundHeld, writtenOf}
 use Rattle.answer_writer.proofs.Bytes.{written}
+use Rattle.outcomes.specs.Outcomes.{concluded}
+use Rattle.outcomes.proofs.Outcomes.{none-left, some-left}
 use Rattle.settling.specs.Rounds.{Ready}
 use Rattle.settling.proofs.Checking.{passes-settle, sheet-passed}
 
@@ -295,14 +299,24 @@ module _ (s : List ℕ) (c : Settings) (old : List ℕ) (ready : Ready s c old) 
   room : answerLength (settingsAt s .n) ≤ length old
   room = subst (λ (d : Settings). answerLength (d .n) ≤ length old) (ready .own) (ready .room)
 
-  pub refuses : a .count ≡ 0 → too-many old ≡ settle s old
-  refuses = none-settled s (ready .passes) marks₀ values₀ marks values kept a moved old room
+  -- what `conclude` leaves
+  module _ (left : List ℕ)
+      (is-left : left ≡ concluded (a .count) (a .estimate) (a .value) kept values old) where
+    pub refuses :
+        (r : Refusal)
+        → some r ≡ tooManyFaults (a .count)
+        → _≡_ {A = Outcome} (record { verdict = refused r; buffer = left }) (settle s old)
+    refuses r told =
+        let n = none-left (a .count) (a .estimate) (a .value) kept values old left is-left r told in
+        ap₂ (λ (f : Refusal) (l : List ℕ). record { verdict = refused f; buffer = l }) (n .number) (n .kept)
+        ∙ none-settled s (ready .passes) marks₀ values₀ marks values kept a moved old room (n .count-none)
 
-  pub settles :
-      (a .count ≡ 0 → ⊥)
-      → wrote (answerLength (c .n)) (writtenOf (a .count) (a .estimate) (a .value) kept values old) ≡ settle s old
-  settles d =
-      rw (ready .own) (some-settled s (ready .passes) marks₀ values₀ marks values kept a moved old room d)
+    pub settles : none ≡ tooManyFaults (a .count) → wrote (answerLength (c .n)) left ≡ settle s old
+    settles told =
+        let n = some-left (a .count) (a .estimate) (a .value) kept values old left is-left told in
+        ap (wrote (answerLength (c .n))) (n .put)
+        ∙ rw (ready .own)
+        (some-settled s (ready .passes) marks₀ values₀ marks values kept a moved old room (n .count-some))
 
 -- settings that pass checks 2 to 5
 pub few-faults : (s : List ℕ) (c : Settings) (old : List ℕ) → Ready s c old → (c .m ≤ c .n) × (c .n ≤ maxCabinets)

@@ -8,7 +8,6 @@ ghost use Rattle.settling.specs.Rounds.{Ready};
 use model::NO_ROOM;
 use model::Refusal;
 use model::Settings;
-use model::TOO_MANY_FAULTS;
 use refusals::Screened;
 use sheet_checks::Opened;
 
@@ -46,12 +45,7 @@ fn settle_in(
         need as u32,
         settings.estimator,
     );
-    let size = sheet_sizes::answer_length(settings.n);
-    let none = Settled::Refused(refusals::refuse(TOO_MANY_FAULTS));
-    if settled.count == 0 {
-        return none;
-    }
-    answer_writer::put_answer(
+    let outcome = outcomes::conclude(
         settled.count as u8,
         settled.estimate,
         settled.value,
@@ -59,7 +53,10 @@ fn settle_in(
         &*values,
         answer,
     );
-    Settled::Granted(size)
+    match outcome {
+        Screened::Refused(r) => Settled::Refused(r),
+        Screened::Passed => Settled::Granted(sheet_sizes::answer_length(settings.n)),
+    }
 }
 
 // Settles a sheet that passes checks 1 to 9.

@@ -1,4 +1,4 @@
-// Document 01, "The round sheet": the row accessor and the reader.
+// Document 01, "The round sheet": the reader.
 ghost use mathlib.Core.Path.{_≡_};
 ghost use Prim.Native.Nat.{_+_, _*_, _≤_};
 ghost use lib.ListN.{length};
@@ -6,22 +6,11 @@ ghost use mir.Syntax.{w32};
 ghost use mir.Val.{toZ};
 ghost use Rattle.arithmetic.specs.Writing.{table, overwrite};
 ghost use Rattle.model.specs.RoundSheet.{word, bitsAt, headerSize};
-ghost use Rattle.model.specs.Calls.{row, read};
+ghost use Rattle.model.specs.Calls.{read};
 ghost use Rattle.sheet_reader.specs.Answers.{readOf};
 use model::HEADER_SIZE;
 use sheet_checks::Opened;
 use tick::Tick;
-
-// The part of the sheet that holds cabinet r's readings. It is empty for a sheet that checks 1 to 6, 8 or 9 refuse,
-// and from cabinet N on.
-pub fn row(sheet: &[u8], r: usize) -> &[u8]
-    ensures { λ part. ⌜ now part ≡ row (now (sheet .entry)) r ⌝ }
-{
-    let Opened::Granted(settings) = sheet_checks::validate(sheet) else {
-        return &sheet[..0];
-    };
-    rows::row_part(sheet, settings, r)
-}
 
 // The reading whose four bytes start at byte i.
 fn reading_at(sheet: &[u8], i: usize) -> i32

@@ -57,7 +57,7 @@ fn show_row(vector: &[u8]) {
     }
     let high = words::word_at(vector, 5) as usize;
     let r = 4_294_967_296 * high + (words::word_at(vector, 1) as usize);
-    let part = sheet_reader::row(&vector[9..], r);
+    let part = row_reader::row(&vector[9..], r);
     vectors::bytes(b"  row", part, 0, part.len());
     vectors::end();
 }

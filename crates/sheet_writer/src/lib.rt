@@ -28,7 +28,7 @@ fn put_sizes(settings: Settings, buffer: &mut [u8])
     buffer[1] = settings.m;
     buffer[2] = settings.rule;
     buffer[3] = settings.estimator;
-    words::put_word(buffer, 4, settings.window);
+    word_writer::put_word(buffer, 4, settings.window);
 }
 
 // Stores readings of four bytes each, from byte 0 on.
@@ -39,7 +39,7 @@ fn put_readings(readings: &[i32], buffer: &mut [u8])
     let mut e: usize = 0;
     'entries: while e < readings.len() {
         let tick = Tick(readings[e]);
-        words::put_word(buffer, 4 * e, tick.to_bits());
+        word_writer::put_word(buffer, 4 * e, tick.to_bits());
         e += 1;
     }
 }

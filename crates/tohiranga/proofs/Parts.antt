@@ -17,8 +17,9 @@ use Rattle.model.specs.Calls.{verdict, row}
 use Rattle.sheet_laws.proofs.Inspection.{Validated, validated}
 use Rattle.sheet_laws.proofs.Outcomes.{row-refused}
 use Rattle.sheet_laws.proofs.Shown.{row-part, row-empty}
-use Rattle.packing.specs.Answers.{upperHalf, lowerHalf, packedRow, partIn}
-use Rattle.packing.proofs.Rows.{empty-packed, row-few, row-ends, shown-packed}
+use Rattle.packed_refusals.specs.Answers.{upperHalf, lowerHalf}
+use Rattle.packed_rows.specs.Answers.{packedRow, partIn}
+use Rattle.packed_rows.proofs.Rows.{empty-packed, row-few, row-ends, shown-packed}
 use Rattle.tohiranga.specs.Statements.{RowNamed}
 use Rattle.tohiranga.proofs.Halves.{upper-back, lower-back}
 

@@ -41,7 +41,8 @@ use Rattle.planner_laws.proofs.Checks.{none-may-start, none-may-step}
 use Rattle.planner_laws.proofs.Rounds.{rounds-after}
 use Rattle.answer_reader.specs.Fields.{answerChecks, cabinetChecks, cabinetsIn, countIn, estimateIn}
 use Rattle.answer_reader.specs.Fields.{valueIn, markIn, usedIn}
-use Rattle.packing.specs.Answers.{packedRefusal, packed, openingOf, planningOf}
+use Rattle.packed_refusals.specs.Answers.{packedRefusal, packed}
+use Rattle.packed_records.specs.Answers.{openingOf, planningOf}
 use Rattle.tohiranga.specs.Statements.{Refuses, AnswerTells, FieldsTell, GrantsBelow}
 use Rattle.tohiranga.proofs.Halves.{upper-back, lower-back}
 

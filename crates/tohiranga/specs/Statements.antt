@@ -17,8 +17,9 @@ use Rattle.model.specs.RoundSheet.{byte}
 use Rattle.model.specs.Planner.{Plan}
 use Rattle.model.specs.Calls.{Verdict, granted, refused, read, write, row, settle, plan, step}
 use Rattle.answer_reader.specs.Fields.{cabinetsIn, countIn, estimateIn, valueIn, markIn, usedIn}
-use Rattle.packing.specs.Answers.{upperHalf, lowerHalf, packed, openingOf, planningOf}
-use Rattle.packing.specs.Answers.{packedRow, partIn, TargetPacked}
+use Rattle.packed_refusals.specs.Answers.{upperHalf, lowerHalf, packed, TargetPacked}
+use Rattle.packed_records.specs.Answers.{openingOf, planningOf}
+use Rattle.packed_rows.specs.Answers.{packedRow, partIn}
 
 -- "Any other answer is a refusal, number * 2^32 + place; tohiranga_number and tohiranga_place take it apart"
 pub record Refuses (r : Refusal) (answer : ℕ) : Type 0 where

@@ -3,7 +3,7 @@
 ghost use mathlib.Core.Path.{_≡_};
 ghost use Rattle.answer_reader.specs.Fields.{cabinetsIn, countIn, estimateIn, valueIn, markIn, usedIn};
 ghost use Rattle.version.specs.Version.{versionNumber};
-ghost use Rattle.packing.specs.Answers.{packed};
+ghost use Rattle.packed_refusals.specs.Answers.{packed};
 
 // N.
 #[no_mangle]

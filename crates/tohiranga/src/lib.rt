@@ -2,10 +2,12 @@
 ghost use mathlib.Core.Path.{_≡_};
 ghost use Rattle.model.specs.Calls.{settle, read, write, plan, step};
 ghost use Rattle.planner.specs.Answers.{planOf};
-ghost use Rattle.packing.specs.Answers.{packed, openingOf, planningOf, packedRow, TargetPacked};
+ghost use Rattle.packed_refusals.specs.Answers.{packed, TargetPacked};
+ghost use Rattle.packed_records.specs.Answers.{openingOf, planningOf};
+ghost use Rattle.packed_rows.specs.Answers.{packedRow};
 use model::Settings;
-use packing::Opening;
-use packing::Planning;
+use packed_records::Opening;
+use packed_records::Planning;
 use planner::Plan;
 
 mod answers;
@@ -30,7 +32,7 @@ pub extern "C" fn tohiranga_read(sheet: &[u8], marks: &mut [u8], readings: &mut 
     ensures { λ _.
         ⌜ now (readings .exit) ≡ read (now (sheet .entry)) (now (marks .entry)) (now (readings .entry)) .readings ⌝ }
 {
-    packing::pack_opened(sheet_reader::read(sheet, marks, readings))
+    packed_records::pack_opened(sheet_reader::read(sheet, marks, readings))
 }
 
 // Writes a round sheet. The answer is the sheet's length.
@@ -55,7 +57,7 @@ pub extern "C" fn tohiranga_write(
 pub extern "C" fn tohiranga_plan(settings: Settings, accuracy: u32, rounds: u32) -> Planning
     ensures { λ r. ⌜ r ≡ planningOf (plan settings accuracy rounds) ⌝ }
 {
-    packing::pack_planned(planner::plan_for(settings, accuracy, rounds))
+    packed_records::pack_planned(planner::plan_for(settings, accuracy, rounds))
 }
 
 // The plan one round on. The answer is the rounds done.
@@ -63,7 +65,7 @@ pub extern "C" fn tohiranga_plan(settings: Settings, accuracy: u32, rounds: u32)
 pub extern "C" fn tohiranga_step(plan: Plan) -> Planning
     ensures { λ r. ⌜ r ≡ planningOf (step (planOf plan)) ⌝ }
 {
-    packing::pack_planned(plan.step())
+    packed_records::pack_planned(plan.step())
 }
 
 // A count of at most 32 rounds whose window is at or below the target. Which of those that fit is not promised.
@@ -79,5 +81,5 @@ pub extern "C" fn tohiranga_target(settings: Settings, accuracy: u32, target: u3
 pub extern "C" fn tohiranga_row(sheet: &[u8], cabinet: u32) -> u64
     ensures { λ r. ⌜ r ≡ packedRow (now (sheet .entry)) cabinet ⌝ }
 {
-    packing::pack_row(sheet, cabinet)
+    packed_rows::pack_row(sheet, cabinet)
 }

@@ -1,7 +1,7 @@
 -- The checks before the entries in their order; and what it means that none refuses.
 -- Assumes nothing.
 use mathlib.Core.Bool.{Bool, false, not, _||_}
-use mathlib.Core.List.{List, [], _∷_, _++_}
+use mathlib.Core.List.{List, [], _∷_}
 use mathlib.Core.Option.{none}
 use mathlib.Core.Path.{_≡_, sym, ap, _∙_}
 use Prim.Native.Nat.{ℕ, _*_, _≤_}
@@ -9,7 +9,6 @@ use borrow.Author.Tests.{ltb-false, eqb-true, not-false}
 use lib.Dec.{ltb, eqb}
 use lib.ListN.{length}
 use Rattle.arithmetic.proofs.Bools.{or-left, or-right}
-use Rattle.model.specs.declared.Settings.{Settings}
 use Rattle.model.specs.RoundSheet.{fca, settingsAt}
 use Rattle.model.specs.Planner.{maxRounds}
 use Rattle.model.specs.Refusals.{Check, orNext, firstOf, tooShort, settingsChecks, noRoom, badTraceNumber, noRoomNumber}

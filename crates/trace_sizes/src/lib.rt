@@ -1,4 +1,5 @@
-// Document 02, "Paper 1. Replay of a station run": how many entries a trace has, where its arrays begin, and its length.
+// Document 02, "Paper 1. Replay of a station run": how many entries a trace has, where its arrays begin, and its
+// length.
 ghost use mathlib.Core.Path.{_≡_};
 ghost use Prim.Native.Nat.{_+_, _*_};
 ghost use Rattle.run.specs.Trace.{traceHeaderSize, traceEntries, traceLength};

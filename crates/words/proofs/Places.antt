@@ -1,15 +1,11 @@
--- Four bytes at a place: read past the end, and stored where they fit or not.
+-- Four bytes read past the end.
 -- Assumes nothing.
-use mathlib.Core.List.{List, [], _∷_, append-assoc}
-use mathlib.Core.Path.{_≡_, _∙_}
-use Prim.Native.Nat.{ℕ, _+_, _/_, _%_, _≤_, _<_}
-use native.Mathlib.Numerals.{add-one, add-two, add-three}
+use mathlib.Core.List.{List}
+use mathlib.Core.Path.{_≡_}
+use Prim.Native.Nat.{ℕ, _+_, _≤_}
 use native.Mathlib.Omega.{arith}
-use borrow.Author.Tests.{le-leb, lt-leb}
-use lib.ListN.{length, take, drop, set, List·getD-eq-default}
-use lib.Seq.{sets-eq}
-use Rattle.model.specs.RoundSheet.{word, bytes4}
-use Rattle.sheet_laws.specs.Storing.{putWord}
+use lib.ListN.{length, List·getD-eq-default}
+use Rattle.model.specs.RoundSheet.{word}
 
 -- past the end every byte is 0
 pub word-past : (s : List ℕ) (i : ℕ) → length s ≤ i → word s i ≡ 0
@@ -23,19 +19,3 @@ word-past s i h =
   where
     over : (k : ℕ) → length s ≤ i + k
     over k = omega arith
-
-module _ (b : List ℕ) (i x : ℕ) where
-  pub put-word-fits :
-      i + 4 ≤ length b
-      → set (set (set (set b i (x % 256)) (i + 1) (x / 256 % 256)) (i + 2) (x / 65536 % 256)) (i + 3)
-      (x / 16777216 % 256) ≡ putWord b i x
-  unfolding putWord bytes4
-  put-word-fits h =
-      rw (add-one, add-two, add-three, le-leb (i + 4) (length b) h)
-      (sets-eq (x % 256 ∷ x / 256 % 256 ∷ x / 65536 % 256 ∷ x / 16777216 % 256 ∷ []) b i h
-      ∙ append-assoc (take i b) (x % 256 ∷ x / 256 % 256 ∷ x / 65536 % 256 ∷ x / 16777216 % 256 ∷ [])
-      (drop (i + 4) b))
-
-  pub put-word-past : length b < i + 4 → putWord b i x ≡ b
-  unfolding putWord
-  put-word-past h = rw (lt-leb (i + 4) (length b) h)

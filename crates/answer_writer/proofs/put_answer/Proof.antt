@@ -6,7 +6,7 @@ use borrow.Author.Tests.{not-true, not-false}
 use mathlib.Core.Bool.{true}
 use mathlib.Core.Path.{_≡_, sym, _∙_}
 use lib.ListN.{length}
-use Rattle.answer_writer.specs.Answers.{roomy}
+use Rattle.answer_parts.specs.Parts.{roomy}
 use Rattle.answer_writer.proofs.Bytes.{room-few, room-alike, room-large, written, unwritten}
 use Rattle.answer_writer.proofs.put_answer.Statement.{statement}
 use Rattle.answer_writer.proofs.put_answer.Tie as tie

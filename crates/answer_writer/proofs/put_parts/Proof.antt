@@ -2,6 +2,7 @@
 -- the answer sheet.
 -- Assumes nothing.
 use borrow.Author.Needs.{needs}
+use native.Mathlib.Omega.{arith}
 use Rattle.answer_writer.proofs.Bytes.{answer-written}
 use Rattle.answer_writer.proofs.put_parts.Statement.{statement}
 use Rattle.answer_writer.proofs.put_parts.Tie as tie
@@ -55,7 +56,8 @@ returns c =
     let headed = copied .before .before .before .before in
     let value = headed .before .before in
     let estimate = value .before in
-    let a = estimate .before .before .before .before .args in
+    let s = estimate .before .before .before .before in
+    let a = s .args in
     let e = estimate .unbias in
     let v = value .unbias2 in
     let h = headed .put-header in
@@ -68,6 +70,7 @@ returns c =
     (h .last .1 .1 .1 .1 .0)
     (m .last .1 .0)
     (u .last .1 .1 .1 .0)
+    (omega (arith, s .pre .1))
     (h .ensures)
     (m .ensures .1)
     (u .ensures)

@@ -58,7 +58,7 @@ sends-tested st told relays e =
 -- ---- the good set
 
 -- a test that no index fails
-tested :
+pub tested :
     (p q : ℕ → Bool) (n : ℕ) → anyBelow (λ i. p i && not (q i)) n ≡ false → (i : ℕ) → i < n → p i ≡ true
     → q i ≡ true
 tested p q n e i l h = go (q i) refl
@@ -86,7 +86,7 @@ module _ (st : Station) (good : ℕ → Bool) (truth : ℤ) where
   abbrev pub amiss : Bool
   amiss = anyBelow (λ p. good p && not (fine p)) (N st)
 
-  good-tested : amiss ≡ false → Good st good truth
+  pub good-tested : amiss ≡ false → Good st good truth
   good-tested e =
       record {
         sound = λ p l g. and-left (st .sound p) _ (is-fine p l g);

@@ -2,13 +2,14 @@
 -- the other places are as they were. The measure is what is left of the senders.
 -- Assumes nothing.
 use borrow.Author.Needs.{needs}
-use Prim.Native.Nat.{ℕ, _+_, _*_, _-_, _≤_, _<_}
+use mathlib.Core.Path.{ap, _∙_}
+use Prim.Native.Nat.{ℕ, _*_, _-_, _<_}
 use native.Mathlib.Omega.{arith}
 use lib.Arith.{digits-lt}
 use lib.ListN.{length, getD}
-use Rattle.reception.proofs.Storing.{Storing, begin, store, ended}
-use Rattle.hearing.specs.Heard.{heardFrom}
-use Rattle.hearing.proofs.Audible.{few-pairs}
+use Rattle.held.specs.Held.{heldMark, heldValue}
+use Rattle.held_laws.proofs.Storing.{Storing, begin, store, ended}
+use Rattle.hearing.specs.Heard.{spoken, heardFrom}
 use Rattle.hearing.proofs.hear_each.Statement.{statement}
 use Rattle.hearing.proofs.hear_each.Tie as tie
 
@@ -19,22 +20,18 @@ Inv-senders roles held sent readings p marks₀ values₀ n r₀ marks values r 
 abbrev μ-senders : tie.MeasureT-senders
 μ-senders roles held sent readings p marks₀ values₀ n r₀ marks values r = length roles - r
 
--- the call, from the place where a sender's entry is asked for
+-- the call, from the place where an entry's number is asked for
 abbrev call : tie.After-shared-slice-known6 Inv-senders μ-senders → tie.Start Inv-senders μ-senders
 call c = c .before .before .before .before .before .before .before .before .before .before
 
--- the entry is one of the round's, of which there are few
+-- the entry is one of the round's
 entry-lies :
-    (c : tie.After-shared-slice-known6 Inv-senders μ-senders)
-    → let n = length (call c .args .roles .now) in
-    c .before .before .before .senders .r * n + call c .args .p < n * n
-entry-lies c = digits-lt (c .before .before .senders-test .taken) (call c .pre .0 .1)
-
-pairs :
-    (c : tie.After-shared-slice-known6 Inv-senders μ-senders)
-    → let n = length (call c .args .roles .now) in
-    n * n ≤ 4096
-pairs c = few-pairs (length (call c .args .roles .now)) (call c .pre .0 .0)
+    (c : tie.After-entry-number Inv-senders μ-senders)
+    → let n = length (call (c .before) .args .roles .now) in
+    c .entry-number .result < n * n
+entry-lies c =
+    rw (c .entry-number .ensures)
+    (digits-lt (c .before .before .before .senders-test .taken) (call (c .before) .pre .0 .1))
 
 senders-holds : tie.Need-senders-holds Inv-senders μ-senders
 senders-holds c =
@@ -51,15 +48,14 @@ mul-hear-one c = search needs
 shared-slice-read-hear-one-2 : tie.Need-shared-slice-read-hear-one-2 Inv-senders μ-senders
 shared-slice-read-hear-one-2 c = search needs
 
-mul-hear-one-2 : tie.Need-mul-hear-one-2 Inv-senders μ-senders
-mul-hear-one-2 c = omega (arith, entry-lies c, pairs c)
-
-add-hear-one : tie.Need-add-hear-one Inv-senders μ-senders
-add-hear-one c = omega (arith, entry-lies c, pairs c)
+entry-number-requires : tie.Need-entry-number-requires Inv-senders μ-senders
+entry-number-requires c κs =
+    let s = call c in
+    (s .pre .0 .0, c .before .before .senders-test .taken, s .pre .0 .1)
 
 hear-one-requires : tie.Need-hear-one-requires Inv-senders μ-senders
 hear-one-requires c κs =
-    let s = call c in
+    let s = call (c .before) in
     (omega (arith, entry-lies c, s .pre .1 .1 .0), s .pre .1 .1 .1 .0)
 
 slice-write-marks : tie.Need-slice-write-marks Inv-senders μ-senders
@@ -79,22 +75,27 @@ senders-less c = search needs
 
 senders-again : tie.Need-senders-again Inv-senders μ-senders
 senders-again c =
-    let s = call (c .before) in
+    let numbered = c .before in
+    let s = call (numbered .before) in
     let a = s .args in
-    let turn = c .before .before .before .before in
+    let turn = numbered .before .before .before .before in
+    let role = getD (a .roles .now) (turn .senders .r) 0 in
+    let value = getD (a .held .now) (turn .senders .r) 0 in
+    let spoke =
+    ap (spoken role value (a .sent .now) (a .readings .now)) (numbered .entry-number .ensures) in
     store (heardFrom (a .roles .now) (a .held .now) (a .sent .now) (a .readings .now) (a .p)) (length (a .roles .now))
     (a .marks .now) (a .values .now)
     (turn .senders .marks)
     (turn .senders .values)
     (turn .senders .r)
     (turn .senders .inv)
-    (c .before .before .before .senders-test .taken)
+    (numbered .before .before .before .senders-test .taken)
     (s .pre .1 .1 .1 .1 .0)
     (s .pre .1 .1 .1 .1 .1)
     (c .hear-one .result .mark)
     (c .hear-one .result .value)
-    (c .hear-one .ensures .0)
-    (c .hear-one .ensures .1)
+    (c .hear-one .ensures .0 ∙ ap heldMark spoke)
+    (c .hear-one .ensures .1 ∙ ap heldValue spoke)
 
 same-length : tie.Need-same-length Inv-senders μ-senders
 same-length c = search needs
@@ -123,8 +124,7 @@ hear-each-spec =
     shared-slice-read-hear-one
     mul-hear-one
     shared-slice-read-hear-one-2
-    mul-hear-one-2
-    add-hear-one
+    entry-number-requires
     hear-one-requires
     slice-write-marks
     mul-values

@@ -1,15 +1,14 @@
--- `limits::limits_for` meets its contract: a refusal of the planner stands, and else `bound` answers.
+-- `limits::limits_for` meets its contract: a refusal of the planner's checks stands, and else `bound` answers.
 -- Assumes nothing.
 use borrow.Author.Needs.{needs}
 use mathlib.Core.Path.{sym, ap, _∙_}
-use Rattle.planner.specs.Answers.{plannedOf}
-use Rattle.planner_laws.proofs.Steps.{plan-granted-check, plan-refused-check}
+use Rattle.refusals.specs.Answers.{checkOf}
 use Rattle.limits.proofs.Stating.{stated-refused, stated-bounds}
 use Rattle.limits.proofs.limits_for.Statement.{statement}
 use Rattle.limits.proofs.limits_for.Tie as tie
 
-plan-for-requires : tie.Need-plan-for-requires
-plan-for-requires c κs = search needs
+check-start-requires : tie.Need-check-start-requires
+check-start-requires c κs = search needs
 
 enum-known-refusal : tie.Need-enum-known-refusal
 enum-known-refusal c = search needs
@@ -18,18 +17,14 @@ enum-told : tie.Need-enum-told
 enum-told c = search needs
 
 bound-requires : tie.Need-bound-requires
-bound-requires c κs =
-    let a = c .before .before .before .args in
-    plan-granted-check (a .settings) (a .accuracy) 0
-    (sym (ap plannedOf (c .enum-told .given .1)) ∙ c .before .before .plan-for .ensures)
-    .0
+bound-requires c κs = sym (c .before .before .check-start .ensures) ∙ ap checkOf (c .enum-told .given .1)
 
 returns : tie.Need-returns
 returns c =
-    let a = c .before .before .before .before .args in
+    let checked = c .before .before .before in
+    let a = checked .before .args in
     stated-refused (a .settings) (a .accuracy) (a .t)
-    (plan-refused-check (a .settings) (a .accuracy) 0
-    (sym (ap plannedOf (c .before .refusal .given .1)) ∙ c .before .before .before .plan-for .ensures))
+    (sym (checked .check-start .ensures) ∙ ap checkOf (c .before .refusal .given .1))
 
 returns-2 : tie.Need-returns-2
 returns-2 c =
@@ -40,4 +35,4 @@ returns-2 c =
 pub limits-for-spec : {M : Type 1} → statement M
 limits-for-spec =
     tie.close
-    (tie.spec plan-for-requires enum-known-refusal enum-told bound-requires returns returns-2)
+    (tie.spec check-start-requires enum-known-refusal enum-told bound-requires returns returns-2)

@@ -93,9 +93,7 @@ add-t14 c =
     omega (arith, known (above .before) .accurate, above .nearest .ensures .1)
 
 is-reached-requires : tie.Need-is-reached-requires
-is-reached-requires c κs =
-    let k = known (c .before .before) in
-    (k .accurate, k .few)
+is-reached-requires c κs = search needs
 
 returns : tie.Need-returns
 returns c =

@@ -4,7 +4,7 @@ use borrow.Author.Needs.{needs}
 use mathlib.Core.Path.{sym, ap, _∙_}
 use Rattle.planner.specs.declared.Counted.{Counted}
 use Rattle.planner.specs.Answers.{countedOf}
-use Rattle.packing.specs.Answers.{packed}
+use Rattle.packed_refusals.specs.Answers.{packed}
 use Rattle.packing.proofs.pack_counted.Statement.{statement}
 use Rattle.packing.proofs.pack_counted.Tie as tie
 

@@ -4,7 +4,7 @@ use borrow.Author.Needs.{needs}
 use mathlib.Core.Path.{sym, ap, _∙_}
 use Rattle.sheet_writer.specs.declared.Filled.{Filled}
 use Rattle.sheet_writer.specs.Answers.{filledOf}
-use Rattle.packing.specs.Answers.{packed}
+use Rattle.packed_refusals.specs.Answers.{packed}
 use Rattle.packing.proofs.pack_filled.Statement.{statement}
 use Rattle.packing.proofs.pack_filled.Tie as tie
 

@@ -4,7 +4,7 @@ use borrow.Author.Needs.{needs}
 use mathlib.Core.Path.{sym, ap, _∙_}
 use Rattle.settling.specs.declared.Settled.{Settled}
 use Rattle.settling.specs.Answers.{settledOf}
-use Rattle.packing.specs.Answers.{packed}
+use Rattle.packed_refusals.specs.Answers.{packed}
 use Rattle.packing.proofs.pack_settled.Statement.{statement}
 use Rattle.packing.proofs.pack_settled.Tie as tie
 

@@ -4,7 +4,7 @@ use borrow.Author.Needs.{needs}
 use mathlib.Core.Path.{sym, ap, _∙_}
 use Rattle.answer_reader.specs.declared.Shown.{Shown}
 use Rattle.answer_reader.specs.Fields.{shownOf}
-use Rattle.packing.specs.Answers.{packed}
+use Rattle.packed_refusals.specs.Answers.{packed}
 use Rattle.packing.proofs.pack_shown.Statement.{statement}
 use Rattle.packing.proofs.pack_shown.Tie as tie
 

@@ -25,7 +25,7 @@ sheet-length-requires c κs = search needs
 returns : tie.Need-returns
 unfolding fitting
 returns c =
-    let a = c .before .before .before .args in
+    let a = c .before .before .before .before .args in
     let n = a .settings .n in
     let few = leb n maxCabinets && ltb (2 * a .settings .m) n in
     ap (λ (long : ℕ). few && (eqb (a .sheet) long && (eqb (a .marks) n && eqb (a .values) n)))

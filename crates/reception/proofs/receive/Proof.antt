@@ -9,7 +9,7 @@ use native.Mathlib.Omega.{arith}
 use lib.ListN.{length}
 use Rattle.model.specs.RoundSheet.{cca}
 use Rattle.reception.specs.Receiving.{fitting}
-use Rattle.reception.proofs.Sheets.{Fit, fit, entries-relayed, entries-direct, marks-long, row-long}
+use Rattle.reception.proofs.Sheets.{Fit, fit, entries-relayed, entries-direct}
 use Rattle.reception.proofs.Sheets.{direct-filled, relayed-filled, marks-fit, values-fit, marks-not, values-not}
 use Rattle.reception.proofs.receive.Statement.{statement}
 use Rattle.reception.proofs.receive.Tie as tie
@@ -52,64 +52,50 @@ returns c =
 sub-need : tie.Need-sub-need
 sub-need c = let f = fit-here (c .before .before .before) in omega (arith, f .few)
 
-cast-receive-relayed : tie.Need-cast-receive-relayed
-cast-receive-relayed c = search needs
+cast-receive-decided : tie.Need-cast-receive-decided
+cast-receive-decided c = search needs
 
-receive-relayed-requires : tie.Need-receive-relayed-requires
-receive-relayed-requires c κs =
-    let cca-here = c .before .before .before in
-    let c0 = cca-here .before .before in
-    let f = fit-here c0 in
-    let a = call (c0 .before) .args in
-    let e = entries-relayed (a .settings) (eq-eqb (a .settings .rule) cca (cca-here .if2 .taken)) in
-    ((f .small, omega (arith, f .long)), (omega (arith, f .markRoom), omega (arith, f .valueRoom)))
+receive-decided-requires : tie.Need-receive-decided-requires
+receive-decided-requires c κs = search needs
 
 add-end : tie.Need-add-end
 add-end c = search needs
 
-sub-receive-direct : tie.Need-sub-receive-direct
-sub-receive-direct c = search needs
+sub-receive-sent : tie.Need-sub-receive-sent
+sub-receive-sent c = search needs
 
-part-receive-direct-start : tie.Need-part-receive-direct-start
-part-receive-direct-start c = search needs
+part-receive-sent-start : tie.Need-part-receive-sent-start
+part-receive-sent-start c = search needs
 
-part-receive-direct-end : tie.Need-part-receive-direct-end
-part-receive-direct-end c =
+part-receive-sent-end : tie.Need-part-receive-sent-end
+part-receive-sent-end c =
     let f = fit-here (c .before .before) in
     let a = call (c .before .before .before) .args in
     let e = entries-direct (a .settings) (ne-eqb (a .settings .rule) cca (c .if2 .left)) in
     omega (arith, f .long, f .small)
 
-mul-receive-direct : tie.Need-mul-receive-direct
-mul-receive-direct c = search needs
+mul-receive-sent : tie.Need-mul-receive-sent
+mul-receive-sent c = search needs
 
-add-receive-direct : tie.Need-add-receive-direct
-add-receive-direct c = search needs
+add-receive-sent : tie.Need-add-receive-sent
+add-receive-sent c = search needs
 
-sub-receive-direct-2 : tie.Need-sub-receive-direct-2
-sub-receive-direct-2 c = search needs
+sub-receive-sent-2 : tie.Need-sub-receive-sent-2
+sub-receive-sent-2 c = search needs
 
-part-receive-direct-start-2 : tie.Need-part-receive-direct-start-2
-part-receive-direct-start-2 c = search needs
+part-receive-sent-start-2 : tie.Need-part-receive-sent-start-2
+part-receive-sent-start-2 c = search needs
 
-part-receive-direct-end-2 : tie.Need-part-receive-direct-end-2
-part-receive-direct-end-2 c =
+part-receive-sent-end-2 : tie.Need-part-receive-sent-end-2
+part-receive-sent-end-2 c =
     let fca = c .before in
     let f = fit-here (fca .before .before) in
     let a = call (fca .before .before .before) .args in
     let e = entries-direct (a .settings) (ne-eqb (a .settings .rule) cca (fca .if2 .left)) in
     omega (arith, f .long, f .small)
 
-receive-direct-requires : tie.Need-receive-direct-requires
-receive-direct-requires c κs =
-    let fca = c .before .before .before .before in
-    let f = fit-here (fca .before .before) in
-    let a = call (fca .before .before .before) .args in
-    let e = entries-direct (a .settings) (ne-eqb (a .settings .rule) cca (fca .if2 .left)) in
-    let l = marks-long (a .sheet .now) (a .settings .n) (omega (arith, f .long)) in (
-      (omega (arith, f .small), row-long (a .sheet .now) (a .settings .n) (omega (arith, f .long))),
-      (omega (arith, f .markRoom), omega (arith, f .valueRoom)),
-    )
+receive-sent-requires : tie.Need-receive-sent-requires
+receive-sent-requires c κs = search needs
 
 same-length : tie.Need-same-length
 same-length c = search needs
@@ -127,7 +113,7 @@ returns-2 c =
     let yes = fits-here passed in
     let rule = eq-eqb (a .settings .rule) cca (cca-here .if2 .taken) in
     let e = entries-relayed (a .settings) rule in
-    let r = relayed .receive-relayed in
+    let r = relayed .receive-decided in
     let marks = r .last .1 .1 .1 .0 in
     let values = r .last .1 .1 .1 .1 .0 in
     let filled =
@@ -161,7 +147,7 @@ returns-3 c =
     let yes = fits-here passed in
     let rule = ne-eqb (a .settings .rule) cca (fca .if2 .left) in
     let e = entries-direct (a .settings) rule in
-    let r = direct .receive-direct in
+    let r = direct .receive-sent in
     let marks = r .last .1 .1 .0 in
     let values = r .last .1 .1 .1 .0 in
     let filled =
@@ -185,18 +171,18 @@ receive-spec =
     fits-requires
     returns
     sub-need
-    cast-receive-relayed
-    receive-relayed-requires
+    cast-receive-decided
+    receive-decided-requires
     add-end
-    sub-receive-direct
-    part-receive-direct-start
-    part-receive-direct-end
-    mul-receive-direct
-    add-receive-direct
-    sub-receive-direct-2
-    part-receive-direct-start-2
-    part-receive-direct-end-2
-    receive-direct-requires
+    sub-receive-sent
+    part-receive-sent-start
+    part-receive-sent-end
+    mul-receive-sent
+    add-receive-sent
+    sub-receive-sent-2
+    part-receive-sent-start-2
+    part-receive-sent-end-2
+    receive-sent-requires
     same-length
     same-length-2
     returns-2

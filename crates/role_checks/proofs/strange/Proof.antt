@@ -1,5 +1,5 @@
--- `role_checks::strange` meets its contract. The loop's invariant: the flag says whether one of those passed is such. The
--- measure is what is left of the roles.
+-- `role_checks::strange` meets its contract. The loop's invariant: the flag says whether one of the roles passed is
+-- above 1. The measure is what is left of the roles.
 -- Assumes nothing.
 use borrow.Author.Needs.{needs}
 use mathlib.Core.Path.{_≡_}

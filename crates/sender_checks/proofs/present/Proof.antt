@@ -1,5 +1,5 @@
--- `sender_checks::present` meets its contract. The loop's invariant: the flag says whether one of those passed is such. The
--- measure is what is left of the marks.
+-- `sender_checks::present` meets its contract. The loop's invariant: the flag says whether one of the marks passed is 1.
+-- The measure is what is left of the marks.
 -- Assumes nothing.
 use borrow.Author.Needs.{needs}
 use mathlib.Core.Path.{_≡_}

@@ -1,5 +1,5 @@
--- `sender_checks::sound_sent` meets its contract. The loop's invariant: the flag says whether a sound sender's mark among
--- those passed is 1, and the row that comes is the sender's. The measure is what is left of the marks.
+-- `sender_checks::sound_sent` meets its contract. The loop's invariant: the flag says whether a sound sender's mark
+-- among those passed is 1, and the row that comes is the sender's. The measure is what is left of the marks.
 -- Assumes nothing.
 use borrow.Author.Needs.{needs}
 use mathlib.Core.Path.{_≡_, refl}

@@ -2,25 +2,27 @@
 -- on and written is the sheet's, and none is where nothing is accepted.
 -- Assumes nothing.
 use borrow.Author.Needs.{needs}
-use mathlib.Core.List.{List}
-use mathlib.Core.Path.{ap, ap₂, _∙_}
+use mathlib.Core.Path.{sym, ap, _∙_}
 use Prim.Native.Nat.{ℕ}
-use Rattle.model.specs.declared.Refusal.{Refusal}
 use Rattle.model.specs.Ensemble.{quorum}
+use Rattle.refusals.specs.Answers.{checkOf}
 use Rattle.agreement.specs.Values.{agreedOf, agreedMarks}
 use Rattle.settling.specs.Answers.{settlingOf}
-use Rattle.settling.specs.declared.Settled.the-variants.{Granted, Refused}
+use Rattle.settling.specs.declared.Settled.the-variants.{Granted}
 use Rattle.settling.proofs.Settling.{CallsLeave, refuses, settles, few-faults}
 use Rattle.settling.proofs.settle_in.Statement.{statement}
 use Rattle.settling.proofs.settle_in.Tie as tie
 
--- ---- places: the call, the readings received, the round agreed on
+-- ---- places: the call, the readings received, the round agreed on, its outcome
 
 abbrev call : tie.After-receive → tie.Start
 call c = c .before .before .before .before .before .before .before
 
 abbrev received : tie.After-agree → tie.After-receive
 received c = c .before .before .before .before .before .before .before .before .before
+
+abbrev agreed : tie.After-conclude → tie.After-agree
+agreed c = c .before .before .before .before .before .before .before
 
 -- what the calls leave
 left :
@@ -68,11 +70,20 @@ cast-agree c = search needs
 agree-requires : tie.Need-agree-requires
 agree-requires c κs = search needs
 
+cast-conclude : tie.Need-cast-conclude
+cast-conclude c = search needs
+
+conclude-requires : tie.Need-conclude-requires
+conclude-requires c κs = search needs
+
+enum-known-outcome : tie.Need-enum-known-outcome
+enum-known-outcome c = search needs
+
+enum-told : tie.Need-enum-told
+enum-told c = search needs
+
 answer-length-requires : tie.Need-answer-length-requires
 answer-length-requires c κs = search needs
-
-refuse-requires : tie.Need-refuse-requires
-refuse-requires c κs = search needs
 
 same-length : tie.Need-same-length
 same-length c = search needs
@@ -80,29 +91,27 @@ same-length c = search needs
 same-length-2 : tie.Need-same-length-2
 same-length-2 c = search needs
 
-returns : tie.Need-returns
-returns c =
-    let refused = c .before .before in
-    let agreed = refused .before .before .before .before in
-    let s = call (received agreed) in
-    let a = s .args in
-    let r = received agreed .receive .last in
-    ap (λ (f : Refusal). settlingOf (Refused f) (a .answer .now)) (refused .refuse .ensures)
-    ∙ refuses (a .sheet .now) (a .settings) (a .answer .now) (s .pre .0) (a .marks .now) (a .values .now) (r .1 .1 .0)
-    (r .1 .1 .1 .0)
-    (agreed .agree .last .0)
-    (agreed .agree .result)
-    (left agreed)
-    (c .if1 .taken)
-
-cast-put-answer : tie.Need-cast-put-answer
-cast-put-answer c = search needs
-
-put-answer-requires : tie.Need-put-answer-requires
-put-answer-requires c κs = search needs
-
 same-length-3 : tie.Need-same-length-3
 same-length-3 c = search needs
+
+returns : tie.Need-returns
+returns c =
+    let told = c .before in
+    let concluded = told .before .before .before .before in
+    let a = call (received (agreed concluded)) .args in
+    let r = received (agreed concluded) .receive .last in
+    let out = concluded .conclude in
+    refuses (a .sheet .now) (a .settings) (a .answer .now) (call (received (agreed concluded)) .pre .0) (a .marks .now)
+    (a .values .now)
+    (r .1 .1 .0)
+    (r .1 .1 .1 .0)
+    (agreed concluded .agree .last .0)
+    (agreed concluded .agree .result)
+    (left (agreed concluded))
+    (out .last .1 .1 .1 .1 .1 .0)
+    (out .ensures .1)
+    (told .outcome .given .0 .0)
+    (sym (ap checkOf (told .outcome .given .1)) ∙ out .ensures .0)
 
 same-length-4 : tie.Need-same-length-4
 same-length-4 c = search needs
@@ -110,23 +119,28 @@ same-length-4 c = search needs
 same-length-5 : tie.Need-same-length-5
 same-length-5 c = search needs
 
+same-length-6 : tie.Need-same-length-6
+same-length-6 c = search needs
+
 returns-2 : tie.Need-returns-2
 returns-2 c =
-    let put = c .before .before in
-    let some = put .before .before .before .before .before in
-    let sized = some .before .before .before in
-    let agreed = sized .before .before .before in
-    let s = call (received agreed) in
-    let a = s .args in
-    let r = received agreed .receive .last in
-    ap₂ (λ (size : ℕ) (l : List ℕ). settlingOf (Granted size) l) (sized .answer-length .ensures)
-    (put .put-answer .ensures .1)
-    ∙ settles (a .sheet .now) (a .settings) (a .answer .now) (s .pre .0) (a .marks .now) (a .values .now) (r .1 .1 .0)
+    let told = c .before in
+    let concluded = told .before .before .before .before in
+    let a = call (received (agreed concluded)) .args in
+    let r = received (agreed concluded) .receive .last in
+    let out = concluded .conclude in
+    ap (λ (size : ℕ). settlingOf (Granted size) (out .last .1 .1 .1 .1 .1 .0)) (c .answer-length .ensures)
+    ∙ settles (a .sheet .now) (a .settings) (a .answer .now) (call (received (agreed concluded)) .pre .0)
+    (a .marks .now)
+    (a .values .now)
+    (r .1 .1 .0)
     (r .1 .1 .1 .0)
-    (agreed .agree .last .0)
-    (agreed .agree .result)
-    (left agreed)
-    (some .if1 .left)
+    (agreed concluded .agree .last .0)
+    (agreed concluded .agree .result)
+    (left (agreed concluded))
+    (out .last .1 .1 .1 .1 .1 .0)
+    (out .ensures .1)
+    (sym (ap checkOf (told .enum-told .given .1)) ∙ out .ensures .0)
 
 pub settle-in-spec : {M : Type 1} → statement M
 settle-in-spec =
@@ -137,14 +151,16 @@ settle-in-spec =
     span-width-requires
     cast-agree
     agree-requires
+    cast-conclude
+    conclude-requires
+    enum-known-outcome
+    enum-told
     answer-length-requires
-    refuse-requires
     same-length
     same-length-2
-    returns
-    cast-put-answer
-    put-answer-requires
     same-length-3
+    returns
     same-length-4
     same-length-5
+    same-length-6
     returns-2)

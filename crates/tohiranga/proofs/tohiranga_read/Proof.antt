@@ -3,7 +3,7 @@
 -- Assumes nothing.
 use borrow.Author.Needs.{needs}
 use mathlib.Core.Path.{ap, _∙_}
-use Rattle.packing.specs.Answers.{openingOf}
+use Rattle.packed_records.specs.Answers.{openingOf}
 use Rattle.tohiranga.proofs.tohiranga_read.Statement.{statement}
 use Rattle.tohiranga.proofs.tohiranga_read.Tie as tie
 

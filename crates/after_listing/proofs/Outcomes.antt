@@ -63,9 +63,10 @@ module _ (s : List ℕ) (k : ℕ) (buffer : List ℕ) where
       where
         none : afterListing s k ≡ []
         none =
-            rw
-            (le-ltb (roundsAt s) k early,
-            rw room at (replay-refused s values left k r (played (replayingOf (Refused r) left) e)))
+            rw (
+              le-ltb (roundsAt s) k early,
+              rw room at (replay-refused s values left k r (played (replayingOf (Refused r) left) e)),
+            )
 
     pub line-listed :
         (n : ℕ) → n ≡ byte s 0 → ((j : ℕ) → byte s j < 256)

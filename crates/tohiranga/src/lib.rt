@@ -11,7 +11,6 @@ use packed_records::Planning;
 use planner::Plan;
 
 mod answers;
-
 mod replays;
 
 // Settles a round sheet. The answer is the answer sheet's length.

@@ -25,7 +25,7 @@ cabinets-holds c =
     let args = c .before .before .before .args in (
       omega arith,
       rw (values-none (roleAt (args .trace .now)) (valueAt (args .values .now)))
-      (puts-none (args .text .now) (args .at)),
+          (puts-none (args .text .now) (args .at)),
     )
 
 add-passed : tie.Need-add-passed Inv-cabinets μ-cabinets

@@ -1,18 +1,16 @@
 -- What settling left in the answer buffer, or its refusal, has the listing as its text.
 -- Assumes nothing.
-use mathlib.Core.Bool.{Bool, true, false}
 use mathlib.Core.List.{List}
 use mathlib.Core.Option.{none}
-use mathlib.Core.Path.{_≡_, refl, sym, ap, ap₂, _∙_}
+use mathlib.Core.Path.{_≡_, sym, ap, ap₂, _∙_}
 use Prim.Native.Nat.{ℕ, _≤_, _<_, min}
 use native.Mathlib.Nat.{min-eq-left, min-eq-right, min-le-left, le-trans}
 use native.Mathlib.Decide.{decLe}
 use native.Mathlib.Omega.{arith}
 use borrow.Author.Tests.{le-ltb}
-use lib.Dec.{ltb, lit<, lit≤}
-use lib.ListN.{length, take, drop, length-append, length-take, length-drop, List·getD-eq-default}
+use lib.Dec.{lit<, lit≤}
+use lib.ListN.{length, take, length-take, List·getD-eq-default}
 use lib.Seq.{take-all, take-length, getD-take, length-take-le}
-use Rattle.arithmetic.specs.Writing.{overwrite}
 use Rattle.model.specs.declared.Refusal.{Refusal}
 use Rattle.model.specs.RoundSheet.{byte, settingsAt}
 use Rattle.model.specs.AnswerSheet.{answerLength}
@@ -23,7 +21,7 @@ use Rattle.sheet_laws.proofs.Outcomes.{refused-some, granted-none}
 use Rattle.settling.specs.declared.Settled.the-variants.{Granted, Refused}
 use Rattle.settling.specs.Answers.{settlingOf}
 use Rattle.text.specs.Text.{textIn, roundCapacity, refusalCapacity, roundWritten, refusalWritten}
-use Rattle.text.proofs.Texts.{text-shown}
+use Rattle.text.proofs.Texts.{text-shown, text-fits}
 use Rattle.text.proofs.Listings.{listing-refused, listing-settled}
 use Rattle.listing.specs.Listed.{listingIn}
 use Rattle.value_laws.proofs.Sheets.{settled-estimate, settled-value, settled-used}
@@ -111,24 +109,9 @@ unfolding listingIn
 listing-shown input buffer room = text-shown roundCapacity (listing input) buffer room
 
 -- a buffer that keeps its length holds the whole listing
-overwrite-fits : (new old : List ℕ) → length (overwrite new old) ≡ length old → length new ≤ length old
-unfolding overwrite
-overwrite-fits new old same =
-    let whole = length-append new (drop (length new) old) in
-    let rest = length-drop (length new) old in
-    omega arith
-
 pub listing-fits : (input buffer new : List ℕ) (size : ℕ) → size ≡ listingIn input buffer .size
     → new ≡ listingIn input buffer .buffer
     → length new ≡ length buffer
     → size ≤ length new
 unfolding listingIn
-listing-fits input buffer new size answered written same = go (ltb (length buffer) roundCapacity) refl
-  where
-    go : (short : Bool) → ltb (length buffer) roundCapacity ≡ short → size ≤ length new
-    go true e = let none : size ≡ 0 = rw e at answered in omega arith
-    go false e =
-        let all : size ≡ length (listing input) = rw e at answered in
-        let text : new ≡ overwrite (listing input) buffer = rw e at written in
-        let fits = overwrite-fits (listing input) buffer (sym (ap length text) ∙ same) in
-        omega arith
+listing-fits input buffer new size = text-fits roundCapacity (listing input) buffer new size

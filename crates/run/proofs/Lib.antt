@@ -4,4 +4,5 @@ pub mod Entries
 pub mod Filled
 pub mod Link
 pub mod Ready
+pub mod Shown
 pub mod Traced

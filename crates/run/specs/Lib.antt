@@ -1,4 +1,5 @@
 pub mod Replay
+pub mod ReplayText
 pub mod Rounds
 pub mod Run
 pub mod Trace

@@ -4,18 +4,12 @@ ghost use mathlib.Core.Path.{_≡_};
 ghost use lib.ListN.{length};
 ghost use Rattle.model.specs.Listing.{maxInput};
 ghost use Rattle.text.specs.Text.{roundCapacity};
-ghost use Rattle.settle.specs.Sizes.{Within};
 use libc::STDERR_FILENO;
 use libc::STDIN_FILENO;
 use libc::STDOUT_FILENO;
 use listing::MAX_INPUT;
+use standard_input::Input;
 use text::ROUND_CAPACITY;
-
-// What reading gave: how many bytes, or that the system refused.
-enum Input {
-    Read(usize),
-    Failed,
-}
 
 // Bytes for what is read.
 fn input_buffer() -> [u8; MAX_INPUT]
@@ -29,35 +23,6 @@ fn text_buffer() -> [u8; ROUND_CAPACITY]
     ensures { λ r. ⌜ roundCapacity ≡ length r ⌝ }
 {
     [0; ROUND_CAPACITY]
-}
-
-// One read of standard input: 0 bytes at its end, and else at most as many as the buffer holds.
-fn read_some(buffer: &mut [u8]) -> Input
-    ensures { λ r. ⌜ Within r (length (now (buffer .exit))) ⌝ }
-{
-    let got = libc::read(STDIN_FILENO, buffer);
-    if got < 0 {
-        return Input::Failed;
-    }
-    let size = io::count(got, buffer);
-    Input::Read(size)
-}
-
-// Reads until the buffer is full or the input ends.
-fn read_input(buffer: &mut [u8]) -> Input
-    ensures { λ r. ⌜ Within r (length (now (buffer .exit))) ⌝ }
-{
-    let mut size: usize = 0;
-    'reads: while size < buffer.len() {
-        let Input::Read(more) = read_some(&mut buffer[size..]) else {
-            return Input::Failed;
-        };
-        if more == 0 {
-            break 'reads;
-        }
-        size += more;
-    }
-    Input::Read(size)
 }
 
 // Says on standard error what is waited for, where a person types the input.
@@ -86,7 +51,7 @@ fn answer(sheet: &[u8], text: &mut [u8]) {
 
 // Answers what is read; says on standard error where reading fails.
 fn run(input: &mut [u8], text: &mut [u8]) {
-    let Input::Read(size) = read_input(input) else {
+    let Input::Read(size) = standard_input::read_input(input) else {
         io::write_all(STDERR_FILENO, b"settle: standard input can't be read\n");
         return;
     };

@@ -17,11 +17,11 @@ use Rattle.lines.specs.Lines.{roundLine}
 use Rattle.text.specs.Text.{roundLineCapacity, cabinetCapacity, refusalCapacity}
 
 -- the bytes after a line's first field: a space before each other field, and the line feed
-abbrev restLength : List (List ℕ) → ℕ
+abbrev pub restLength : List (List ℕ) → ℕ
 restLength [] = 1
 restLength (field ∷ rest) = 1 + length field + restLength rest
 
-length-line : (first : List ℕ) (rest : List (List ℕ)) → length (line first rest) ≡ length first + restLength rest
+pub length-line : (first : List ℕ) (rest : List (List ℕ)) → length (line first rest) ≡ length first + restLength rest
 unfolding line
 length-line first [] = length-append first (10 ∷ [])
 length-line first (next ∷ rest) =
@@ -46,7 +46,7 @@ length-round-line n count estimate value h k =
     let whole = length-line roundWord (decimal n ∷ decimal count ∷ numbers) in
     omega (arith, length-decimal-byte n h, length-decimal-byte count k)
 
-length-cabinet : (r mark : ℕ) (used : ℤ) → r < 256 → mark < 256
+pub length-cabinet : (r mark : ℕ) (used : ℤ) → r < 256 → mark < 256
     → length (line (decimal r) (decimal mark ∷ signedDecimal used ∷ [])) ≤ cabinetCapacity
 length-cabinet r mark used h k =
     let whole = length-line (decimal r) (decimal mark ∷ signedDecimal used ∷ []) in

@@ -11,6 +11,7 @@ use packed_records::Planning;
 use planner::Plan;
 
 mod answers;
+mod replays;
 
 // Settles a round sheet. The answer is the answer sheet's length.
 #[no_mangle]

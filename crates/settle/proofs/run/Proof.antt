@@ -6,8 +6,8 @@ use mathlib.Core.Path.{sym, subst}
 use Prim.Native.Nat.{ℕ, _≤_}
 use lib.ListN.{length}
 use lib.Seq.{length-take-le}
-use Rattle.settle.specs.declared.Input.{Input}
-use Rattle.settle.specs.Sizes.{Within}
+use Rattle.standard_input.specs.declared.Input.{Input}
+use Rattle.standard_input.specs.Sizes.{Within}
 use Rattle.settle.proofs.run.Statement.{statement}
 use Rattle.settle.proofs.run.Tie as tie
 

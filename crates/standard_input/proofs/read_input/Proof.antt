@@ -1,4 +1,4 @@
--- `settle::read_input` meets its contract. The loop's invariant: what was read lies within the buffer, whose length is
+-- `standard_input::read_input` meets its contract. The loop's invariant: what was read lies within the buffer, whose length is
 -- kept. The measure is what is left of the buffer: a turn that reads nothing leaves the loop.
 -- Assumes nothing.
 use borrow.Author.Needs.{needs}
@@ -7,11 +7,11 @@ use mathlib.Core.Path.{_≡_, _∙_, subst}
 use Prim.Native.Nat.{ℕ, _+_, _-_, _≤_}
 use native.Mathlib.Omega.{arith}
 use lib.ListN.{length}
-use Rattle.settle.specs.declared.Input.{Input}
-use Rattle.settle.specs.Sizes.{Within}
-use Rattle.settle.proofs.Parts.{rest-room}
-use Rattle.settle.proofs.read_input.Statement.{statement}
-use Rattle.settle.proofs.read_input.Tie as tie
+use Rattle.standard_input.specs.declared.Input.{Input}
+use Rattle.standard_input.specs.Sizes.{Within}
+use Rattle.standard_input.proofs.Parts.{rest-room}
+use Rattle.standard_input.proofs.read_input.Statement.{statement}
+use Rattle.standard_input.proofs.read_input.Tie as tie
 
 abbrev Inv-reads : tie.InvT-reads
 Inv-reads buffer₀ size₀ buffer size = (size ≤ length buffer) × (length buffer ≡ length buffer₀)

@@ -1,0 +1,54 @@
+-- `after_listing::line` meets its contract: a buffer below the capacity is left as it was, a trace of fewer rounds has
+-- no line, and any other is handed on with a buffer for the values.
+-- Assumes nothing.
+use borrow.Author.Needs.{needs}
+use mathlib.Core.Path.{sym, subst}
+use Prim.Native.Nat.{ℕ, _<_}
+use Rattle.run.specs.ReplayText.{afterListing}
+use Rattle.text.proofs.Texts.{text-refused}
+use Rattle.after_text.specs.After.{afterCapacity}
+use Rattle.after_listing.specs.Listed.{afterListed}
+use Rattle.after_listing.proofs.Outcomes.{too-few}
+use Rattle.after_listing.proofs.line.Statement.{statement}
+use Rattle.after_listing.proofs.line.Tie as tie
+
+returns : tie.Need-returns
+unfolding afterListed
+returns c =
+    let args = c .before .before .before .args in
+    text-refused afterCapacity (afterListing (args .trace .now) (args .k)) (args .text .now) (c .if1 .taken)
+
+byte-at-requires : tie.Need-byte-at-requires
+byte-at-requires c κs = search needs
+
+returns-2 : tie.Need-returns-2
+returns-2 c =
+    let branch = c .before .before in
+    let args = branch .before .before .before .args in
+    too-few (args .trace .now) (args .k) (args .text .now)
+    (subst (λ (r : ℕ). r < args .k) (c .before .byte-at .ensures) (c .if2 .taken))
+    (branch .if1 .left)
+
+slice-aggregate-line-in : tie.Need-slice-aggregate-line-in
+slice-aggregate-line-in c = search needs
+
+line-in-requires : tie.Need-line-in-requires
+line-in-requires c κs = search needs
+
+same-length : tie.Need-same-length
+same-length c = search needs
+
+returns-3 : tie.Need-returns-3
+returns-3 c = search needs
+
+pub line-spec : {M : Type 1} → statement M
+line-spec =
+    tie.close
+    (tie.spec
+    returns
+    byte-at-requires
+    returns-2
+    slice-aggregate-line-in
+    line-in-requires
+    same-length
+    returns-3)

@@ -96,7 +96,7 @@ sabotage "wrapper: trace and values swapped" $wrapper "tohiranga_replay(trace.as
     "tohiranga_replay(values.as_ptr(), values.len(), trace.as_ptr() as *mut u8, trace.len())"
 sabotage "wrapper: estimate and new value swapped" $wrapper "self.field(tohiranga_answer_value)" "self.field(tohiranga_answer_estimate)"
 sabotage "wrapper: mark and used value swapped" $wrapper "self.field_of(tohiranga_answer_mark, cabinet)" "self.field_of(tohiranga_answer_used, cabinet)"
-sabotage "wrapper: another version" bindings/rust/Cargo.toml 'version = "0.2.0"' 'version = "0.2.1"'
+sabotage "wrapper: another version" bindings/rust/Cargo.toml 'version = "0.3.0"' 'version = "0.3.1"'
 sabotage "README: the text of refusal 8" README.md "| 8 | a mark is not 0 or 1;" "| 8 | a mark is not 1 or 2;"
 sabotage "definitions: 63 cabinets" crates/model/specs/Ensemble.antt "maxCabinets = 64" "maxCabinets = 63"
 

@@ -72,7 +72,7 @@ sabotage "header: values of 5N" $header "VALUES_SIZE(n) (4 *" "VALUES_SIZE(n) (5
 sabotage "header: the longest trace" $header "MAX_TRACE 655689" "MAX_TRACE 655688"
 sabotage "header: answer sheets of 9 + 5N" $header "ANSWER_SIZE(n) (10 +" "ANSWER_SIZE(n) (9 +"
 sabotage "header: -1 read as -2" $header "(4294967295u - bits) - 1" "(4294967295u - bits) - 2"
-sabotage "header: another version" $header "VERSION_MINOR 2" "VERSION_MINOR 3"
+sabotage "header: another version" $header "VERSION_MINOR 3" "VERSION_MINOR 4"
 sabotage "header: a call that is not in the archive" $header "uint32_t tohiranga_version(void);" "uint32_t tohiranga_versions(void);"
 sabotage "header: a number that nothing holds" $header "#define TOHIRANGA_MAX_ROUNDS 32" "#define TOHIRANGA_MAX_ROUNDS 32
 #define TOHIRANGA_LEAST_CABINETS 4"

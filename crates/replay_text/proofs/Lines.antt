@@ -1,7 +1,7 @@
 -- How long the text of final values is, at most, and the lines of one cabinet more.
 -- Assumes nothing.
 use mathlib.Core.List.{List, [], _∷_, _++_}
-use mathlib.Core.Path.{_≡_, refl, ap}
+use mathlib.Core.Path.{_≡_, refl}
 use Prim.Native.Nat.{ℕ, zero, suc, _+_, _*_, _≤_, _<_}
 use native.Mathlib.Numerals.{add-one}
 use native.Mathlib.Omega.{arith}
@@ -17,7 +17,7 @@ use Rattle.fields.proofs.Putting.{puts-then}
 use Rattle.lines.specs.Lines.{cabinetLine}
 use Rattle.text.specs.Text.{cabinetCapacity}
 use Rattle.text.proofs.Lines.{length-line, length-cabinet}
-use Rattle.replay_text.specs.Final.{valueAt, firstCapacity, finalCapacity}
+use Rattle.replay_text.specs.Final.{valueAt, finalCapacity}
 
 -- ---- the lines of cabinets
 

@@ -2,7 +2,7 @@
 -- Assumes nothing.
 use mathlib.Core.List.{List}
 use mathlib.Core.Option.{none, some}
-use mathlib.Core.Path.{_≡_, refl, ap, _∙_}
+use mathlib.Core.Path.{_≡_, refl, ap}
 use Prim.Native.Nat.{ℕ, zero, suc, _≤_, _<_}
 use native.Mathlib.Nat.{le-trans}
 use borrow.Author.Tests.{le-ltb}
@@ -11,7 +11,7 @@ use lib.IntN.{ℤ}
 use lib.ListN.{length}
 use Rattle.arithmetic.proofs.Counting.{initial, last}
 use Rattle.model.specs.declared.Refusal.{Refusal}
-use Rattle.model.specs.RoundSheet.{byte, settingsAt}
+use Rattle.model.specs.RoundSheet.{settingsAt}
 use Rattle.model.specs.Refusals.{firstOf}
 use Rattle.run.specs.Trace.{roundsAt, roleAt}
 use Rattle.run.specs.Replay.{replayChecks, shownAfter}

@@ -4,14 +4,14 @@
 use mathlib.Core.Bool.{Bool, true, false, cond, not, _||_}
 use mathlib.Core.List.{List, [], _∷_, _++_}
 use mathlib.Core.Option.{none, some}
-use mathlib.Core.Path.{_≡_, refl, sym, ap, _∙_, subst}
+use mathlib.Core.Path.{_≡_, refl, sym, ap, _∙_}
 use Prim.Native.Nat.{ℕ, _+_, _*_, _≤_, _<_}
 use native.Mathlib.Nat.{le-trans}
 use native.Mathlib.Omega.{arith}
 use borrow.Author.Tests.{ltb-false, eqb-true, not-false}
 use lib.Dec.{ltb, eqb, lit≤}
 use lib.IntN.{ℤ, pos}
-use lib.ListN.{length, getD, drop}
+use lib.ListN.{length, drop}
 use mir.Syntax.{w32}
 use mir.Val.{SFits, toZ}
 use Rattle.arithmetic.specs.Writing.{table, overwrite}
@@ -26,7 +26,7 @@ use Rattle.model.specs.Calls.{granted, refused, lent, Outcome}
 use Rattle.refusal_laws.proofs.Checks.{none-left, none-right, none-at, when-none}
 use Rattle.sheet_laws.proofs.Outcomes.{granted-none, refused-some}
 use Rattle.sheet_laws.proofs.Readings.{bits-again, word-readings}
-use Rattle.run.specs.Trace.{roundsAt, traceEntries, tracedMark, tracedBits, traceLength, soundAt, tracedStation}
+use Rattle.run.specs.Trace.{roundsAt, traceEntries, tracedMark, tracedBits, traceLength, soundAt}
 use Rattle.run.specs.Replay.{badTrace, badRoles, runStopped, traceChecks, replayChecks, stateTo, shownAfter}
 use Rattle.run.specs.Replay.{valuesTo, replayTo}
 use Rattle.run.proofs.Entries.{reading-fits}

@@ -1,3 +1,5 @@
+pub mod Below
 pub mod Halves
 pub mod Parts
+pub mod Sound
 pub mod Told

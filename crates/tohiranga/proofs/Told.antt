@@ -2,38 +2,32 @@
 -- number, 1 to 12, and its place. A refusal has the place of an entry only where the settings pass, and these have at
 -- most 4,096 entries.
 -- Assumes nothing.
-use mathlib.Core.Bool.{Bool, true, _&&_, _||_}
+use mathlib.Core.Bool.{Bool, _||_}
 use mathlib.Core.List.{List}
 use mathlib.Core.Option.{none, some}
-use mathlib.Core.Path.{_≡_, refl, sym, ap, _∙_}
+use mathlib.Core.Path.{_≡_, refl, sym, _∙_}
 use Prim.Native.Nat.{ℕ, _+_, _*_, _≤_, _<_}
 use native.Mathlib.Omega.{arith}
-use borrow.Author.Tests.{leb-true}
-use lib.Dec.{leb, ltb}
+use lib.Dec.{ltb}
 use lib.IntN.{ℤ}
 use lib.ListN.{length}
-use Rattle.arithmetic.specs.Counting.{lowest}
-use Rattle.arithmetic.proofs.Bools.{and-left, and-right}
-use Rattle.arithmetic.proofs.Counting.{lowest-found}
 use Rattle.arithmetic.specs.Words.{twoTo32}
-use Rattle.model.specs.declared.Refusal.{Refusal}
 use Rattle.model.specs.declared.Settings.{Settings}
 use Rattle.model.specs.RoundSheet.{byte, word, settingsAt, entryCount}
 use Rattle.model.specs.RoundSheet.{sheetLength, markAt, bitsAt, bitsIn}
 use Rattle.model.specs.AnswerSheet.{answerLength, answerHeaderSize}
 use Rattle.model.specs.Steps.{roundAt}
 use Rattle.model.specs.Planner.{Plan, planFrom, advance, after, windowAfter, maxAccuracy, maxRounds}
-use Rattle.model.specs.Refusals.{Check, refusal, atEntry, orNext, firstOf}
-use Rattle.model.specs.Refusals.{badMarkNumber, badMissingNumber}
-use Rattle.model.specs.Refusals.{badLength, noRoom, notZero, badMark, badMissing}
-use Rattle.model.specs.Refusals.{settingsChecks, sheetChecks, arrayChecks, entryChecks, planningChecks}
+use Rattle.model.specs.Refusals.{Check, firstOf}
+use Rattle.model.specs.Refusals.{badLength, noRoom}
+use Rattle.model.specs.Refusals.{settingsChecks, sheetChecks, entryChecks, planningChecks}
 use Rattle.model.specs.Refusals.{readChecks, writeChecks, settleChecks, planChecks, stepChecks, targetChecks}
 use Rattle.model.specs.Calls.{Verdict, granted, refused, verdict, read, write, settle, plan, step, Target}
 use Rattle.refusal_laws.proofs.Checks.{first-snoc, next-none-left}
 use Rattle.refusal_laws.proofs.Limits.{limits, entries-most}
-use Rattle.refusal_laws.proofs.Numbers.{Says, entry-says, Plain, no-checks, check-more, plain-append, plain-one, each}
+use Rattle.refusal_laws.proofs.Numbers.{check-more, plain-append, plain-one, each}
 use Rattle.refusal_laws.proofs.Numbers.{length-says, room-says, faults-says, plan-says, target-says, cabinets-say}
-use Rattle.refusal_laws.proofs.Numbers.{plain-settings, plain-sheet, mark-number, missing-number}
+use Rattle.refusal_laws.proofs.Numbers.{plain-settings, plain-sheet}
 use Rattle.sheet_laws.proofs.Checks.{settings-passed}
 use Rattle.sheet_laws.proofs.Words.{word-fits}
 use Rattle.sheet_laws.proofs.Orders.{read-checks, write-checks, settle-checks}
@@ -41,119 +35,44 @@ use Rattle.planner_laws.proofs.Checks.{none-may-start, none-may-step}
 use Rattle.planner_laws.proofs.Rounds.{rounds-after}
 use Rattle.answer_reader.specs.Fields.{answerChecks, cabinetChecks, cabinetsIn, countIn, estimateIn}
 use Rattle.answer_reader.specs.Fields.{valueIn, markIn, usedIn}
-use Rattle.packed_refusals.specs.Answers.{packedRefusal, packed}
+use Rattle.packed_refusals.specs.Answers.{packed}
 use Rattle.packed_records.specs.Answers.{openingOf, planningOf}
-use Rattle.tohiranga.specs.Statements.{Refuses, AnswerTells, FieldsTell, GrantsBelow}
-use Rattle.tohiranga.proofs.Halves.{upper-back, lower-back}
-
--- ---- A refusal of the table: number 1 to 12, and a place that 32 bits hold
-
-record InTable (r : Refusal) : Type 0 where
-  first : 1 ≤ r .number
-  last : r .number ≤ 12
-  small : r .place < twoTo32
-
--- a check that refuses gives such a refusal
-record Sound (check : Check) : Type 0 where
-  told : (r : Refusal) → check ≡ some r → InTable r
-
-none-sound : Sound none
-none-sound = record { told = λ r e. let clash : _≡_ {A = ℕ} 0 1 = cc in absurd (omega arith) }
-
--- the first of two, where the second one is asked only if the first does not refuse
-next-sound : (a b : Check) → Sound a → (a ≡ none → Sound b) → Sound (orNext a b)
-next-sound none b x y = y refl
-next-sound (some r) b x y = x
-
--- a number of the table
-abbrev listed : ℕ → Bool
-listed number = leb 1 number && leb number 12
-
-in-table : (number : ℕ) (r : Refusal) → listed number ≡ true → r .number ≡ number → r .place < twoTo32 → InTable r
-in-table number r h e small =
-    let first = leb-true 1 number (and-left (leb 1 number) (leb number 12) h) in
-    let last = leb-true number 12 (and-right (leb 1 number) (leb number 12) h) in
-    record { first = omega arith; last = omega arith; small = small }
-
--- checks that have no entry to point at
-says-sound : {number : ℕ} {x : Check} → Says number x → listed number ≡ true → Sound x
-says-sound {number} f h =
-    record {
-      told = λ r e.
-          let place = ap (λ (y : Refusal). y .place) (f r e) in
-          in-table number r h (ap (λ (y : Refusal). y .number) (f r e)) (omega arith);
-    }
-
-plain-sound : {numbers : List ℕ} {checks : List Check} → Plain numbers checks → each listed numbers ≡ true
-    → Sound (firstOf checks)
-unfolding firstOf each
-plain-sound no-checks h = none-sound
-plain-sound (check-more {number} {x} {numbers} {checks} f p) h =
-    next-sound x (firstOf checks) (says-sound f (and-left (listed number) (each listed numbers) h)) λ _.
-    plain-sound p (and-right (listed number) (each listed numbers) h)
+use Rattle.tohiranga.specs.Statements.{AnswerTells, FieldsTell, GrantsBelow}
+use Rattle.tohiranga.proofs.Sound.{Sound, next-sound, says-sound, plain-sound, array-sound, refusal-tells}
 
 -- ---- The checks
 
 module _ (c : Settings) where
-  settings-sound : Sound (firstOf (settingsChecks c))
+  settings-sound : Sound 12 (firstOf (settingsChecks c))
   settings-sound = plain-sound (plain-settings c) (unfold each in refl)
 
   few-entries : firstOf (settingsChecks c) ≡ none → entryCount c ≤ 4096
   few-entries pass = entries-most c (limits c pass .cabinets)
 
-  planning-sound : (fails : Bool) → Sound (firstOf (planningChecks c fails))
+  planning-sound : (fails : Bool) → Sound 12 (firstOf (planningChecks c fails))
   planning-sound fails =
       plain-sound (plain-append (plain-settings c) (plain-one (plan-says fails))) (unfold each in refl)
 
-length-sound : (given wanted : ℕ) → Sound (badLength given wanted)
+length-sound : (given wanted : ℕ) → Sound 12 (badLength given wanted)
 length-sound given wanted = says-sound (length-says given wanted) refl
 
-room-sound : (given wanted : ℕ) → Sound (noRoom given wanted)
+room-sound : (given wanted : ℕ) → Sound 12 (noRoom given wanted)
 room-sound given wanted = says-sound (room-says given wanted) refl
 
--- 8 and 9 point at an entry
-module _ (mark bits : ℕ → ℕ) (E : ℕ) (few : E ≤ 4096) where
-  entry-place : (p : ℕ → Bool) (number : ℕ) (r : Refusal) → atEntry (lowest p E) number ≡ some r → r .place < twoTo32
-  entry-place p number r h =
-      let here = lowest-found p E (r .place) (entry-says (lowest p E) number r h .0) .inRange in
-      omega arith
-
-  mark-sound : Sound (badMark mark E)
-  unfolding badMark
-  mark-sound =
-      record {
-        told = λ r e.
-            in-table badMarkNumber r refl (mark-number mark bits E r e) (entry-place (λ i. ltb 1 (mark i)) badMarkNumber r e);
-      }
-
-  missing-sound : Sound (badMissing mark bits E)
-  unfolding badMissing
-  missing-sound =
-      record {
-        told = λ r e.
-            in-table badMissingNumber r refl (missing-number mark bits E r e)
-            (entry-place (λ i. notZero (mark i) (bits i)) badMissingNumber r e);
-      }
-
-  array-sound : Sound (firstOf (arrayChecks mark bits E))
-  unfolding firstOf
-  array-sound =
-      next-sound (badMark mark E) _ mark-sound λ _.
-      next-sound (badMissing mark bits E) none missing-sound λ _. none-sound
-
 module _ (s : List ℕ) where
-  sheet-sound : Sound (firstOf (sheetChecks s))
+  sheet-sound : Sound 12 (firstOf (sheetChecks s))
   sheet-sound = plain-sound (plain-sheet s) (unfold each in refl)
 
   few-passed : firstOf (sheetChecks s) ≡ none → entryCount (settingsAt s) ≤ 4096
   few-passed pass = few-entries (settingsAt s) (settings-passed s pass)
 
-  entries-sound : firstOf (sheetChecks s) ≡ none → Sound (firstOf (entryChecks s))
+  entries-sound : firstOf (sheetChecks s) ≡ none → Sound 12 (firstOf (entryChecks s))
   unfolding entryChecks
   entries-sound pass =
-      array-sound (markAt s) (bitsAt s (entryCount (settingsAt s))) (entryCount (settingsAt s)) (few-passed pass)
+      let few = few-passed pass in
+      array-sound 12 refl refl (markAt s) (bitsAt s (entryCount (settingsAt s))) (entryCount (settingsAt s)) (omega arith)
 
-  settle-sound : (room : ℕ) → Sound (firstOf (settleChecks s room))
+  settle-sound : (room : ℕ) → Sound 12 (firstOf (settleChecks s room))
   settle-sound room =
       let wanted = answerLength (settingsAt s .n) in
       rw (settle-checks s room)
@@ -162,7 +81,7 @@ module _ (s : List ℕ) where
       next-sound (firstOf (entryChecks s)) _ (entries-sound pass) λ _.
       says-sound (faults-says (roundAt s .count)) refl)
 
-  read-sound : (marks readings : ℕ) → Sound (firstOf (readChecks s marks readings))
+  read-sound : (marks readings : ℕ) → Sound 12 (firstOf (readChecks s marks readings))
   read-sound marks readings =
       let E = entryCount (settingsAt s) in
       rw (read-checks s marks readings)
@@ -172,7 +91,7 @@ module _ (s : List ℕ) where
       entries-sound pass)
 
 write-sound : (c : Settings) (marks : List ℕ) (readings : List ℤ) (room : ℕ)
-    → Sound (firstOf (writeChecks c marks readings room))
+    → Sound 12 (firstOf (writeChecks c marks readings room))
 write-sound c marks readings room =
     let E = entryCount c in
     rw (write-checks c marks readings room)
@@ -180,9 +99,10 @@ write-sound c marks readings room =
     next-sound (badLength (length marks) E) _ (length-sound (length marks) E) λ _.
     next-sound (badLength (length readings) E) _ (length-sound (length readings) E) λ _.
     next-sound (noRoom room (sheetLength c)) _ (room-sound room (sheetLength c)) λ _.
-    array-sound (byte marks) (bitsIn readings) E (few-entries c pass))
+    let few = few-entries c pass in
+    array-sound 12 refl refl (byte marks) (bitsIn readings) E (omega arith))
 
-target-sound : (c : Settings) (κ target : ℕ) → Sound (firstOf (targetChecks c κ target))
+target-sound : (c : Settings) (κ target : ℕ) → Sound 12 (firstOf (targetChecks c κ target))
 unfolding targetChecks
 target-sound c κ target =
     plain-sound
@@ -192,28 +112,17 @@ target-sound c κ target =
 
 -- ---- What is packed
 
-refusal-tells : (r : Refusal) → InTable r → Refuses r (packedRefusal r)
-refusal-tells r t =
-    let first = t .first in
-    record {
-      above = omega arith;
-      number = upper-back (r .number) (r .place) (t .small);
-      place = lower-back (r .number) (r .place) (t .small);
-      first = t .first;
-      last = t .last;
-    }
-
-size-tells : (check : Check) (size : ℕ) → Sound check → (check ≡ none → size < twoTo32)
+size-tells : (check : Check) (size : ℕ) → Sound 12 check → (check ≡ none → size < twoTo32)
     → AnswerTells (verdict check size) (packed (verdict check size))
 size-tells none size t small = small refl
 size-tells (some r) size t small = refusal-tells r (t .told r refl)
 
-opening-tells : (check : Check) (c : Settings) → Sound check → (check ≡ none → entryCount c < twoTo32)
+opening-tells : (check : Check) (c : Settings) → Sound 12 check → (check ≡ none → entryCount c < twoTo32)
     → AnswerTells (verdict check c) (openingOf (verdict check c) .answer)
 opening-tells none c t small = small refl
 opening-tells (some r) c t small = refusal-tells r (t .told r refl)
 
-planning-tells : (check : Check) (p : Plan) → Sound check → (check ≡ none → p .rounds < twoTo32)
+planning-tells : (check : Check) (p : Plan) → Sound 12 check → (check ≡ none → p .rounds < twoTo32)
     → AnswerTells (verdict check p) (planningOf (verdict check p) .answer)
 planning-tells none p t small = small refl
 planning-tells (some r) p t small = refusal-tells r (t .told r refl)
@@ -275,14 +184,14 @@ target-tells c κ target answer (refused r) same t =
 -- ---- the fields of an answer sheet
 
 module _ (a : List ℕ) where
-  answer-sound : Sound (firstOf (answerChecks a))
+  answer-sound : Sound 12 (firstOf (answerChecks a))
   unfolding answerChecks
   answer-sound =
       plain-sound
       (check-more (cabinets-say (settingsAt a)) (plain-one (length-says (length a) (answerLength (byte a 0)))))
       (unfold each in refl)
 
-  cabinet-sound : (r : ℕ) → Sound (firstOf (cabinetChecks a r))
+  cabinet-sound : (r : ℕ) → Sound 12 (firstOf (cabinetChecks a r))
   unfolding cabinetChecks
   cabinet-sound r =
       rw (first-snoc (answerChecks a) (noRoom (byte a 0) (r + 1)))

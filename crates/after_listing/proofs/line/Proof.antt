@@ -2,7 +2,7 @@
 -- no line, and any other is handed on with a buffer for the values.
 -- Assumes nothing.
 use borrow.Author.Needs.{needs}
-use mathlib.Core.Path.{sym, subst}
+use mathlib.Core.Path.{subst}
 use Prim.Native.Nat.{ℕ, _<_}
 use Rattle.run.specs.ReplayText.{afterListing}
 use Rattle.text.proofs.Texts.{text-refused}

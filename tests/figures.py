@@ -6,8 +6,8 @@
     tests/figures.py text K      what refusal K means
     tests/figures.py version     the version; number: as one number
 
-Numbers are read from crates/model/specs and crates/version/specs, the numbers of refusal from the table of crates/model/specs/Refusals.antt,
-and what each means from README's table.
+Numbers are read from crates/model/specs, crates/run/specs and crates/version/specs, the numbers of refusal from the table of crates/model/specs/Refusals.antt
+(the checks 13 to 15 stand in crates/run/specs), and what each means from README's table.
 """
 
 import pathlib
@@ -16,6 +16,7 @@ import sys
 
 ROOT = pathlib.Path(__file__).resolve().parent.parent
 MODEL = ROOT / "crates" / "model" / "specs"
+RUN = ROOT / "crates" / "run" / "specs"
 
 
 def text(path):
@@ -37,6 +38,7 @@ def defined(path, line):
 FIGURES = {}
 for page in ("Ensemble", "RoundSheet", "AnswerSheet", "Planner"):
     FIGURES.update(numbers(MODEL / f"{page}.antt"))
+FIGURES.update(numbers(RUN / "Trace.antt"))
 
 VERSION = numbers(ROOT / "crates" / "version" / "specs" / "Version.antt")
 
@@ -57,10 +59,13 @@ def answer_size(n):
 
 
 def trace_size(n, rounds):
-    return FIGURES["headerSize"] + 1 + 5 * n + 5 * rounds * n * n
+    defined(RUN / "Trace.antt", "traceEntries n rounds = rounds * (n * n)")
+    defined(RUN / "Trace.antt", "traceLength n rounds = traceHeaderSize + 5 * n + 5 * traceEntries n rounds")
+    return FIGURES["traceHeaderSize"] + 5 * n + 5 * rounds * n * n
 
 
 def values_size(n):
+    defined(RUN / "Replay.antt", "    ∷ noRoom buffer (4 * settingsAt s .n)")
     return 4 * n
 
 
@@ -72,11 +77,13 @@ def constant(name):
 def refusals():
     """The checks of the table: number and name."""
     page = text(MODEL / "Refusals.antt")
-    numbers = dict(re.findall(r"^(\w+)Number = (\d+)$", page, flags=re.M))
-    rows = re.findall(r"^(\w+) .*= (?:refuseIf|atEntry) .* (\w+)Number$", page, flags=re.M)
-    checks = [(name, numbers[number]) for name, number in rows]
+    checks = re.findall(r"^(\w+)Number = (\d+)$", page, flags=re.M)
     if [int(number) for _, number in checks] != list(range(1, 16)):
-        sys.exit("figures: crates/model/specs/Refusals.antt does not have the checks 1 to 15")
+        sys.exit("figures: crates/model/specs/Refusals.antt does not have the numbers 1 to 15")
+    both = page + text(RUN / "Replay.antt")
+    for name, _ in checks:
+        if not re.search(rf"^unfoldable pub {name} :", both, flags=re.M) or not re.search(rf"(?<!= )\b{name}Number\b(?! [:=])", both):
+            sys.exit(f"figures: no page defines the check {name} with its number")
     return [(int(number), constant(name)) for name, number in checks]
 
 

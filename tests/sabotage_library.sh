@@ -72,7 +72,7 @@ sabotage "header: values of 5N" $header "VALUES_SIZE(n) (4 *" "VALUES_SIZE(n) (5
 sabotage "header: the longest trace" $header "MAX_TRACE 655689" "MAX_TRACE 655688"
 sabotage "header: answer sheets of 9 + 5N" $header "ANSWER_SIZE(n) (10 +" "ANSWER_SIZE(n) (9 +"
 sabotage "header: -1 read as -2" $header "(4294967295u - bits) - 1" "(4294967295u - bits) - 2"
-sabotage "header: another version" $header "VERSION_MINOR 2" "VERSION_MINOR 3"
+sabotage "header: another version" $header "VERSION_MINOR 3" "VERSION_MINOR 4"
 sabotage "header: a call that is not in the archive" $header "uint32_t tohiranga_version(void);" "uint32_t tohiranga_versions(void);"
 sabotage "header: a number that nothing holds" $header "#define TOHIRANGA_MAX_ROUNDS 32" "#define TOHIRANGA_MAX_ROUNDS 32
 #define TOHIRANGA_LEAST_CABINETS 4"
@@ -96,7 +96,7 @@ sabotage "wrapper: trace and values swapped" $wrapper "tohiranga_replay(trace.as
     "tohiranga_replay(values.as_ptr(), values.len(), trace.as_ptr() as *mut u8, trace.len())"
 sabotage "wrapper: estimate and new value swapped" $wrapper "self.field(tohiranga_answer_value)" "self.field(tohiranga_answer_estimate)"
 sabotage "wrapper: mark and used value swapped" $wrapper "self.field_of(tohiranga_answer_mark, cabinet)" "self.field_of(tohiranga_answer_used, cabinet)"
-sabotage "wrapper: another version" bindings/rust/Cargo.toml 'version = "0.2.0"' 'version = "0.2.1"'
+sabotage "wrapper: another version" bindings/rust/Cargo.toml 'version = "0.3.0"' 'version = "0.3.1"'
 sabotage "README: the text of refusal 8" README.md "| 8 | a mark is not 0 or 1;" "| 8 | a mark is not 1 or 2;"
 sabotage "definitions: 63 cabinets" crates/model/specs/Ensemble.antt "maxCabinets = 64" "maxCabinets = 63"
 

@@ -128,7 +128,6 @@ fn play_rounds(trace: &[u8], settings: Settings, rounds: u8, most: u8, held: &mu
     requires { ⌜ HeldTo (now trace) 0 (now held) ⌝ }
     ensures { λ r. ⌜ RoundsPlayed (now (trace .entry)) most r (now (held .exit)) ⌝ }
 {
-    let n = settings.n as u32;
     let mut plan = Plan {
         settings,
         accuracy: 0,
@@ -136,9 +135,9 @@ fn play_rounds(trace: &[u8], settings: Settings, rounds: u8, most: u8, held: &mu
     };
     let mut k: u8 = 0;
     'rounds: while k < most {
-        let refused = play_round(trace, plan.settings, rounds, k, &mut *held) as u32;
-        if refused < n {
-            return 64 * ((k as u32) + 1) + refused;
+        let refused = play_round(trace, plan.settings, rounds, k, &mut *held);
+        if refused < (settings.n as usize) {
+            return trace_sizes::stop_place(k, refused as u8);
         }
         plan = stepped(plan);
         k += 1;

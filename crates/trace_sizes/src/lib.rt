@@ -2,7 +2,9 @@
 // length.
 ghost use mathlib.Core.Path.{_≡_};
 ghost use Prim.Native.Nat.{_+_, _*_};
+ghost use Rattle.model.specs.Ensemble.{maxCabinets};
 ghost use Rattle.run.specs.Trace.{traceHeaderSize, traceEntries, traceLength};
+use model::MAX_CABINETS;
 use model::TRACE_HEADER_SIZE;
 
 // The entries of so many rounds.
@@ -32,4 +34,11 @@ pub fn trace_length(n: u8, rounds: u8) -> usize
     ensures { λ r. ⌜ r ≡ traceLength n rounds ⌝ }
 {
     marks_start(n) + 5 * trace_entries(n, rounds)
+}
+
+// The place of check 15: 64 × the round, from 1, plus the cabinet. k is the round from 0.
+pub fn stop_place(k: u8, cabinet: u8) -> u32
+    ensures { λ r. ⌜ r ≡ maxCabinets * (k + 1) + cabinet ⌝ }
+{
+    (MAX_CABINETS as u32) * ((k as u32) + 1) + (cabinet as u32)
 }

@@ -17,24 +17,21 @@ use Rattle.playing.proofs.play_rounds.Statement.{statement}
 use Rattle.playing.proofs.play_rounds.Tie as tie
 
 abbrev Inv-rounds : tie.InvT-rounds
-Inv-rounds trace rounds most held₀ n plan₀ k₀ held plan k =
+Inv-rounds trace settings rounds most held₀ plan₀ k₀ held plan k =
     Going trace most (length held₀) (planOf plan) k held
 
 abbrev μ-rounds : tie.MeasureT-rounds
-μ-rounds trace rounds most held₀ n plan₀ k₀ held plan k = most - k
+μ-rounds trace settings rounds most held₀ plan₀ k₀ held plan k = most - k
 
 abbrev call : tie.At-rounds Inv-rounds μ-rounds → tie.Start Inv-rounds μ-rounds
-call c = c .before .before .before .before
+call c = c .before .before .before
 
 bytes-of : (c : tie.At-rounds Inv-rounds μ-rounds) (j : ℕ) → byte (call c .args .trace .now) j < 256
-bytes-of c j = c .before .before .before .shared-slice-known .given j .fits
-
-cast-n : tie.Need-cast-n Inv-rounds μ-rounds
-cast-n c = search needs
+bytes-of c j = c .before .before .shared-slice-known .given j .fits
 
 rounds-holds : tie.Need-rounds-holds Inv-rounds μ-rounds
 rounds-holds c =
-    let s = c .before .before .before in
+    let s = c .before .before in
     let a = s .args in
     going-first (a .trace .now) (a .most) (a .settings) (a .held .now) (s .pre .0 .1) (s .pre .1 .1)
 
@@ -52,39 +49,32 @@ play-round-requires c κs =
     let long = at .rounds .inv .long ∙ asked .2 ∙ ap (λ (d : Settings). d .n) (s .pre .0 .1) ∙ sym same in
     ((s .pre .0 .0, own), ((asked .0, omega (arith, early, asked .1), long), (small, at .rounds .inv .holds)))
 
-cast-refused : tie.Need-cast-refused Inv-rounds μ-rounds
-cast-refused c =
-    let played = c .before .before in
-    let s = call (played .before .before .before) in
-    omega (arith, played .play-round .ensures .upTo, ap (λ (d : Settings). d .n) (s .pre .0 .1))
+cast-if1 : tie.Need-cast-if1 Inv-rounds μ-rounds
+cast-if1 c = search needs
 
-cast-result : tie.Need-cast-result Inv-rounds μ-rounds
-cast-result c = search needs
+cast-stop-place : tie.Need-cast-stop-place Inv-rounds μ-rounds
+cast-stop-place c = search needs
 
-add-result : tie.Need-add-result Inv-rounds μ-rounds
-add-result c = search needs
-
-mul-result : tie.Need-mul-result Inv-rounds μ-rounds
-mul-result c = search needs
-
-add-result-2 : tie.Need-add-result-2 Inv-rounds μ-rounds
-add-result-2 c = search needs
+stop-place-requires : tie.Need-stop-place-requires Inv-rounds μ-rounds
+stop-place-requires c κs = search needs
 
 same-length : tie.Need-same-length Inv-rounds μ-rounds
 same-length c = search needs
 
 returns : tie.Need-returns Inv-rounds μ-rounds
 returns c =
-    let played = c .before .before .before in
+    let stopped = c .before in
+    let played = stopped .before .before .before .before in
     let at = played .before .before .before in
     let s = call at in
     let a = s .args in
-    stops-here (a .trace .now) (at .rounds .k) (played .play-round .result) (a .most)
+    rw (c .stop-place .ensures)
+    (stops-here (a .trace .now) (at .rounds .k) (played .play-round .result) (a .most)
     (played .play-round .last .1 .1 .1 .1 .0)
     (played .play-round .ensures)
-    (omega (arith, c .if1 .taken, ap (λ (d : Settings). d .n) (s .pre .0 .1)))
+    (omega (arith, stopped .if1 .taken, ap (λ (d : Settings). d .n) (s .pre .0 .1)))
     (at .rounds .inv .before)
-    (played .before .before .rounds-test .taken)
+    (played .before .before .rounds-test .taken))
 
 stepped-requires : tie.Need-stepped-requires Inv-rounds μ-rounds
 stepped-requires c κs = search needs
@@ -98,7 +88,7 @@ rounds-less c = search needs
 rounds-again : tie.Need-rounds-again Inv-rounds μ-rounds
 rounds-again c =
     let passed = c .before in
-    let played = passed .before .before .before in
+    let played = passed .before .before .before .before in
     let at = played .before .before .before in
     let s = call at in
     let a = s .args in
@@ -133,14 +123,11 @@ play-rounds-spec =
     (tie.spec
     Inv-rounds
     μ-rounds
-    cast-n
     rounds-holds
     play-round-requires
-    cast-refused
-    cast-result
-    add-result
-    mul-result
-    add-result-2
+    cast-if1
+    cast-stop-place
+    stop-place-requires
     same-length
     returns
     stepped-requires

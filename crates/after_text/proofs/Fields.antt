@@ -1,5 +1,5 @@
--- A line by its fields, with a space before each but the first; the values of one cabinet more; how long the line of the
--- values after some rounds is, at most.
+-- A line by its fields, with a space before each but the first; the values of one cabinet more; how long the line of
+-- the values after some rounds is, at most.
 -- Assumes nothing.
 use mathlib.Core.List.{List, [], _∷_, _++_, append-assoc, append-nil}
 use mathlib.Core.Path.{_≡_, refl, sym, ap, _∙_}

@@ -10,7 +10,8 @@ pub const AFTER_CAPACITY: usize = 3070;
 
 // Puts the fields of cabinets 0 to n-1: their values.
 fn put_values(text: &mut [u8], at: usize, values: &[u8], n: u32) -> usize
-    ensures { λ r. ⌜ Puts (now (text .entry)) at (spacedValues (valueAt (now (values .entry))) n) (now (text .exit)) r ⌝ }
+    ensures { λ r.
+        ⌜ Puts (now (text .entry)) at (spacedValues (valueAt (now (values .entry))) n) (now (text .exit)) r ⌝ }
 {
     let mut next = at;
     let mut passed: u32 = 0;
@@ -25,7 +26,8 @@ fn put_values(text: &mut [u8], at: usize, values: &[u8], n: u32) -> usize
 
 // Puts the line: `after`, the number of rounds, N values.
 fn put_after(text: &mut [u8], at: usize, n: u32, k: u32, values: &[u8]) -> usize
-    ensures { λ r. ⌜ Puts (now (text .entry)) at (afterText n k (valueAt (now (values .entry)))) (now (text .exit)) r ⌝ }
+    ensures { λ r.
+        ⌜ Puts (now (text .entry)) at (afterText n k (valueAt (now (values .entry)))) (now (text .exit)) r ⌝ }
 {
     let word = fields::put_bytes(text, at, b"after");
     let first = fields::put_field(text, word, k);

@@ -1,5 +1,5 @@
--- Every answer of a replay tells what it gives: a grant is below 2^32, and a refusal is 2^32 or above and gives back its
--- number, 1 to 15, and its place. There are at most 32 rounds of 4,096 entries.
+-- Every answer of a replay tells what it gives: a grant is below 2^32, and a refusal is 2^32 or above and gives back
+-- its number, 1 to 15, and its place. There are at most 32 rounds of 4,096 entries.
 -- Assumes nothing.
 use mathlib.Core.Bool.{not, _&&_, _||_}
 use mathlib.Core.List.{List}
@@ -74,7 +74,8 @@ module _ (s : List ℕ) (room : ℕ) where
   trace-sound : Sound 15 (firstOf (traceChecks s room))
   trace-sound =
       rw (trace-checks s room)
-      (next-sound (firstOf (headChecks s room)) (firstOf (bodyOf s (settingsAt s .n) (roundsAt s))) head-sound body-sound)
+      (next-sound (firstOf (headChecks s room)) (firstOf (bodyOf s (settingsAt s .n) (roundsAt s))) head-sound
+      body-sound)
 
   head-passed : firstOf (traceChecks s room) ≡ none → Headed s room
   head-passed passes =

@@ -1,5 +1,5 @@
--- Refusals of the table up to some number, with a place that 32 bits hold; the checks that give no other; and what such a
--- refusal is, packed.
+-- Refusals of the table up to some number, with a place that 32 bits hold; the checks that give no other; and what such
+-- a refusal is, packed.
 -- Assumes nothing.
 use mathlib.Core.Bool.{Bool, true, _&&_}
 use mathlib.Core.List.{List}

@@ -70,7 +70,8 @@ module _ (s : List ℕ) where
   unfolding entryChecks
   entries-sound pass =
       let few = few-passed pass in
-      array-sound 12 refl refl (markAt s) (bitsAt s (entryCount (settingsAt s))) (entryCount (settingsAt s)) (omega arith)
+      array-sound 12 refl refl (markAt s) (bitsAt s (entryCount (settingsAt s))) (entryCount (settingsAt s))
+      (omega arith)
 
   settle-sound : (room : ℕ) → Sound 12 (firstOf (settleChecks s room))
   settle-sound room =

@@ -36,7 +36,8 @@ module _ (c : tie.After-replay) where
   replayed : (v : Replayed) → c .replay .result ≡ v → replayingOf v left ≡ replay trace (start .args .values .now)
   replayed v e = sym (ap (λ (u : Replayed). replayingOf u left) e) ∙ c .replay .ensures
 
-  final-text : (size : ℕ) → c .replay .result ≡ Granted size → finalWritten trace left buffer ≡ replayListed trace buffer
+  final-text : (size : ℕ) → c .replay .result ≡ Granted size
+      → finalWritten trace left buffer ≡ replayListed trace buffer
   final-text size e =
       final-listed trace buffer (start .args .values .now) left (start .pre .0)
       (λ j. (c .before .before .before .before .shared-slice-known .given j) .fits)

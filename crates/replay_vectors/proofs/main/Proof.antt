@@ -1,5 +1,5 @@
--- `replay_vectors::main` is safe and ends. The loop's invariant: at most 1000 lines are read, and the vector keeps its length. The measure
--- is the number of lines left.
+-- `replay_vectors::main` is safe and ends. The loop's invariant: at most 1000 lines are read, and the vector keeps its
+-- length. The measure is the number of lines left.
 -- Assumes nothing.
 use borrow.Author.Needs.{needs}
 use mathlib.Core.Path.{_≡_}

@@ -1,5 +1,5 @@
--- `standard_input::read_input` meets its contract. The loop's invariant: what was read lies within the buffer, whose length is
--- kept. The measure is what is left of the buffer: a turn that reads nothing leaves the loop.
+-- `standard_input::read_input` meets its contract. The loop's invariant: what was read lies within the buffer,
+-- whose length is kept. The measure is what is left of the buffer: a turn that reads nothing leaves the loop.
 -- Assumes nothing.
 use borrow.Author.Needs.{needs}
 use mathlib.Core.List.{List}

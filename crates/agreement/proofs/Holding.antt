@@ -17,6 +17,7 @@ use Rattle.model.specs.Ensemble.{Readings, quorum, maxCabinets}
 use Rattle.model.specs.Steps.{spanWidth, accepted, acceptedAt, estimate, Round, roundWith, roundOf}
 use Rattle.round_laws.specs.Naturals.{shift}
 use Rattle.round_laws.proofs.Local.{EqualBelow, EqualRounds, round-local}
+use Rattle.held.proofs.Kept.{Kept}
 use Rattle.held.specs.Held.{heldMark, heldValue, readingsIn, unfit}
 use Rattle.estimates.specs.Values.{nothing}
 use Rattle.estimates.specs.declared.Estimated.{Estimated}
@@ -47,7 +48,7 @@ module _ (c : Settings) (v : Readings) (marks values : List ℕ) (long : length 
 
 -- the lists hold the readings
 module _ (c : Settings) (v : Readings)
-    (kept : (r : ℕ) → r < c .n → shift twoTo31 (eqb (heldMark (v r)) 1) (heldValue (v r)) ≡ v r)
+    (kept : (r : ℕ) → r < c .n → Kept (v r))
     (marks values : List ℕ)
     (marked : marks ≡ table (λ r. heldMark (v r)) (c .n))
     (valued : values ≡ table (λ r. heldValue (v r)) (c .n)) where

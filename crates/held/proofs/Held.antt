@@ -1,10 +1,13 @@
--- A reading that is held is read back: by its mark and its number. What lists that fit are.
+-- A reading that is held is read back: by its mark and its number. What lists that fit are; a local array's part for n
+-- cabinets.
 -- Assumes nothing.
 use mathlib.Core.Bool.{Bool, true, false, not}
 use mathlib.Core.Path.{_≡_, refl, ap}
 use Prim.Native.Nat.{ℕ, _≤_}
 use borrow.Author.Tests.{le-ltb, ltb-false, eq-eqb, eqb-true}
 use lib.Dec.{ltb, eqb}
+use lib.ListN.{length, take, replicate}
+use lib.Seq.{length-take-le}
 use Rattle.arithmetic.proofs.Bools.{clash, or-false, or-left, or-right}
 use Rattle.arithmetic.specs.Words.{twoTo31}
 use Rattle.arithmetic.specs.Naturals.{down}
@@ -36,3 +39,7 @@ module _ (marks values : ℕ) where
 
   pub fit-intro : marks ≤ maxCabinets → values ≡ marks → unfit marks values ≡ false
   fit-intro l e = or-false (le-ltb maxCabinets marks l) (ap not (eq-eqb values marks e))
+
+-- the first n places of 64
+pub first-places : (n : ℕ) → n ≤ maxCabinets → length {A = ℕ} (take n (replicate 64 0)) ≡ n
+first-places n h = length-take-le n (replicate 64 0) h

@@ -1,3 +1,4 @@
 pub mod Biased
 pub mod Biasing
 pub mod Held
+pub mod Kept

@@ -12,26 +12,23 @@ use native.Mathlib.Omega.{arith}
 use lib.Dec.{eqb, lit≤}
 use lib.IntN.{ℤ, pos}
 use lib.ListN.{length}
-use mir.Syntax.{w32}
-use mir.Val.{SFits, toZ, ofZ}
-use mir.Facts.{toZ-ofZ}
 use Rattle.arithmetic.specs.Counting.{lowest}
-use Rattle.arithmetic.specs.Writing.{table, overwrite}
+use Rattle.arithmetic.specs.Writing.{table}
 use Rattle.arithmetic.proofs.Bools.{both-ways, and-ext, cond-ext}
 use Rattle.arithmetic.proofs.Counting.{split-last, lowest-ext, lowest-none, lowest-missed}
-use Rattle.arithmetic.proofs.Writing.{length-table, getD-table, table-ext}
+use Rattle.arithmetic.proofs.Writing.{table-ext}
 use Rattle.model.specs.declared.Settings.{Settings}
-use Rattle.model.specs.Ensemble.{Reading, ticks}
-use Rattle.model.specs.RoundSheet.{settingsAt, readingBytes}
+use Rattle.model.specs.Ensemble.{ticks}
+use Rattle.model.specs.RoundSheet.{settingsAt}
 use Rattle.model.specs.Planner.{planFrom, after, maxAccuracy, maxRounds}
 use Rattle.model.specs.Refusals.{Check, orNext}
-use Rattle.model.specs.Calls.{granted, verdict, lent, Outcome}
+use Rattle.model.specs.Calls.{Verdict, granted, verdict, Outcome}
 use Rattle.refusal_laws.proofs.Checks.{next-none-left, next-none-right}
-use Rattle.sheet_laws.proofs.Readings.{word-readings}
+use Rattle.sheet_laws.proofs.Outcomes.{granted-none}
 use Rattle.run.specs.Run.{Station, Sound, Allowed, stateAfter}
 use Rattle.run.specs.Trace.{roundsAt, soundAt, tracedStation, tracedSends}
 use Rattle.run.specs.Replay.{tooMany, refusedIn, atRound, inRound, runStopped, shownAfter, valuesTo, replay}
-use Rattle.run.proofs.Entries.{reading-fits}
+use Rattle.run.proofs.Shown.{few-rounds, recorded, replay-shows}
 use Rattle.run.proofs.Traced.{Recorded, traced-start, traced-allowed, traced-ready}
 use Rattle.demand_3.specs.Guarantee.{apart, Good, Close}
 use Rattle.demand_3.proofs.Guarantee.{guarantee}
@@ -39,35 +36,16 @@ use Rattle.replay_guarantee.specs.Replayed.{Bytes, Passes, valueIn, meet
 use Rattle.replay_guarantee.specs.Replayed.{AlikeForSound, FaultyIgnored, FewBad, Replays, ReplayGuarantee}
 use Rattle.replay_guarantee.proofs.TwoRuns.{stateOf, held-alike, settled-alike}
 use Rattle.replay_guarantee.proofs.Listed.{roundsFrom, length-rounds, each-listed, every-listed}
-use Rattle.replay_guarantee.proofs.Passed.{few-rounds, recorded, replay-passed}
+use Rattle.replay_guarantee.proofs.Passed.{replay-passed}
 
 no-accuracy : 0 ≤ maxAccuracy
 no-accuracy = lit≤ tt
 
 -- ---- a replay is the run
 
--- values of 32 bits read back, whatever follows them
-values-back :
-    (f : ℕ → ℤ) (n : ℕ) (old : List ℕ) (p : ℕ) → p < n → SFits w32 (f p)
-    → valueIn (overwrite (readingBytes (table f n)) old) p ≡ f p
-unfolding overwrite
-values-back f n old p l fits =
-    ap (toZ w32)
-    (word-readings (table f n) _ p (rw (length-table f n) l) (rw (getD-table f n p (pos 0) l) fits)
-    ∙ ap (ofZ w32) (getD-table f n p (pos 0) l))
-    ∙ toZ-ofZ fits
-
-granted-none : (check : Check) (size : ℕ) → verdict check size ≡ granted size → check ≡ none
-granted-none none size e = refl
-granted-none (some r) size e = cc
-
 round-none : (k : ℕ) (o : Option ℕ) → atRound k o ≡ none → o ≡ none
 round-none k none e = refl
 round-none k (some p) e = cc
-
-shown-fits : (b : Bool) (y : Reading) → (b ≡ true → SFits w32 (ticks y)) → SFits w32 (cond b (ticks y) (pos 0))
-shown-fits true y f = f refl
-shown-fits false y f = record { sfits = omega arith }
 
 alike-itself : (s : List ℕ) → AlikeForSound s s
 alike-itself s =
@@ -81,36 +59,29 @@ alike-itself s =
 
 module _ (s values : List ℕ) (small : Bytes s) (pass : Passes s values) where
   rs : Recorded s
-  rs = recorded s values pass small
-
-  values-fit : (k p : ℕ) → k ≤ maxRounds → p < settingsAt s .n → SFits w32 (shownAfter s k p)
-  values-fit k p l lp =
-      shown-fits (soundAt s p) (stateOf s 0 k .held p)
-      (λ e. reading-fits (stateOf s 0 k .held p) (traced-ready s rs 0 no-accuracy k l .readings p (lp, e)))
+  rs = recorded s (length values) pass small
 
   -- what is granted is not refused under 15
   none-said : replay s values .verdict ≡ granted (4 * settingsAt s .n) → runStopped s (roundsAt s) ≡ none
   none-said e =
-      granted-none (runStopped s (roundsAt s)) (4 * settingsAt s .n)
+      granted-none (runStopped s (roundsAt s)) (4 * settingsAt s .n) (4 * settingsAt s .n)
       (sym (ap (λ (o : Outcome). o .verdict) (replay-passed s values pass)) ∙ e)
 
   -- and stands in the buffer
   values-stand :
       replay s values .verdict ≡ granted (4 * settingsAt s .n)
       → (p : ℕ) → p < settingsAt s .n → valueIn (replay s values .buffer) p ≡ shownAfter s (roundsAt s) p
-  unfolding valuesTo
-  values-stand e p l =
-      ap (λ (b : List ℕ). valueIn b p)
-      (ap (λ (o : Outcome). o .buffer) (replay-passed s values pass)
-      ∙ ap (λ (c : Check). lent c (overwrite (readingBytes (valuesTo s (roundsAt s))) values) values) (none-said e))
-      ∙ values-back (shownAfter s (roundsAt s)) (settingsAt s .n) values p l
-      (values-fit (roundsAt s) p (few-rounds s values pass) l)
+  unfolding replay
+  values-stand e =
+      replay-shows s values (replay s values .buffer) (roundsAt s) (4 * settingsAt s .n)
+      (ap (λ (v : Verdict ℕ). record { verdict = v; buffer = replay s values .buffer }) (sym e)) small
+      (le-refl (roundsAt s))
 
   held :
       (κ : ℕ) → κ ≤ maxAccuracy → (p : ℕ) → p < settingsAt s .n → soundAt s p ≡ true
       → stateOf s 0 (roundsAt s) .held p ≡ stateOf s κ (roundsAt s) .held p
   held κ most =
-      held-alike s s rs rs (alike-itself s) (few-rounds s values pass) 0 κ no-accuracy most (roundsAt s)
+      held-alike s s rs rs (alike-itself s) (few-rounds s (length values) pass) 0 κ no-accuracy most (roundsAt s)
       (le-refl (roundsAt s))
 
   refused-is :
@@ -120,7 +91,7 @@ module _ (s values : List ℕ) (small : Bytes s) (pass : Passes s values) where
   refused-is κ most k p early l e =
       ap (λ (b : Bool). b && meetsTooMany s 0 k p) e
       ∙ ap (λ (o : Outcome). tooMany (o .verdict))
-      (settled-alike s s rs rs (alike-itself s) (few-rounds s values pass) 0 κ no-accuracy most k p early l e)
+      (settled-alike s s rs rs (alike-itself s) (few-rounds s (length values) pass) 0 κ no-accuracy most k p early l e)
 
   module _ (κ : ℕ) (most : κ ≤ maxAccuracy) where
     -- ---- 15 is said exactly where a sound cabinet meets too many faults
@@ -222,13 +193,13 @@ faulty-ignored s t values small-s small-t alike pass-s pass-t =
     ∙ sym (replay-passed t values pass-t)
   where
     rs : Recorded s
-    rs = recorded s values pass-s small-s
+    rs = recorded s (length values) pass-s small-s
 
     rt : Recorded t
-    rt = recorded t values pass-t small-t
+    rt = recorded t (length values) pass-t small-t
 
     few : roundsAt s ≤ maxRounds
-    few = few-rounds s values pass-s
+    few = few-rounds s (length values) pass-s
 
 -- ---- at most m bad
 
@@ -245,10 +216,10 @@ module _ (s values : List ℕ) (small : Bytes s) (pass : Passes s values) (κ : 
   close-in : (k : ℕ) → k < roundsAt s → Close st true-value (stateOf s κ k) (tracedSends s k)
   unfolding stateAfter
   close-in k l =
-      let traced = recorded s values pass small in
+      let traced = recorded s (length values) pass small in
       let listed = roundsFrom (tracedSends s) 0 (roundsAt s) in
       let short : length listed ≤ maxRounds =
-      rw (length-rounds (tracedSends s) 0 (roundsAt s)) (few-rounds s values pass) in
+      rw (length-rounds (tracedSends s) 0 (roundsAt s)) (few-rounds s (length values) pass) in
       let each = each-listed (tracedSends s) (Allowed st) (traced-allowed s traced κ most) 0 (roundsAt s) in
       subst (λ (i : ℕ). Close st true-value (stateOf s κ i) (tracedSends s i)) (zero-add k)
       (every-listed (tracedSends s) st (Close st true-value) 0 (roundsAt s)
@@ -265,7 +236,7 @@ module _ (s values : List ℕ) (small : Bytes s) (pass : Passes s values) (κ : 
   -- after one round or more
   planned : (k : ℕ) → k < roundsAt s → stateOf s κ (suc k) .plan ≡ after (suc k) (planFrom (settingsAt s) κ)
   planned k l =
-      traced-ready s (recorded s values pass small) κ most (suc k) (le-trans l (few-rounds s values pass)) .plan
+      traced-ready s (recorded s (length values) pass small) κ most (suc k) (le-trans l (few-rounds s (length values) pass)) .plan
 
   precise-after :
       (k : ℕ) → 0 < k → k ≤ roundsAt s → (p q : ℕ) → Sound st p → Sound st q

@@ -7,28 +7,28 @@ use mathlib.Core.Path.{_≡_, refl, sym, ap, ap₂, _∙_, subst}
 use Prim.Native.Nat.{ℕ, zero, suc, _*_, _≤_, _<_}
 use native.Mathlib.Nat.{pos-of-ne-zero}
 use native.Mathlib.Omega.{arith}
-use borrow.Author.Tests.{le-ltb, lt-ltb, le-leb, eq-eqb, ne-eqb}
+use borrow.Author.Tests.{lt-ltb, le-leb, eq-eqb, ne-eqb}
 use lib.Dec.{eqb}
 use lib.IntN.{ℤ}
-use lib.ListN.{length, getD, take, replicate}
-use lib.Seq.{length-take-le}
+use lib.ListN.{length, getD}
 use Rattle.arithmetic.specs.Naturals.{down, up}
 use Rattle.arithmetic.specs.Writing.{table, overwrite}
 use Rattle.arithmetic.specs.Words.{twoTo31}
 use Rattle.arithmetic.proofs.Bools.{and-intro}
-use Rattle.arithmetic.proofs.Writing.{length-table, getD-table}
+use Rattle.arithmetic.proofs.Writing.{length-table}
 use Rattle.model.specs.declared.Refusal.{Refusal}
 use Rattle.model.specs.declared.Settings.{Settings}
 use Rattle.model.specs.Ensemble.{Readings, ticks, quorum, maxCabinets}
 use Rattle.model.specs.RoundSheet.{byte, settingsAt, sheetLength}
 use Rattle.model.specs.AnswerSheet.{answerBytes, answerLength}
-use Rattle.model.specs.Steps.{spanWidth, accepted, acceptedAt, estimate, Round, roundWith, roundOf, roundAt}
+use Rattle.model.specs.Steps.{spanWidth, accepted, estimate, Round, roundOf, roundAt}
 use Rattle.model.specs.Refusals.{refusal, firstOf, rowChecks, tooManyFaults, tooManyFaultsNumber}
 use Rattle.model.specs.Calls.{Outcome, granted, refused, settleAfter, settle}
 use Rattle.refusal_laws.proofs.Limits.{Limits, limits}
 use Rattle.sheet_laws.proofs.Checks.{settings-passed, sheet-length-passed}
 use Rattle.round_laws.specs.Naturals.{shift}
-use Rattle.round_laws.proofs.Local.{EqualBelow, EqualRounds, rounds-trans, round-local, answer-local}
+use Rattle.round_laws.proofs.Local.{EqualBelow, EqualRounds, rounds-trans, answer-local}
+use Rattle.held.proofs.Kept.{Kept}
 use Rattle.held.specs.Held.{heldMark, heldValue, valueAt, presentIn, readingsIn, unfit}
 use Rattle.estimates.specs.Values.{nothing}
 use Rattle.estimates.specs.declared.Estimated.{Estimated}
@@ -36,6 +36,7 @@ use Rattle.acceptance.specs.Values.{acceptedIn, acceptedCount}
 use Rattle.acceptance.proofs.Spans.{held-present}
 use Rattle.agreement.specs.Values.{markAt, agreedMarks, agreedRound, agreedOf}
 use Rattle.agreement.proofs.Agreeing.{kept-at, kept-present}
+use Rattle.agreement.proofs.Holding.{agreed-is, marks-long, values-long, same-held, counted-is, fit-held}
 use Rattle.agreement.proofs.Rounds.{estimate-back, value-back}
 use Rattle.reception.specs.Receiving.{readingAt, fitting, marksReceived, valuesReceived}
 use Rattle.reception.proofs.Holding.{sheet-kept}
@@ -68,21 +69,6 @@ module _ (c : Settings) (v : Readings) (marks values : List ℕ) (long : length 
   abbrev agreed : Round
   agreed = agreedRound width need (c .estimator) marks values
 
-  -- it is the round of the readings
-  agreed-is : EqualRounds (c .n) agreed (roundOf c v)
-  unfolding roundOf acceptedAt acceptedIn
-  agreed-is =
-      subst (λ (r : Round). EqualRounds (c .n) r (roundOf c v)) (sym here)
-      (round-local c (readingsIn marks values) v (λ r l. sym (same r l)))
-    where
-      of : ℕ → Round
-      of n =
-          roundWith n (readingsIn marks values) (accepted width need n (readingsIn marks values))
-          (estimate (c .estimator) (accepted width need n (readingsIn marks values)) n (readingsIn marks values))
-
-      here : agreed ≡ roundOf c (readingsIn marks values)
-      here = ap of long
-
   module _ (some-acc : 0 < acceptedCount width need marks values) (kept : List ℕ)
       (keeps : kept ≡ table (markAt width need marks values) (length marks)) where
     settled-mark : EqualBelow (c .n) (λ r. getD kept r 0) (agreed .mark)
@@ -113,7 +99,7 @@ module _ (c : Settings) (v : Readings) (marks values : List ℕ) (long : length 
           mark = settled-mark;
           used = settled-used (up twoTo31 (agreed .estimate)) e;
         })
-        agreed-is
+        (agreed-is c v marks values long same)
 
 -- ---- what the calls of settling leave, on plain values
 
@@ -159,27 +145,23 @@ module _ (s : List ℕ) (pass : firstOf (rowChecks s) ≡ none) where
     unfolding valuesReceived
     values-here = h .valued ∙ rw fitting-here
 
-    marks-long : length marks ≡ own .n
-    marks-long = ap length marks-here ∙ length-table (λ r. heldMark (readingAt s own r)) (own .n)
+    -- what is held of each reading is the reading
+    kept-here : (r : ℕ) → r < own .n → Kept (readingAt s own r)
+    kept-here r l =
+        let some-need : 0 < quorum own = let f = within .faults in omega arith in
+        sheet-kept s (h .small) own some-need r
 
-    values-long : length values ≡ own .n
-    values-long = ap length values-here ∙ length-table (λ r. heldValue (readingAt s own r)) (own .n)
+    long-here : length marks ≡ own .n
+    long-here = marks-long own (readingAt s own) kept-here marks values marks-here values-here
+
+    also-long : length values ≡ own .n
+    also-long = values-long own (readingAt s own) kept-here marks values marks-here values-here
 
     fit-here : unfit (length marks) (length values) ≡ false
-    fit-here =
-        rw (marks-long, values-long, le-ltb maxCabinets (own .n) (within .cabinets), eq-eqb (own .n) (own .n) refl)
+    fit-here = fit-held own (readingAt s own) kept-here marks values marks-here values-here (within .cabinets)
 
-    -- what is held of each reading is the reading
     same-here : EqualBelow (own .n) (readingAt s own) (readingsIn marks values)
-    same-here r l =
-        let some-need : 0 < quorum own = let f = within .faults in omega arith in
-        let mark = getD-table (λ r. heldMark (readingAt s own r)) (own .n) r 0 l in
-        let value = getD-table (λ r. heldValue (readingAt s own r)) (own .n) r 0 l in
-        sym
-        (ap₂ (λ (x y : ℕ). shift twoTo31 (eqb x 1) y)
-        (ap (λ (k : List ℕ). getD k r 0) marks-here ∙ mark)
-        (ap (λ (k : List ℕ). getD k r 0) values-here ∙ value)
-        ∙ sheet-kept s (h .small) own some-need r)
+    same-here = same-held own (readingAt s own) kept-here marks values marks-here values-here
 
     -- the readings that are accepted
     abbrev counted : ℕ
@@ -190,8 +172,8 @@ module _ (s : List ℕ) (pass : firstOf (rowChecks s) ≡ none) where
     here = agreedRound (spanWidth own) (quorum own) (own .estimator) marks values
 
     counted-here : counted ≡ roundAt s .count
-    unfolding roundAt acceptedCount
-    counted-here = agreed-is own (readingAt s own) marks values marks-long same-here .count
+    unfolding roundAt
+    counted-here = counted-is own (readingAt s own) kept-here marks values marks-here values-here
 
     abbrev answer : Estimated
     answer = record { count = counted; estimate = up twoTo31 (here .estimate); value = up twoTo31 (here .value) }
@@ -213,15 +195,15 @@ module _ (s : List ℕ) (pass : firstOf (rowChecks s) ≡ none) where
     count-some : (a .count ≡ 0 → ⊥) → counted ≡ 0 → ⊥
     count-some d e = d (agreed-none e)
 
-    kept-here : (a .count ≡ 0 → ⊥) → kept ≡ table (markAt (spanWidth own) (quorum own) marks values) (length marks)
+    marks-kept : (a .count ≡ 0 → ⊥) → kept ≡ table (markAt (spanWidth own) (quorum own) marks values) (length marks)
     unfolding agreedMarks
-    kept-here d = h .keeps ∙ rw (fit-here, ne-eqb counted 0 (count-some d))
+    marks-kept d = h .keeps ∙ rw (fit-here, ne-eqb counted 0 (count-some d))
 
     kept-long : (a .count ≡ 0 → ⊥) → length kept ≡ own .n
     kept-long d =
-        ap length (kept-here d)
+        ap length (marks-kept d)
         ∙ length-table (markAt (spanWidth own) (quorum own) marks values) (length marks)
-        ∙ marks-long
+        ∙ long-here
 
     count-none : a .count ≡ 0 → roundAt s .count ≡ 0
     count-none z = go counted refl
@@ -243,8 +225,8 @@ module _ (s : List ℕ) (pass : firstOf (rowChecks s) ≡ none) where
     unfolding roundAt acceptedCount
     alike-here d =
         rw (agreed-some (count-some d))
-        (settled-alike own (readingAt s own) marks values marks-long same-here (pos-of-ne-zero (count-some d)) kept
-        (kept-here d))
+        (settled-alike own (readingAt s own) marks values long-here same-here (pos-of-ne-zero (count-some d)) kept
+        (marks-kept d))
 
     module _ (old : List ℕ) (large : answerLength (own .n) ≤ length old) where
       pub none-settled : a .count ≡ 0 → too-many old ≡ settle s old
@@ -258,7 +240,7 @@ module _ (s : List ℕ) (pass : firstOf (rowChecks s) ≡ none) where
       room-here : (a .count ≡ 0 → ⊥) → roomy (length kept) (length values) (length old) ≡ true
       unfolding roomy
       room-here d =
-          rw (kept-long d, values-long)
+          rw (kept-long d, also-long)
           (and-intro (le-leb (own .n) maxCabinets (within .cabinets))
           (and-intro (eq-eqb (own .n) (own .n) refl) (le-leb (answerLength (own .n)) (length old) large)))
 
@@ -323,7 +305,3 @@ pub few-faults : (s : List ℕ) (c : Settings) (old : List ℕ) → Ready s c ol
 few-faults s c old ready =
     rw (ready .own)
     (let f = within s (ready .passes) .faults in (omega arith, within s (ready .passes) .cabinets))
-
--- the first n places of 64
-pub first-places : (n : ℕ) → n ≤ maxCabinets → length {A = ℕ} (take n (replicate 64 0)) ≡ n
-first-places n h = length-take-le n (replicate 64 0) h

@@ -2,13 +2,11 @@
 -- Assumes nothing.
 use mathlib.Core.Bool.{Bool, true, false, _&&_}
 use mathlib.Core.List.{List}
-use mathlib.Core.Path.{_≡_, sym, ap, _∙_}
+use mathlib.Core.Path.{_≡_, ap, _∙_}
 use Prim.Native.Nat.{ℕ, _≤_}
-use native.Mathlib.Omega.{arith}
 use borrow.Author.Tests.{eqb-true, leb-true}
 use lib.Dec.{leb, eqb}
-use lib.ListN.{length, take, replicate}
-use lib.Seq.{length-take-le}
+use lib.ListN.{length}
 use Rattle.arithmetic.specs.Writing.{table, overwrite}
 use Rattle.arithmetic.proofs.Bools.{and-left, and-right}
 use Rattle.model.specs.declared.Settings.{Settings}
@@ -17,10 +15,6 @@ use Rattle.hearing.specs.Heard.{audible}
 use Rattle.hearing.proofs.Audible.{Audible, audible-fits}
 use Rattle.station_rounds.specs.Rounds.{nextValue, roundFits, refusedGiven, nextGiven}
 use Rattle.station_rounds.specs.Settling.{Fits, Left}
-
--- the first n places of 64
-pub first-places : (n : ℕ) → n ≤ maxCabinets → length {A = ℕ} (take n (replicate 64 0)) ≡ n
-first-places n h = length-take-le n (replicate 64 0) h
 
 module _ (c : Settings) (roles held sent readings next : List ℕ) where
   -- the test of the code

@@ -1,32 +1,26 @@
 -- What a sound cabinet's settling gives, on plain values: it meets too many faults where its round accepts nothing, and
 -- else its value is the round's, moved up. What is held of a reading that is heard is the reading.
 -- Assumes nothing.
-use mathlib.Core.Bool.{Bool, true, false, cond, _&&_}
+use mathlib.Core.Bool.{Bool, true, false, cond}
 use mathlib.Core.List.{List}
-use mathlib.Core.Option.{Option, none, some}
-use mathlib.Core.Path.{_≡_, refl, sym, ap, ap₂, _∙_, subst}
-use Prim.Native.Nat.{ℕ, zero, suc, _+_, _*_, _-_, _%_, _≤_, _<_}
+use mathlib.Core.Path.{_≡_, sym, ap, _∙_}
+use Prim.Native.Nat.{ℕ, _+_, _*_, _-_, _≤_, _<_}
 use native.Mathlib.Omega.{arith}
 use borrow.Author.Tests.{eq-eqb, ne-eqb, le-leb, lt-ltb}
-use lib.Dec.{eqb, leb}
+use lib.Dec.{eqb}
 use lib.ListN.{length, getD}
-use mir.Syntax.{w32}
-use mir.Val.{toZ}
-use Rattle.arithmetic.specs.Counting.{lowest}
-use Rattle.arithmetic.specs.Naturals.{down, up}
-use Rattle.arithmetic.specs.Words.{twoTo31, twoTo32}
+use Rattle.arithmetic.specs.Naturals.{down}
+use Rattle.arithmetic.specs.Words.{twoTo31}
 use Rattle.arithmetic.specs.Writing.{table}
 use Rattle.arithmetic.proofs.Bools.{and-intro, clash}
 use Rattle.arithmetic.proofs.Counting.{lowest-none, lowest-some}
 use Rattle.model.specs.declared.Settings.{Settings}
-use Rattle.model.specs.Ensemble.{Reading, missing, present, Readings, maxCabinets}
+use Rattle.model.specs.Ensemble.{present, Readings, maxCabinets}
 use Rattle.model.specs.RoundSheet.{byte, word}
-use Rattle.model.specs.Steps.{roundOf}
 use Rattle.sheet_laws.proofs.Words.{word-fits}
-use Rattle.round_laws.specs.Naturals.{shift}
 use Rattle.held.specs.Held.{entryReading, heldMark, heldValue}
-use Rattle.held.proofs.Held.{missing-held, reading-held}
-use Rattle.held.proofs.Biasing.{wrapped-up}
+use Rattle.held.proofs.Held.{reading-held}
+use Rattle.held.proofs.Kept.{Kept, entry-kept}
 use Rattle.estimates.specs.declared.Estimated.{Estimated}
 use Rattle.agreement.specs.Values.{agreedOf}
 use Rattle.agreement.proofs.Holding.{agreed-count, agreed-value}
@@ -34,17 +28,7 @@ use Rattle.hearing.specs.Heard.{heardFrom, audible, marksHeard, valuesHeard}
 use Rattle.station_rounds.specs.Rounds.{heardRound, meetsTooMany, nextValue, placeOf, firstRefused}
 use Rattle.station_rounds.specs.Settling.{Fits}
 
--- ---- what is held of a reading is the reading
-
-abbrev Kept : Reading → Type 0
-Kept z = shift twoTo31 (eqb (heldMark z) 1) (heldValue z) ≡ z
-
-bits-kept : (x : ℕ) → x < twoTo32 → Kept (present (toZ w32 x))
-bits-kept x h = subst (λ z. Kept (present z)) (sym (wrapped-up x h)) (reading-held ((x + twoTo31) % twoTo32))
-
-entry-kept : (b : Bool) (x : ℕ) → x < twoTo32 → Kept (cond b (present (toZ w32 x)) missing)
-entry-kept true x h = bits-kept x h
-entry-kept false x h = missing-held
+-- ---- what is held of a reading that is heard is the reading
 
 module _ (roles held sent readings : List ℕ) (small : (j : ℕ) → byte readings j < 256) (p r : ℕ) where
   heard-kept : Kept (heardFrom roles held sent readings p r)

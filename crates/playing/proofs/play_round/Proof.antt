@@ -2,7 +2,7 @@
 -- Assumes nothing.
 use borrow.Author.Needs.{needs}
 use mathlib.Core.Path.{sym}
-use Rattle.station_rounds.proofs.Fitting.{first-places}
+use Rattle.held.proofs.Held.{first-places}
 use Rattle.playing.proofs.play_round.Statement.{statement}
 use Rattle.playing.proofs.play_round.Tie as tie
 

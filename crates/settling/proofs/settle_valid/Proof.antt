@@ -4,7 +4,8 @@ use borrow.Author.Needs.{needs}
 use mathlib.Core.Path.{sym}
 use Prim.Native.Nat.{_≤_}
 use Rattle.model.specs.Ensemble.{maxCabinets}
-use Rattle.settling.proofs.Settling.{few-faults, first-places}
+use Rattle.held.proofs.Held.{first-places}
+use Rattle.settling.proofs.Settling.{few-faults}
 use Rattle.settling.proofs.settle_valid.Statement.{statement}
 use Rattle.settling.proofs.settle_valid.Tie as tie
 

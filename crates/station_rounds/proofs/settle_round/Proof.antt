@@ -9,7 +9,8 @@ use Prim.Native.Nat.{_≤_}
 use lib.ListN.{length}
 use Rattle.model.specs.Ensemble.{maxCabinets}
 use Rattle.station_rounds.specs.Rounds.{roundFits}
-use Rattle.station_rounds.proofs.Fitting.{first-places, tested, tested-fits, none-given, next-kept, few, next-room}
+use Rattle.held.proofs.Held.{first-places}
+use Rattle.station_rounds.proofs.Fitting.{tested, tested-fits, none-given, next-kept, few, next-room}
 use Rattle.station_rounds.proofs.Fitting.{fits-round, first-given, next-given}
 use Rattle.station_rounds.proofs.settle_round.Statement.{statement}
 use Rattle.station_rounds.proofs.settle_round.Tie as tie

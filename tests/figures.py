@@ -6,8 +6,8 @@
     tests/figures.py text K      what refusal K means
     tests/figures.py version     the version; number: as one number
 
-Numbers are read from crates/model/specs, crates/run/specs and crates/version/specs, the numbers of refusal from the table of crates/model/specs/Refusals.antt
-(the checks 13 to 15 stand in crates/run/specs), and what each means from README's table.
+Numbers are read from crates/model/specs, crates/trace/specs and crates/version/specs, the numbers of refusal from the table of crates/model/specs/Refusals.antt
+(the checks 13 to 15 stand in crates/trace/specs), and what each means from README's table.
 """
 
 import pathlib
@@ -16,7 +16,7 @@ import sys
 
 ROOT = pathlib.Path(__file__).resolve().parent.parent
 MODEL = ROOT / "crates" / "model" / "specs"
-RUN = ROOT / "crates" / "run" / "specs"
+TRACE = ROOT / "crates" / "trace" / "specs"
 
 
 def text(path):
@@ -38,7 +38,7 @@ def defined(path, line):
 FIGURES = {}
 for page in ("Ensemble", "RoundSheet", "AnswerSheet", "Planner"):
     FIGURES.update(numbers(MODEL / f"{page}.antt"))
-FIGURES.update(numbers(RUN / "Trace.antt"))
+FIGURES.update(numbers(TRACE / "Trace.antt"))
 
 VERSION = numbers(ROOT / "crates" / "version" / "specs" / "Version.antt")
 
@@ -59,13 +59,13 @@ def answer_size(n):
 
 
 def trace_size(n, rounds):
-    defined(RUN / "Trace.antt", "traceEntries n rounds = rounds * (n * n)")
-    defined(RUN / "Trace.antt", "traceLength n rounds = traceHeaderSize + 5 * n + 5 * traceEntries n rounds")
+    defined(TRACE / "Trace.antt", "traceEntries n rounds = rounds * (n * n)")
+    defined(TRACE / "Trace.antt", "traceLength n rounds = traceHeaderSize + 5 * n + 5 * traceEntries n rounds")
     return FIGURES["traceHeaderSize"] + 5 * n + 5 * rounds * n * n
 
 
 def values_size(n):
-    defined(RUN / "Replay.antt", "    ∷ noRoom buffer (4 * settingsAt s .n)")
+    defined(TRACE / "Replay.antt", "    ∷ noRoom buffer (4 * settingsAt s .n)")
     return 4 * n
 
 
@@ -80,7 +80,7 @@ def refusals():
     checks = re.findall(r"^(\w+)Number = (\d+)$", page, flags=re.M)
     if [int(number) for _, number in checks] != list(range(1, 16)):
         sys.exit("figures: crates/model/specs/Refusals.antt does not have the numbers 1 to 15")
-    both = page + text(RUN / "Replay.antt")
+    both = page + text(TRACE / "Replay.antt")
     for name, _ in checks:
         if not re.search(rf"^unfoldable pub {name} :", both, flags=re.M) or not re.search(rf"(?<!= )\b{name}Number\b(?! [:=])", both):
             sys.exit(f"figures: no page defines the check {name} with its number")

@@ -109,7 +109,7 @@ sabotage "numbers: number 103" "sed -i 's/number 10,/number 103,/' docs/ANSWER.m
 sabotage "numbers: a number word" "sed -i 's/^- three bad:/- four bad:/' README.md" tests/check_answer "three bad"
 sabotage "numbers: a row of a table" "sed -i '/^| 167,772/d' docs/ANSWER.md" tests/check_answer "a table"
 sabotage "numbers: README's limit" "sed -i 's/^1 to 64 cabinets/1 to 63 cabinets/' README.md" tests/check_answer "64 cabinets"
-sabotage "numbers: the kit" "sed -i 's/rattle-kit-5b/rattle-kit-5c/' README.md" tests/check_answer "rattle-kit"
+sabotage "numbers: the kit" "sed -i 's/rattle-kit-5b-plain/rattle-kit-5c-plain/' README.md" tests/check_answer "rattle-kit"
 sabotage "numbers: a definition" "sed -i 's/^maxRounds = 32/maxRounds = 31/' crates/model/specs/Planner.antt" tests/check_answer "31"
 if asked "numbers: each in turn"; then
     tried=$((tried + 1))

@@ -10,7 +10,6 @@ use native.Mathlib.Omega.{arith}
 use borrow.Author.Tests.{ltb-false, eqb-true, not-false}
 use lib.Dec.{ltb, eqb}
 use lib.ListN.{length, set, replicate, getD-replicate}
-use mir.Val.{boolByte}
 use Rattle.arithmetic.specs.Counting.{bit, count}
 use Rattle.arithmetic.specs.Writing.{table, overwrite}
 use Rattle.arithmetic.proofs.Bools.{or-left, or-right}
@@ -19,7 +18,7 @@ use Rattle.arithmetic.proofs.Writing.{length-table, length-overwrite}
 use Rattle.model.specs.Ensemble.{maxCabinets}
 use Rattle.acceptance.specs.Values.{acceptedIn, acceptedCount, listsMisfit, countGiven, flagsOf}
 use Rattle.acceptance.specs.Values.{Alike, Remembered, Holds}
-use Rattle.loop_laws.proofs.Loops.{flag, count-next, store-none, store-next, store-ended}
+use Rattle.loop_laws.proofs.Loops.{count-next, store-none, store-next, store-ended}
 
 module _ (w need : ℕ) (marks values : List ℕ) (flags₀ : List Bool) where
   abbrev passing : ℕ → Bool
@@ -80,8 +79,10 @@ module _ (w need : ℕ) (marks values : List ℕ) (flags₀ : List Bool) where
         → Holds w need marks values s
         → (next : ℕ)
         → next ≡ cond (ltb s (length marks)) s earlier
-        → Testing known′ (set flags r (ltb s (length marks))) (c + boolByte (ltb s (length marks))) next (r + 1)
-    test-one h known′ l m s e holds next n =
+        → (k : ℕ)
+        → k ≡ bit (ltb s (length marks))
+        → Testing known′ (set flags r (ltb s (length marks))) (c + k) next (r + 1)
+    test-one h known′ l m s e holds next n k b =
         record {
           upTo = omega arith;
           alike = (so-far .alike .0, so-far .alike .1, l ∙ so-far .alike .2);
@@ -89,7 +90,7 @@ module _ (w need : ℕ) (marks values : List ℕ) (flags₀ : List Bool) where
           memory = m;
           start = rw n (go (ltb s (length marks)));
           exact =
-              ap₂ (λ (x y : ℕ). x + y) (so-far .exact) (flag (ltb s (length marks)) ∙ ap bit e)
+              ap₂ (λ (x y : ℕ). x + y) (so-far .exact) (b ∙ ap bit e)
               ∙ sym (count-next passing r);
           written =
               store-next passing r flags₀ flags (ltb s (length marks)) (so-far .written) e
@@ -110,8 +111,8 @@ module _ (w need : ℕ) (marks values : List ℕ) (flags₀ : List Bool) where
 
 -- nothing is remembered of any start
 pub remember-none :
-    (w need : ℕ) (marks values : List ℕ) → length marks ≤ maxCabinets → Remembered w need marks values (replicate 64 0)
-remember-none w need marks values few a l = inl (getD-replicate 64 a 0 0 (omega arith))
+    (w need : ℕ) (marks values : List ℕ) → length marks ≤ maxCabinets → Remembered w need marks values (replicate 65 0)
+remember-none w need marks values few a l = inl (getD-replicate 65 a 0 0 (omega arith))
 
 -- ---- the answers
 

@@ -5,11 +5,12 @@
 --   countGiven, flagsOf    what `accept` counts, and what it leaves in the lent list: at most 64 marks, as many values
 --                          and a list no shorter are asked
 -- What the functions below it give:
---   reachedAt              a reading is present, and within reach of a number
---   spansAt, enoughAt      a reading lies in the span that starts at another; whether that span holds enough
+--   enoughAt               whether the span that starts at a reading holds enough
+--   admits, admitted       a present reading's span holds a number and enough readings; some reading's does
 --   Holds                  a start's reading is present, and its span holds enough
---   Alike                  as many values as marks, at most 64, and a memory of 64 starts
+--   Alike                  as many values as marks, at most 64, and a memory of one start more
 --   Remembered             what the memory of counted spans says of each start
+--   passedAt, Counting     the readings of a span are counted one by one, or from 8 on all at once
 use mathlib.Core.Bool.{Bool, true, cond, not, _&&_, _||_}
 use mathlib.Core.List.{List}
 use mathlib.Core.Logic.{_⊎_}
@@ -17,12 +18,12 @@ use mathlib.Core.Path.{_≡_}
 use Prim.Native.Nat.{ℕ, _+_, _≤_, _<_}
 use lib.Dec.{leb, ltb, eqb}
 use lib.ListN.{length, getD}
-use Rattle.arithmetic.specs.Counting.{bit, count}
+use Rattle.arithmetic.specs.Counting.{bit, count, anyBelow}
 use Rattle.arithmetic.specs.Writing.{table, overwrite}
 use Rattle.model.specs.Steps.{accepted}
 use Rattle.model.specs.Ensemble.{maxCabinets}
-use Rattle.round_laws.specs.Naturals.{spans}
 use Rattle.held.specs.Held.{readingsIn, valueAt, presentIn}
+use Rattle.spans.specs.Spans.{inSpan, heldAt}
 
 unfoldable pub acceptedIn : ℕ → ℕ → List ℕ → List ℕ → ℕ → Bool
 acceptedIn w need marks values r = accepted w need (length marks) (readingsIn marks values) r
@@ -43,18 +44,16 @@ flagsOf w need marks values old =
 
 -- ---- the functions below it
 
--- t's reading is present, and lies at most `reach` above a start
-unfoldable pub reachedAt : ℕ → ℕ → List ℕ → List ℕ → ℕ → Bool
-reachedAt start reach marks values t =
-    presentIn marks t && (leb start (valueAt values t) && leb (valueAt values t) (start + reach))
-
--- t's reading lies in the span of width w that starts at a's
-unfoldable pub spansAt : ℕ → List ℕ → List ℕ → ℕ → ℕ → Bool
-spansAt w marks values a t = spans w (presentIn marks) (valueAt values) a t
-
 -- whether the span that starts at a's reading holds enough
 unfoldable pub enoughAt : ℕ → ℕ → List ℕ → List ℕ → ℕ → Bool
-enoughAt w need marks values a = leb need (count (spansAt w marks values a) (length marks))
+enoughAt w need marks values a = leb need (count (heldAt (valueAt values a) w marks values) (length marks))
+
+unfoldable pub admits : ℕ → ℕ → List ℕ → List ℕ → ℕ → ℕ → Bool
+admits w need marks values v a =
+    (presentIn marks a && inSpan (valueAt values a) w v) && enoughAt w need marks values a
+
+unfoldable pub admitted : ℕ → ℕ → List ℕ → List ℕ → ℕ → Bool
+admitted w need marks values v = anyBelow (admits w need marks values v) (length marks)
 
 -- of a start among the readings
 abbrev pub Holds : ℕ → ℕ → List ℕ → List ℕ → ℕ → Type 0
@@ -63,9 +62,18 @@ Holds w need marks values a =
 
 abbrev pub Alike : List ℕ → List ℕ → List ℕ → Type 0
 Alike marks values known =
-    (length values ≡ length marks) × (length marks ≤ maxCabinets) × (length known ≡ 64)
+    (length values ≡ length marks) × (length marks ≤ maxCabinets) × (length known ≡ 65)
 
 -- 0 for a start that was not counted, 1 for one that is short, 2 for one that holds enough
 abbrev pub Remembered : ℕ → ℕ → List ℕ → List ℕ → List ℕ → Type 0
 Remembered w need marks values known =
     (a : ℕ) → a < length marks → (getD known a 0 ≡ 0) ⊎ (getD known a 0 ≡ 1 + bit (enoughAt w need marks values a))
+
+-- how many of n readings are counted after t of them
+abbrev pub passedAt : ℕ → ℕ → ℕ
+passedAt n t = cond (leb 8 n) n (t + 1)
+
+-- the span from a start holds c of the t readings that are counted
+abbrev pub Counting : ℕ → List ℕ → List ℕ → ℕ → ℕ → ℕ → Type 0
+Counting w marks values start c t =
+    (c ≡ count (heldAt start w marks values) t) × (t < length marks → 8 ≤ length marks → t ≡ 0)

@@ -1,11 +1,13 @@
 -- What a replay of some rounds left in the buffer of values has the line as its text; where the trace has fewer rounds,
 -- or the replay is refused, there is none.
 -- Assumes nothing.
+use mathlib.Core.Bool.{true}
 use mathlib.Core.List.{List, []}
 use mathlib.Core.Path.{_≡_, refl, ap, _∙_}
 use Prim.Native.Nat.{ℕ, _≤_, _<_, min}
 use native.Mathlib.Nat.{min-eq-left}
-use borrow.Author.Tests.{lt-ltb, le-ltb}
+use borrow.Author.Tests.{le-ltb}
+use lib.Dec.{ltb}
 use lib.IntN.{ℤ}
 use lib.ListN.{length}
 use Rattle.arithmetic.specs.Writing.{overwrite}
@@ -14,13 +16,13 @@ use Rattle.model.specs.declared.Refusal.{Refusal}
 use Rattle.model.specs.RoundSheet.{byte, settingsAt}
 use Rattle.model.specs.Listing.{signedDecimal}
 use Rattle.model.specs.Calls.{Outcome}
-use Rattle.run.specs.Trace.{roundsAt}
-use Rattle.run.specs.Replay.{shownAfter, replayTo}
-use Rattle.run.specs.ReplayText.{listedRoom, afterText, afterListing}
-use Rattle.run.proofs.Shown.{replay-refused, replay-granted, replay-shows}
+use Rattle.trace.specs.Trace.{roundsAt}
+use Rattle.trace.specs.Replay.{shownAfter, replayTo}
+use Rattle.trace.specs.ReplayText.{listedRoom, afterText, afterListing}
+use Rattle.trace.proofs.Shown.{replay-refused, replay-granted, replay-shows}
 use Rattle.text.specs.Text.{textIn}
 use Rattle.text.proofs.Texts.{text-fits}
-use Rattle.replay_text.specs.Final.{valueAt}
+use Rattle.value_lines.specs.Values.{valueAt}
 use Rattle.after_text.specs.After.{afterCapacity, afterWritten}
 use Rattle.replaying.specs.declared.Replayed.the-variants.{Granted, Refused}
 use Rattle.replaying.specs.Answers.{replayingOf}
@@ -42,13 +44,13 @@ module _ (s : List ℕ) (k : ℕ) (buffer : List ℕ) where
   nothing e room = rw (e, le-ltb (length buffer) afterCapacity room) (refl, refl)
 
   pub too-few :
-      roundsAt s < k → afterCapacity ≤ length buffer
+      ltb (roundsAt s) k ≡ true → afterCapacity ≤ length buffer
       → (0 ≡ afterListed s k buffer .size) × (buffer ≡ afterListed s k buffer .buffer)
   unfolding afterListing
   too-few few room = nothing none room
     where
       none : afterListing s k ≡ []
-      none = rw (lt-ltb (roundsAt s) k few)
+      none = rw few
 
   module _ (values left : List ℕ) (early : k ≤ roundsAt s) (room : length values ≡ listedRoom) where
     played : (w : Outcome) → w ≡ replayTo s (min k (roundsAt s)) values → w ≡ replayTo s k values

@@ -2,7 +2,7 @@
 -- nothing in a buffer below the capacity.
 use mathlib.Core.List.{List}
 use Prim.Native.Nat.{ℕ}
-use Rattle.run.specs.ReplayText.{afterListing}
+use Rattle.trace.specs.ReplayText.{afterListing}
 use Rattle.text.specs.Text.{Text, textIn}
 use Rattle.after_text.specs.After.{afterCapacity}
 

@@ -2,8 +2,8 @@
 ghost use mathlib.Core.Path.{_≡_};
 ghost use Prim.Native.Nat.{_≤_};
 ghost use lib.ListN.{length};
-ghost use Rattle.run.specs.Trace.{roundsAt};
-ghost use Rattle.run.specs.ReplayText.{listedRoom};
+ghost use Rattle.trace.specs.Trace.{roundsAt};
+ghost use Rattle.trace.specs.ReplayText.{listedRoom};
 ghost use Rattle.after_text.specs.After.{afterCapacity};
 ghost use Rattle.after_listing.specs.Listed.{afterListed};
 use after_text::AFTER_CAPACITY;
@@ -36,7 +36,7 @@ pub fn line(trace: &[u8], k: u8, text: &mut [u8]) -> usize
     if text.len() < AFTER_CAPACITY {
         return 0;
     }
-    if words::byte_at(trace, HEADER_SIZE) < k {
+    if trace_rounds::is_past(words::byte_at(trace, HEADER_SIZE), k) {
         return 0;
     }
     let mut values = [0u8; 256];

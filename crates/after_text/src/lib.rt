@@ -1,28 +1,12 @@
 // Document 02, program `replay`: the line of the values after some rounds, written into a lent buffer.
 ghost use mathlib.Core.Path.{_≡_};
-ghost use Rattle.run.specs.ReplayText.{afterText};
+ghost use Rattle.trace.specs.ReplayText.{afterText};
 ghost use Rattle.fields.specs.Putting.{Puts};
-ghost use Rattle.replay_text.specs.Final.{valueAt};
-ghost use Rattle.after_text.specs.After.{spacedValues, afterWritten};
+ghost use Rattle.value_lines.specs.Values.{valueAt};
+ghost use Rattle.after_text.specs.After.{afterWritten};
 
 // Bytes that hold the longest line.
 pub const AFTER_CAPACITY: usize = 3070;
-
-// Puts the fields of cabinets 0 to n-1: their values.
-fn put_values(text: &mut [u8], at: usize, values: &[u8], n: u32) -> usize
-    ensures { λ r.
-        ⌜ Puts (now (text .entry)) at (spacedValues (valueAt (now (values .entry))) n) (now (text .exit)) r ⌝ }
-{
-    let mut next = at;
-    let mut passed: u32 = 0;
-    'cabinets: while passed < n {
-        let i = passed as usize;
-        passed += 1;
-        let value = words::word_at(values, 4 * i);
-        next = fields::put_signed_field(text, next, value);
-    }
-    next
-}
 
 // Puts the line: `after`, the number of rounds, N values.
 fn put_after(text: &mut [u8], at: usize, n: u32, k: u32, values: &[u8]) -> usize
@@ -31,7 +15,7 @@ fn put_after(text: &mut [u8], at: usize, n: u32, k: u32, values: &[u8]) -> usize
 {
     let word = fields::put_bytes(text, at, b"after");
     let first = fields::put_field(text, word, k);
-    let last = put_values(text, first, values, n);
+    let last = value_fields::put_fields(text, first, values, n);
     fields::put_byte(text, last, b'\n')
 }
 

@@ -4,30 +4,32 @@
 use mathlib.Core.Bool.{Bool, true, false, not, cond, _||_}
 use mathlib.Core.List.{List}
 use mathlib.Core.Path.{_≡_, refl, sym, ap, ap₂, _∙_}
-use Prim.Native.Nat.{ℕ, _≤_, _<_}
-use borrow.Author.Tests.{eq-eqb, ne-eqb}
+use mathlib.Core.Logic.{⊎-elim}
+use Prim.Native.Nat.{ℕ, zero, suc, _+_, _≤_, _<_}
+use native.Mathlib.Omega.{arith}
+use borrow.Author.Tests.{eq-eqb, ne-eqb, eqb-true}
 use lib.Dec.{ltb, eqb}
 use lib.IntN.{ℤ}
 use lib.ListN.{length, getD}
 use Rattle.arithmetic.specs.Counting.{count, sum}
 use Rattle.arithmetic.specs.Naturals.{up}
 use Rattle.arithmetic.specs.Writing.{table, overwrite}
-use Rattle.arithmetic.proofs.Counting.{count-ext}
+use Rattle.arithmetic.proofs.Counting.{count-ext, count-le, split-last}
 use Rattle.arithmetic.proofs.Sums.{sum-ext}
-use Rattle.arithmetic.proofs.Writing.{length-table, getD-table}
+use Rattle.arithmetic.proofs.Writing.{length-table, getD-table, table-ext, table-getD}
 use Rattle.arithmetic.specs.Words.{twoTo31}
 use Rattle.model.specs.Steps.{estimate, mean, usedValue, markOf}
 use Rattle.model.specs.Ensemble.{maxCabinets}
 use Rattle.round_laws.specs.Naturals.{shift}
 use Rattle.round_laws.proofs.Local.{estimate-local, used-local}
-use Rattle.held.specs.Held.{presentIn, valueAt, readingsIn, unfit}
+use Rattle.held.specs.Held.{presentIn, valueAt, readingsIn, keptMark, unfit}
 use Rattle.held.proofs.Held.{fit-few}
 use Rattle.estimates.specs.Values.{estimateOfHeld, meanIn, evaluatedOf, nothing}
 use Rattle.estimates.specs.declared.Estimated.{Estimated}
 use Rattle.acceptance.specs.Values.{acceptedIn, acceptedCount, listsMisfit, countGiven, flagsOf}
 use Rattle.acceptance.proofs.Spans.{held-present}
 use Rattle.agreement.specs.Values.{markAt, agreedMarks, agreedRound, agreedOf}
-use Rattle.agreement.proofs.Kept.{struck, struck-kept}
+use Rattle.agreement.proofs.Kept.{struck, struck-kept, mark-kept}
 
 or-again : (a b : Bool) → (a || (b || a)) ≡ (a || b)
 or-again true b = refl
@@ -43,6 +45,30 @@ marked true true x f = refl
 marked true false x f = f refl
 marked false true x f = refl
 marked false false x f = refl
+
+-- where as many pass as there are, each passes
+count-full : (p : ℕ → Bool) (n : ℕ) → count p n ≡ n → (r : ℕ) → r < n → p r ≡ true
+unfolding count
+count-full p zero e r l = absurd (nothing-below l)
+  where
+    nothing-below : r < 0 → ⊥
+    nothing-below h = omega arith
+count-full p (suc n) e r l =
+    let h = last-full (p n) refl in ⊎-elim (λ below. count-full p n (h .1) r below) (λ last. ap p last ∙ h .0) (split-last r n l)
+  where
+    last-full : (b : Bool) → p n ≡ b → (p n ≡ true) × (count p n ≡ n)
+    last-full false q = absurd (short (count-le p n) (rw q at e))
+      where
+        short : count p n ≤ n → count p n + 0 ≡ suc n → ⊥
+        short most h = omega arith
+    last-full true q = (q, all (rw q at e))
+      where
+        all : count p n + 1 ≡ suc n → count p n ≡ n
+        all h = omega arith
+
+-- an accepted mark is kept
+kept-one : (accepted : Bool) (mark : ℕ) → accepted ≡ true → eqb mark 1 ≡ true → keptMark accepted mark ≡ mark
+kept-one accepted mark a m = rw (a, m) (sym (eqb-true mark 1 m))
 
 module _ (w need : ℕ) (marks values : List ℕ) where
   abbrev pub kept : List ℕ
@@ -179,6 +205,25 @@ module _ (w need : ℕ) (marks values : List ℕ) where
 
         some-accepted : eqb (acceptedCount w need marks values) 0 ≡ false
         some-accepted = ne-eqb (acceptedCount w need marks values) 0 (λ z. some (counted ∙ count-fit fit ∙ z))
+
+        -- where all are accepted, each mark is kept
+        pub none-struck :
+            (flags : List Bool)
+            → flags ≡ flagsOf w need marks values flags₀
+            → n ≡ length marks
+            → table (struck flags marks) (length marks) ≡ marks
+        unfolding acceptedCount
+        none-struck flags tested all =
+            ap (λ (f : List Bool). table (struck f marks) (length marks)) (tested ∙ flags-fit fit)
+            ∙ struck-kept w need marks values flags₀
+            ∙ table-ext (markAt w need marks values) (λ r. getD marks r 0) (length marks) each
+            ∙ table-getD marks 0
+          where
+            each : (r : ℕ) → r < length marks → markAt w need marks values r ≡ getD marks r 0
+            each r l =
+                let passes = count-full acc (length marks) (sym (count-fit fit) ∙ sym counted ∙ all) r l in
+                sym (mark-kept (acc r) (getD marks r 0) (valueAt values r))
+                ∙ kept-one (acc r) (getD marks r 0) passes (held-present w need marks values r passes)
 
         -- the lists as the calls left them
         module _

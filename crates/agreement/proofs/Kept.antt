@@ -75,7 +75,7 @@ module _ (flags : List Bool) (marks₀ : List ℕ) where
         ∙ overwrite-whole (table struck (length marks₀)) marks₀ (omega arith)
 
 -- the mark that is kept is document 01's
-mark-kept : (accepted : Bool) (mark x : ℕ) → keptMark accepted mark ≡ markOf accepted (shift twoTo31 (eqb mark 1) x)
+pub mark-kept : (accepted : Bool) (mark x : ℕ) → keptMark accepted mark ≡ markOf accepted (shift twoTo31 (eqb mark 1) x)
 mark-kept accepted mark x = go (eqb mark 1) refl
   where
     go : (b : Bool) → eqb mark 1 ≡ b → keptMark accepted mark ≡ markOf accepted (shift twoTo31 (eqb mark 1) x)

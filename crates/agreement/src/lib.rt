@@ -25,6 +25,23 @@ fn strike(marks: &mut [u8], accepted: &[bool])
     }
 }
 
+// The same, where so many are accepted: where all are, nothing is struck out.
+fn strike_others(marks: &mut [u8], accepted: &[bool], count: u32)
+    requires { ⌜ length (now marks) ≤ length (now accepted) ⌝ }
+    requires { ⌜
+        (count ≡ length (now marks)
+        → table (λ r. keptMark (getD (now accepted) r false) (getD (now marks) r 0)) (length (now marks))
+        ≡ now marks) ⌝ }
+    ensures { λ _. ⌜
+        now (marks .exit)
+        ≡ table (λ r. keptMark (getD (now (accepted .entry)) r false) (getD (now (marks .entry)) r 0))
+        (length (now (marks .entry))) ⌝ }
+{
+    if (count as usize) != marks.len() {
+        strike(marks, accepted);
+    }
+}
+
 // The round of at most 64 readings: the marks say who is accepted. Where none is, or the lists do not fit, the marks
 // are left as they are.
 pub fn agree(marks: &mut [u8], values: &[u32], span: u32, need: u32, kind: u8) -> Estimated
@@ -41,6 +58,6 @@ pub fn agree(marks: &mut [u8], values: &[u32], span: u32, need: u32, kind: u8) -
             value: 0,
         };
     }
-    strike(&mut *marks, &accepted);
+    strike_others(&mut *marks, &accepted, count);
     estimates::evaluate(kind, &*marks, values)
 }

@@ -5,7 +5,6 @@ ghost use Rattle.refusals.specs.Answers.{checkOf};
 ghost use Rattle.model.specs.Calls.{verdict};
 ghost use Rattle.answer_reader.specs.Fields.{shownOf};
 ghost use Rattle.answer_reader.specs.Fields.{cabinetsIn, countIn, estimateIn, valueIn, markIn, usedIn};
-use model::ANSWER_HEADER_SIZE;
 use model::Refusal;
 use refusals::Screened;
 
@@ -30,7 +29,7 @@ pub fn cabinets(answer: &[u8]) -> Shown
     ensures { λ r. ⌜ shownOf r ≡ cabinetsIn (now (answer .entry)) ⌝ }
 {
     let screened = answer_checks::check(answer);
-    let number = words::byte_at(answer, 0) as u32;
+    let number = answer_fields::cabinets(answer);
     unless_refused(screened, number)
 }
 
@@ -39,7 +38,7 @@ pub fn count(answer: &[u8]) -> Shown
     ensures { λ r. ⌜ shownOf r ≡ countIn (now (answer .entry)) ⌝ }
 {
     let screened = answer_checks::check(answer);
-    let number = words::byte_at(answer, 1) as u32;
+    let number = answer_fields::count(answer);
     unless_refused(screened, number)
 }
 
@@ -48,7 +47,7 @@ pub fn estimate(answer: &[u8]) -> Shown
     ensures { λ r. ⌜ shownOf r ≡ estimateIn (now (answer .entry)) ⌝ }
 {
     let screened = answer_checks::check(answer);
-    let number = words::word_at(answer, 2);
+    let number = answer_fields::estimate(answer);
     unless_refused(screened, number)
 }
 
@@ -57,7 +56,7 @@ pub fn value(answer: &[u8]) -> Shown
     ensures { λ r. ⌜ shownOf r ≡ valueIn (now (answer .entry)) ⌝ }
 {
     let screened = answer_checks::check(answer);
-    let number = words::word_at(answer, 6);
+    let number = answer_fields::value(answer);
     unless_refused(screened, number)
 }
 
@@ -66,8 +65,7 @@ pub fn mark(answer: &[u8], cabinet: u32) -> Shown
     ensures { λ r. ⌜ shownOf r ≡ markIn (now (answer .entry)) cabinet ⌝ }
 {
     let screened = answer_checks::check_cabinet(answer, cabinet);
-    let at = ANSWER_HEADER_SIZE + (cabinet as usize);
-    let number = words::byte_at(answer, at) as u32;
+    let number = answer_fields::mark(answer, cabinet);
     unless_refused(screened, number)
 }
 
@@ -76,8 +74,6 @@ pub fn used(answer: &[u8], cabinet: u32) -> Shown
     ensures { λ r. ⌜ shownOf r ≡ usedIn (now (answer .entry)) cabinet ⌝ }
 {
     let screened = answer_checks::check_cabinet(answer, cabinet);
-    let n = words::byte_at(answer, 0) as usize;
-    let at = ANSWER_HEADER_SIZE + n + 4 * (cabinet as usize);
-    let number = words::word_at(answer, at);
+    let number = answer_fields::used(answer, cabinet);
     unless_refused(screened, number)
 }

@@ -1,14 +1,27 @@
 // Writes the answer sheet of a settled round, of which the marks and the values are held beside each other.
 ghost use mathlib.Core.Path.{_≡_};
-ghost use Prim.Native.Nat.{_*_, _≤_};
+ghost use Prim.Native.Nat.{_+_, _*_, _≤_};
 ghost use lib.ListN.{length};
 ghost use Rattle.arithmetic.specs.Writing.{table, overwrite};
 ghost use Rattle.model.specs.RoundSheet.{readingBytes};
+ghost use Rattle.sheet_laws.specs.Storing.{putWord};
 ghost use Rattle.model.specs.AnswerSheet.{answerBytes, answerLength};
 ghost use Rattle.model.specs.Ensemble.{maxCabinets};
 ghost use Rattle.answer_parts.specs.Parts.{roomy};
 ghost use Rattle.answer_writer.specs.Answers.{usedIn, roundHeld, writtenOf};
 use model::ANSWER_HEADER_SIZE;
+
+// Stores the four bytes of x as number r of a list of numbers.
+fn store(tail: &mut [u8], r: usize, x: u32)
+    requires { ⌜ 4 * r + 4 ≤ length (now tail) ⌝ }
+    ensures { λ _. ⌜ now (tail .exit) ≡ putWord (now (tail .entry)) (4 * r) x ⌝ }
+{
+    let i = 4 * r;
+    tail[i] = (x % 256) as u8;
+    tail[i + 1] = (x / 256 % 256) as u8;
+    tail[i + 2] = (x / 65536 % 256) as u8;
+    tail[i + 3] = (x / 16777216 % 256) as u8;
+}
 
 // Fills the tail of the answer sheet with the used values.
 fn put_used(marks: &[u8], values: &[u32], estimate: u32, tail: &mut [u8])
@@ -23,11 +36,7 @@ fn put_used(marks: &[u8], values: &[u32], estimate: u32, tail: &mut [u8])
 {
     let mut r: usize = 0;
     'values: while r < marks.len() {
-        word_writer::put_word(
-            tail,
-            4 * r,
-            answer_parts::used(marks[r], values[r], estimate),
-        );
+        store(tail, r, answer_parts::used(marks[r], values[r], estimate));
         r += 1;
     }
 }

@@ -10,9 +10,7 @@ ghost use Rattle.decided_readings.specs.Rows.{rowReading, rowsTaken};
 use decisions::Decided;
 use held::MISSING;
 use held::PRESENT;
-use model::HEADER_SIZE;
 use model::MAX_CABINETS;
-use model::Settings;
 
 // A reading as it is held.
 struct Held {
@@ -41,48 +39,47 @@ fn receive_row(sent: &[u8], row: &[u8], need: u32) -> Held
     }
 }
 
-// How many rows are taken: all of at most 64, or none where the sheet's marks or the lent lists are too short.
-fn takes(n: usize, sheet: usize, marks: usize, values: usize) -> usize
-    ensures { λ r. ⌜ r ≡ rowsTaken n sheet marks values ⌝ }
+// How many rows are taken: all of at most 64, or none where the copies or the lent lists are too few.
+fn takes(n: usize, sent: usize, copies: usize, marks: usize, values: usize) -> usize
+    ensures { λ r. ⌜ r ≡ rowsTaken n sent copies marks values ⌝ }
 {
     if (MAX_CABINETS as usize) < n {
         return 0;
     }
-    if (HEADER_SIZE + n * n <= sheet) & ((n <= marks) & (n <= values)) {
+    let pairs = n * n;
+    if ((pairs <= sent) & (4 * pairs <= copies)) & ((n <= marks) & (n <= values)) {
         n
     } else {
         0
     }
 }
 
-// The readings as decided, a row for each cabinet.
+// The readings of n cabinets as decided, from the marks of all copies and four bytes for each, a row after the other.
 pub fn receive_decided(
-    sheet: &[u8],
-    settings: Settings,
+    sent: &[u8],
+    copies: &[u8],
+    n: usize,
     need: u32,
     marks: &mut [u8],
     values: &mut [u32],
 )
     ensures { λ _. ⌜
         Stored
-        (rowReading (now (sheet .entry)) settings need)
+        (rowReading (now (sent .entry)) (now (copies .entry)) n need)
         (rowsTaken
-        (settings .n)
-        (length (now (sheet .entry)))
+        n
+        (length (now (sent .entry)))
+        (length (now (copies .entry)))
         (length (now (marks .entry)))
         (length (now (values .entry))))
         (now (marks .entry)) (now (values .entry)) (now (marks .exit)) (now (values .exit)) ⌝ }
 {
-    let n = settings.n as usize;
-    let rows = takes(n, sheet.len(), marks.len(), values.len());
+    let rows = takes(n, sent.len(), copies.len(), marks.len(), values.len());
     let mut r: usize = 0;
     'rows: while r < rows {
-        let start = HEADER_SIZE + r * n;
-        let held = receive_row(
-            &sheet[start..start + n],
-            rows::row_part(sheet, settings, r),
-            need,
-        );
+        let start = r * n;
+        let end = start + n;
+        let held = receive_row(&sent[start..end], &copies[4 * start..4 * end], need);
         marks[r] = held.mark;
         values[r] = held.value;
         r += 1;

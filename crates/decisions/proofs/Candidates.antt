@@ -21,7 +21,8 @@ use Rattle.model.specs.Ensemble.{missing, present, Readings}
 use Rattle.model.specs.Steps.{same, decided, knownFaulty, decideRow}
 use Rattle.decision_laws.proofs.Equality.{same-true, eq-same, present-inj, missing-present}
 use Rattle.decision_laws.proofs.Decision.{copiesOf, copies-some, decide-value, decide-none, decide-spent}
-use Rattle.decisions.specs.Majority.{Candidate, holds-bits}
+use Rattle.copies.specs.Copies.{holds-bits}
+use Rattle.decisions.specs.Majority.{Candidate}
 use Rattle.decisions.proofs.Majority.{candidate-begin, candidate-raise, candidate-replace, candidate-keep, majority}
 
 -- a test that passes where c has need copies, and fails only where no value has, decides the row

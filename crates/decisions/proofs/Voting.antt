@@ -2,7 +2,7 @@
 -- Assumes nothing.
 use mathlib.Core.Bool.{Bool, true, false, cond, not, _&&_, _||_}
 use mathlib.Core.List.{List}
-use mathlib.Core.Path.{_≡_, sym, ap, _∙_}
+use mathlib.Core.Path.{_≡_, sym, _∙_}
 use Prim.Native.Nat.{ℕ, _+_, _*_, _-_, _/_, _≤_, _<_, zero-le}
 use native.Mathlib.Omega.{arith}
 use borrow.Author.Tests.{lt-ltb, le-ltb, le-leb, lt-leb, eq-eqb, ne-eqb, leb-false, eqb-true, not-false}
@@ -15,25 +15,19 @@ use Rattle.arithmetic.proofs.Bools.{and-left, and-right}
 use Rattle.model.specs.RoundSheet.{word}
 use Rattle.model.specs.Steps.{decided, knownFaulty, decideRow}
 use Rattle.model.specs.Ensemble.{maxCabinets}
-use Rattle.decisions.specs.Majority.{Candidate, holds-bits}
+use Rattle.copies.specs.Copies.{markedAt, copyBits, holdsCopy, copiesIn}
+use Rattle.copies.proofs.Copies.{holds-test, copies-fit}
+use Rattle.decisions.specs.Majority.{Candidate}
 use Rattle.decisions.proofs.Majority.{candidate-lower}
 use Rattle.decisions.proofs.Candidates.{bits-begin, bits-agree, bits-replace, bits-missing, bits-enough, bits-spent, bits-decide, toZ-one}
 use Rattle.arithmetic.proofs.Bools.{or-left, or-right}
 use Rattle.arithmetic.specs.Words.{twoTo32}
-use Rattle.decisions.specs.Rows.{markedAt, copyBits, copyAt, Elected, Fitting, rowDecision}
+use Rattle.decisions.specs.Rows.{copyAt, Elected, Fitting, rowDecision}
 
 module _ (marks row : List ℕ) where
-  -- the copy t is present and holds v
-  abbrev pub holds-copy : ℕ → ℕ → Bool
-  holds-copy = holds-bits (markedAt marks) (copyBits row)
-
-  -- the test that the code makes of the copy t
-  pub holds-test : (c v t : ℕ) {b : Bool} → v ≡ copyBits row t → b ≡ (eqb (getD marks t 0) 1 && eqb c v) → b ≡ holds-copy c t
-  holds-test c v t e f = f ∙ ap (λ (x : ℕ). eqb (getD marks t 0) 1 && eqb c x) e
-
   pub record Voted (c k t : ℕ) : Type 0 where
     pub upTo : t ≤ length marks
-    pub vote : Candidate holds-copy c k t
+    pub vote : Candidate (holdsCopy marks row) c k t
 
   pub vote-none : Voted 0 0 0
   vote-none = record { upTo = zero-le; vote = bits-begin (markedAt marks) (copyBits row) 0 }
@@ -41,7 +35,7 @@ module _ (marks row : List ℕ) where
   module _ (c k t : ℕ) (so-far : Voted c k t) (room : t < length marks) (v : ℕ) {b : Bool} (read : v ≡ copyBits row t) (test : b ≡ (eqb (getD marks t 0) 1 && eqb c v)) where
     pub vote-agree : b ≡ true → Voted c (k + 1) (t + 1)
     vote-agree e =
-        let both = sym (holds-test c v t read test) ∙ e in
+        let both = sym (holds-test marks row c v t read test) ∙ e in
         record {
           upTo = omega arith;
           vote =
@@ -52,7 +46,11 @@ module _ (marks row : List ℕ) where
 
     pub vote-differ : b ≡ false → 0 < k → Voted c (k - 1) (t + 1)
     vote-differ e l =
-        record { upTo = omega arith; vote = candidate-lower holds-copy c k t (so-far .vote) l (sym (holds-test c v t read test) ∙ e) }
+        record {
+          upTo = omega arith;
+          vote = candidate-lower (holdsCopy marks row) c k t (so-far .vote) l (sym
+              (holds-test marks row c v t read test) ∙ e);
+        }
 
     module _ (zero : k ≤ 0) where
       none : k ≡ 0
@@ -106,27 +104,30 @@ module _ (marks row : List ℕ) where
         rw (le-ltb maxCabinets (length marks) (fit .few), eq-eqb (length row) (4 * length marks) (fit .sized), lt-leb need (length marks / 2) (omega (arith, fit .most)))
 
     -- one count of a value
-    module _ (c : ℕ) (below : c < twoTo32) (n : ℕ) (counted : n ≡ count (holds-copy c) (length marks)) where
+    module _ (c : ℕ) (below : c < twoTo32) (n : ℕ) (copied : n ≡ copiesIn marks row c) where
+      counted : n ≡ count (holdsCopy marks row c) (length marks)
+      counted = copied ∙ copies-fit marks row (fit .sized) c (fit .few)
+
       pub decision-enough : need ≤ n → decided (toZ w32 c) ≡ rowDecision need marks row
       decision-enough l =
           sym
           (bits-enough (toZ w32) twoTo32 toZ-one (markedAt marks) (copyBits row) (length marks) (λ t _. low t) c need below (fit .most)
-          (omega arith))
+          (omega (arith, counted)))
           ∙ row-decided
 
       pub decision-spent : n < need → length marks - need < n → knownFaulty ≡ rowDecision need marks row
       decision-spent l h =
           sym
           (bits-spent (toZ w32) twoTo32 toZ-one (markedAt marks) (copyBits row) (length marks) (λ t _. low t) c need below
-          (omega arith)
-          (omega arith))
+          (omega (arith, counted))
+          (omega (arith, counted)))
           ∙ row-decided
 
     -- the count of the vote's candidate
-    module _ (c : ℕ) (elected : Elected marks row c) (n : ℕ) (counted : n ≡ count (holds-copy c) (length marks)) where
+    module _ (c : ℕ) (elected : Elected marks row c) (n : ℕ) (copied : n ≡ copiesIn marks row c) where
       candidate-decides : cond (leb need n) (decided (toZ w32 c)) knownFaulty ≡ rowDecision need marks row
       candidate-decides =
-          rw counted
+          rw (copied ∙ copies-fit marks row (fit .sized) c (fit .few))
           (sym
           (bits-decide (toZ w32) twoTo32 toZ-one (markedAt marks) (copyBits row) (length marks) (λ t _. low t) c (elected .lead) (elected .vote) need (fit .most)))
           ∙ row-decided

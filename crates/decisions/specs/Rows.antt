@@ -1,6 +1,5 @@
--- INNER: no reader needs this page to believe a public promise. A row's copies as bytes: a mark for each copy, and
--- four bytes of each.
---   markedAt, copyBits  a copy's mark is 1; its number
+-- INNER: no reader needs this page to believe a public promise. A row's copies, as bytes
+-- (Rattle.copies.specs.Copies), and their decision.
 --   copyAt              the copy
 --   decisionOf          what this crate's enum says in document 01's terms
 --   rowDecision         document 01's decision of a row of at most 64 copies, of which need are more than half
@@ -13,22 +12,16 @@ use mathlib.Core.List.{List}
 use mathlib.Core.Path.{_≡_}
 use Prim.Native.Nat.{ℕ, _+_, _*_, _/_, _≤_, _<_}
 use lib.Dec.{leb, ltb, eqb}
-use lib.ListN.{length, getD}
+use lib.ListN.{length}
 use mir.Syntax.{w32}
 use mir.Val.{toZ}
 use Rattle.model.specs.Ensemble.{Readings, missing, present, maxCabinets}
-use Rattle.model.specs.RoundSheet.{word}
 use Rattle.model.specs.Steps.{Decision, decided, knownFaulty, decideRow}
-use Rattle.decisions.specs.Majority.{Candidate, holds-bits}
+use Rattle.copies.specs.Copies.{markedAt, copyBits, holdsCopy}
+use Rattle.decisions.specs.Majority.{Candidate}
 use Rattle.decisions.specs.declared.Decided.{Decided}
 use Rattle.decisions.specs.declared.Decided.the-variants.{Bits, KnownFaulty}
 use Rattle.decisions.specs.declared.Tried.{Tried}
-
-abbrev pub markedAt : List ℕ → ℕ → Bool
-markedAt marks t = eqb (getD marks t 0) 1
-
-abbrev pub copyBits : List ℕ → ℕ → ℕ
-copyBits row t = word row (4 * t)
 
 abbrev pub copyAt : List ℕ → List ℕ → Readings
 copyAt marks row t = cond (markedAt marks t) (present (toZ w32 (copyBits row t))) missing
@@ -50,7 +43,7 @@ rowDecision need marks row =
 -- the vote's candidate, with a counter that we do not name
 pub record Elected (marks row : List ℕ) (c : ℕ) : Type 0 where
   pub lead : ℕ
-  pub vote : Candidate (holds-bits (markedAt marks) (copyBits row)) c lead (length marks)
+  pub vote : Candidate (holdsCopy marks row) c lead (length marks)
 
 -- at most 64 copies, four bytes for each, of which need are more than half
 pub record Fitting (need : ℕ) (marks row : List ℕ) : Type 0 where

@@ -1,15 +1,17 @@
-// The crusaders decision of a row. The copies of its first values are counted without a branch, which decides most
-// rows; where that leaves it open, a majority vote finds the one value that can have enough copies, and one count
-// decides.
+// The crusaders decision of a row. The copies of its first values are counted, which decides most rows; where that
+// leaves it open, a majority vote finds the one value that can have enough copies, and one count decides.
 ghost use mathlib.Core.Path.{_≡_};
-ghost use mathlib.Core.Bool.{not, _&&_, _||_};
-ghost use Prim.Native.Nat.{_+_, _*_, _-_, _/_, _≤_, _<_};
+ghost use mathlib.Core.Bool.{not, _||_};
+ghost use Prim.Native.Nat.{_+_, _*_, _/_, _≤_, _<_};
 ghost use lib.Dec.{leb, eqb};
 ghost use lib.ListN.{length};
-ghost use Rattle.arithmetic.specs.Counting.{count};
 ghost use Rattle.model.specs.Ensemble.{maxCabinets};
-ghost use Rattle.decisions.specs.Majority.{holds-bits};
-ghost use Rattle.decisions.specs.Rows.{markedAt, copyBits, Elected, Fitting, Tells, decisionOf, rowDecision};
+ghost use Rattle.copies.specs.Copies.{copyBits};
+ghost use Rattle.decisions.specs.Rows.{Elected, Fitting, Tells, decisionOf, rowDecision};
+use model::MAX_CABINETS;
+
+// The most copies.
+const MOST: usize = MAX_CABINETS as usize;
 
 // The bits of the decided value, or "known faulty".
 pub enum Decided {
@@ -19,18 +21,11 @@ pub enum Decided {
 
 // The number of the copy t.
 fn copy_bits(row: &[u8], t: usize) -> u32
-    requires { ⌜ (4 * t + 3 < length (now row)) × (t < maxCabinets) ⌝ }
+    requires { ⌜ 4 * t + 3 < length (now row) ⌝ }
     ensures { λ r. ⌜ r ≡ copyBits (now (row .entry)) t ⌝ }
 {
     let at = 4 * t;
     words::join(row[at], row[at + 1], row[at + 2], row[at + 3])
-}
-
-// Whether a copy is present and holds a value.
-fn holds(mark: u8, value: u32, bits: u32) -> bool
-    ensures { λ r. ⌜ r ≡ (eqb mark 1 && eqb value bits) ⌝ }
-{
-    (mark == 1) & (value == bits)
 }
 
 // The candidate of the majority vote: the value that more than half of the copies hold, if there is one.
@@ -44,7 +39,7 @@ fn vote(marks: &[u8], row: &[u8]) -> u32
     'copies: while t < marks.len() {
         let mark = marks[t];
         let bits = copy_bits(row, t);
-        if holds(mark, candidate, bits) {
+        if copies::holds(mark, candidate, bits) {
             lead += 1;
         } else if 0 < lead {
             lead -= 1;
@@ -57,23 +52,6 @@ fn vote(marks: &[u8], row: &[u8]) -> u32
     candidate
 }
 
-// How many present copies hold a value.
-fn count_copies(marks: &[u8], row: &[u8], value: u32) -> u32
-    requires { ⌜ (length (now marks) ≤ maxCabinets) × (length (now row) ≡ 4 * length (now marks)) ⌝ }
-    ensures { λ r.
-        ⌜ r
-        ≡ count (holds-bits (markedAt (now (marks .entry))) (copyBits (now (row .entry))) value)
-        (length (now (marks .entry))) ⌝ }
-{
-    let mut copies: u32 = 0;
-    let mut t = 0;
-    'copies: while t < marks.len() {
-        copies += holds(marks[t], value, copy_bits(row, t)) as u32;
-        t += 1;
-    }
-    copies
-}
-
 // The copies whose values are counted before a vote.
 const TRIES: usize = 2;
 
@@ -84,29 +62,17 @@ enum Tried {
     Open,
 }
 
-// How many copies may differ from the decided value.
-fn spare(n: usize, need: u32) -> u32
-    requires { ⌜ n ≤ maxCabinets ⌝ }
-    ensures { λ r. ⌜ r ≡ n - need ⌝ }
-{
-    if (n as u32) < need {
-        0
-    } else {
-        (n as u32) - need
-    }
-}
-
 // Counts the copies of the value of copy t.
 fn try_copy(marks: &[u8], row: &[u8], need: u32, t: usize) -> Tried
     requires { ⌜ Fitting need (now marks) (now row) × (t < length (now marks)) ⌝ }
     ensures { λ r. ⌜ Tells r need (now (marks .entry)) (now (row .entry)) ⌝ }
 {
     let value = copy_bits(row, t);
-    let copies = count_copies(marks, row, value);
-    if need <= copies {
+    let copies = copies::count_copies(marks, row, value);
+    if tallies::enough(need, copies) {
         return Tried::Bits(value);
     }
-    if spare(marks.len(), need) < copies {
+    if tallies::spent(marks.len() as u32, need, copies) {
         return Tried::KnownFaulty;
     }
     Tried::Open
@@ -142,10 +108,11 @@ fn elect(marks: &[u8], row: &[u8], need: u32) -> Decided
     ensures { λ r. ⌜ decisionOf r ≡ rowDecision need (now (marks .entry)) (now (row .entry)) ⌝ }
 {
     let candidate = vote(marks, row);
-    if count_copies(marks, row, candidate) < need {
-        return Decided::KnownFaulty;
+    let copies = copies::count_copies(marks, row, candidate);
+    if tallies::enough(need, copies) {
+        return Decided::Bits(candidate);
     }
-    Decided::Bits(candidate)
+    Decided::KnownFaulty
 }
 
 fn misfit(need: u32, marks: usize, row: usize) -> bool
@@ -160,7 +127,7 @@ fn misfit(need: u32, marks: usize, row: usize) -> bool
 pub fn decide(marks: &[u8], row: &[u8], need: u32) -> Decided
     ensures { λ r. ⌜ decisionOf r ≡ rowDecision need (now (marks .entry)) (now (row .entry)) ⌝ }
 {
-    if 64 < marks.len() {
+    if MOST < marks.len() {
         return Decided::KnownFaulty;
     }
     if misfit(need, marks.len(), row.len()) {

@@ -26,7 +26,7 @@ use Rattle.sheet_laws.proofs.Parts.{marksPart, length-marksPart}
 use Rattle.sheet_laws.proofs.Words.{word-ext}
 use Rattle.sheet_sizes.specs.Bounds.{mostEntries}
 use Rattle.mark_checks.specs.Marks.{marksIn}
-use Rattle.missing_checks.specs.Missing.{missingIn}
+use Rattle.missing_search.specs.Missing.{missingIn}
 
 -- a number read in what is left of a list
 pub word-drop : (s : List ℕ) (k i : ℕ) → word (drop k s) i ≡ word s (k + i)

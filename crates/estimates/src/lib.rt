@@ -12,8 +12,8 @@ use summaries::Summary;
 // The count of the present readings, their estimate and the new value; all 0 where none is present, there are more
 // than 64, or there are not as many numbers as marks.
 pub struct Estimated {
-    pub count: u32,
     pub estimate: u32,
+    pub count: u32,
     pub value: u32,
 }
 

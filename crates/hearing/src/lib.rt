@@ -1,7 +1,7 @@
 // What a cabinet hears in a round of a recorded run: of a sound cabinet what that holds, of a faulty one what was
 // recorded. Readings are held as marks and as values of 32 bits beside them.
 ghost use mathlib.Core.Path.{_≡_};
-ghost use Prim.Native.Nat.{_+_, _*_, _≤_, _<_};
+ghost use Prim.Native.Nat.{_*_, _≤_, _<_};
 ghost use lib.ListN.{length};
 ghost use Rattle.model.specs.Ensemble.{maxCabinets};
 ghost use Rattle.held.specs.Held.{heldMark, heldValue};
@@ -9,15 +9,7 @@ ghost use Rattle.held_laws.specs.Stored.{Stored};
 ghost use Rattle.hearing.specs.Heard.{spoken, heardFrom, audible, marksHeard, valuesHeard};
 use held::PRESENT;
 use model::MAX_CABINETS;
-
-// The role of a sound cabinet.
-const SOUND: u8 = 1;
-
-// A reading as it is held.
-struct Held {
-    mark: u8,
-    value: u32,
-}
+use speaking::Held;
 
 // What one sender is heard to say: a sound one the value that it holds, a faulty one the entry numbered e.
 fn hear_one(role: u8, value: u32, sent: &[u8], readings: &[u8], e: usize) -> Held
@@ -25,7 +17,7 @@ fn hear_one(role: u8, value: u32, sent: &[u8], readings: &[u8], e: usize) -> Hel
     ensures { λ r. ⌜ r .mark ≡ heldMark (spoken role value (now (sent .entry)) (now (readings .entry)) e) ⌝ }
     ensures { λ r. ⌜ r .value ≡ heldValue (spoken role value (now (sent .entry)) (now (readings .entry)) e) ⌝ }
 {
-    if role == SOUND {
+    if speaking::is_sound(role) {
         return Held {
             mark: PRESENT,
             value,
@@ -38,19 +30,7 @@ fn hear_one(role: u8, value: u32, sent: &[u8], readings: &[u8], e: usize) -> Hel
         readings[at + 2],
         readings[at + 3],
     );
-    let mark = sent[e];
-    Held {
-        mark: held::entry_mark(mark, bits),
-        value: held::entry_value(mark, bits),
-    }
-}
-
-// The number of what r sent p among a round's entries, which are ordered by sender and receiver.
-fn entry_number(n: usize, r: usize, p: usize) -> usize
-    requires { ⌜ (n ≤ maxCabinets) × (r < n) × (p < n) ⌝ }
-    ensures { λ e. ⌜ e ≡ r * n + p ⌝ }
-{
-    r * n + p
+    speaking::hear_entry(sent[e], bits)
 }
 
 // What receiver p hears of each sender.
@@ -77,7 +57,8 @@ fn hear_each(
     let n = roles.len();
     let mut r: usize = 0;
     'senders: while r < n {
-        let said = hear_one(roles[r], held[r], sent, readings, entry_number(n, r, p));
+        let e = speaking::entry_number(n as u8, r as u8, p as u8);
+        let said = hear_one(roles[r], held[r], sent, readings, e);
         marks[r] = said.mark;
         values[r] = said.value;
         r += 1;

@@ -45,11 +45,14 @@ fn widened(settings: Settings, accuracy: u32, t: u32) -> Wider
     ensures { λ r. ⌜ widerOf r ≡ widerAt settings accuracy t ⌝ }
 {
     let n = settings.n as u32;
-    let m = settings.m as u32;
+    let bad = t as u8;
     let window = settings.window;
-    let gap = shares::share(settings, n + 2 * t + 2 * m) as u32;
-    let growth = shares::share(settings, m + t) as u32;
-    let excess = (m + t) * window;
+    let gap = shares::share(
+        settings,
+        limit_terms::gap_parts(settings.n, settings.m, bad),
+    ) as u32;
+    let growth = shares::share(settings, limit_terms::error_parts(settings.m, bad)) as u32;
+    let excess = limit_terms::excess(settings.m, bad, window) as u32;
     let above = nearest(n, excess, n);
     let below = nearest(n, excess, n - 1);
     Wider {
@@ -68,10 +71,10 @@ fn bound(settings: Settings, accuracy: u32, t: u32) -> Limits
 {
     let n = settings.n as u32;
     let m = settings.m as u32;
-    if t <= m {
+    if limit_terms::is_planned(m, t) {
         return Limits::Planned;
     }
-    if n - m <= t {
+    if limit_terms::is_quorum(n - m, t) {
         return Limits::Nothing;
     }
     Limits::Wider(widened(settings, accuracy, t))

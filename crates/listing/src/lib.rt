@@ -1,22 +1,12 @@
 // Document 01, "Program `settle`": from the bytes of a round sheet to the text that the program writes.
 ghost use mathlib.Core.Path.{_≡_};
-ghost use Prim.Native.Nat.{_≤_, min};
+ghost use Prim.Native.Nat.{_≤_};
 ghost use lib.ListN.{length};
-ghost use Rattle.model.specs.Listing.{maxInput, listingBuffer};
+ghost use Rattle.model.specs.Listing.{listingBuffer};
 ghost use Rattle.text.specs.Text.{roundCapacity};
 ghost use Rattle.listing.specs.Listed.{listingIn};
 use settling::Settled;
 use text::ROUND_CAPACITY;
-
-// "reads one round sheet from standard input, at most 20,489 bytes"
-pub const MAX_INPUT: usize = 20_489;
-
-// How many bytes of the input are read.
-fn read_size(size: usize) -> usize
-    ensures { λ r. ⌜ r ≡ min size maxInput ⌝ }
-{
-    if size < MAX_INPUT { size } else { MAX_INPUT }
-}
 
 // Settles what is read into an answer buffer of zeros, and writes the text of the answer sheet or of the refusal.
 fn listing_in(input: &[u8], answer: &mut [u8], text: &mut [u8]) -> usize
@@ -25,7 +15,7 @@ fn listing_in(input: &[u8], answer: &mut [u8], text: &mut [u8]) -> usize
     ensures { λ r. ⌜ r ≡ listingIn (now (input .entry)) (now (text .entry)) .size ⌝ }
     ensures { λ _. ⌜ now (text .exit) ≡ listingIn (now (input .entry)) (now (text .entry)) .buffer ⌝ }
 {
-    let end = read_size(input.len());
+    let end = input_sizes::read_size(input.len());
     match settling::settle(&input[..end], answer) {
         Settled::Granted(_) => text::round_text(answer, text),
         Settled::Refused(r) => text::refusal_text(r.number, r.place, text),

@@ -1,1 +1,1 @@
-pub mod Missing
+pub mod Least

@@ -1,25 +1,13 @@
 // How the calls for C and for Rust answer. An answer below 2^32 is a grant, any other is number × 2^32 + place of a
-// refusal. Signed numbers go out as their 32 bits.
+// refusal.
 ghost use mathlib.Core.Path.{_≡_};
-ghost use Rattle.answer_reader.specs.Fields.{shownOf};
 ghost use Rattle.settling.specs.Answers.{settledOf};
 ghost use Rattle.sheet_writer.specs.Answers.{filledOf};
 ghost use Rattle.planner.specs.Answers.{countedOf};
 ghost use Rattle.packed_refusals.specs.Answers.{packed};
-use answer_reader::Shown;
 use planner::Counted;
 use settling::Settled;
 use sheet_writer::Filled;
-
-// A number of an answer sheet.
-pub fn pack_shown(shown: Shown) -> u64
-    ensures { λ r. ⌜ r ≡ packed (shownOf shown) ⌝ }
-{
-    match shown {
-        Shown::Granted(number) => number as u64,
-        Shown::Refused(refusal) => packed_refusals::pack_refusal(refusal),
-    }
-}
 
 // An answer sheet's length.
 pub fn pack_settled(settled: Settled) -> u64

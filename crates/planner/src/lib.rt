@@ -6,7 +6,6 @@ ghost use Rattle.model.specs.Planner.{planFrom, advance, after, maxRounds, maxS
 ghost use Rattle.model.specs.Refusals.{firstOf, settingsChecks, planChecks};
 ghost use Rattle.model.specs.Calls.{plan, step, Target};
 ghost use Rattle.planner.specs.Answers.{planOf, plannedOf, countedOf};
-use model::MAX_ROUNDS;
 use model::Refusal;
 use model::Settings;
 use model::TARGET_MISSED;
@@ -102,8 +101,8 @@ fn reach(start: Plan, target: u32) -> Counted
 {
     let mut reached = start;
     let mut k: u32 = 0;
-    'rounds: while target < reached.settings.window {
-        if MAX_ROUNDS <= k {
+    'rounds: while plan_tests::is_above(reached.settings.window, target) {
+        if plan_tests::is_last(k) {
             return Counted::Refused(refusals::refuse(TARGET_MISSED));
         }
         reached = advance(reached);

@@ -35,12 +35,12 @@ use Rattle.held.specs.Held.{entryReading}
 use Rattle.hearing.specs.Heard.{heardFrom}
 use Rattle.station_rounds.specs.Rounds.{heardRound, meetsTooMany, nextValue, placeOf, firstRefused}
 use Rattle.run.specs.Run.{IsReading, Station, heard, stateAfter}
-use Rattle.run.specs.Trace.{traceHeaderSize, roundsAt, roleAt, traceEntries, entryNumber, tracedMark, tracedBits, tracedEntry}
-use Rattle.run.specs.Trace.{soundAt, tracedStation, tracedSends}
-use Rattle.run.specs.Replay.{stateTo, refusedIn}
+use Rattle.trace.specs.Trace.{traceHeaderSize, roundsAt, roleAt, traceEntries, entryNumber, tracedMark, tracedBits, tracedEntry}
+use Rattle.trace.specs.Trace.{soundAt, tracedStation, tracedSends}
+use Rattle.trace.specs.Replay.{stateTo, refusedIn}
 use Rattle.run.proofs.Entries.{seen}
 use Rattle.run.proofs.Ready.{plan-settings}
-use Rattle.run.proofs.Traced.{Recorded, traced-start, traced-ready, traced-seen, traced-holds, windowIn, foundIn, replay-refuses}
+use Rattle.trace.proofs.Traced.{Recorded, traced-start, traced-ready, traced-seen, traced-holds, windowIn, foundIn, replay-refuses}
 use Rattle.playing.specs.Playing.{HeldTo, Playable, below}
 
 -- the entry's number by its round and its number in the round

@@ -19,8 +19,8 @@ use Rattle.model.specs.Calls.{Verdict, granted, refused, verdict}
 use Rattle.refusal_laws.proofs.Checks.{first-snoc}
 use Rattle.refusal_laws.proofs.Limits.{limits, limits-pass}
 use Rattle.sheet_laws.proofs.Outcomes.{granted-none, refused-some}
-use Rattle.run.specs.Trace.{roundsAt}
-use Rattle.run.specs.Replay.{runStopped, traceChecks, replayChecks}
+use Rattle.trace.specs.Trace.{roundsAt}
+use Rattle.trace.specs.Replay.{runStopped, traceChecks, replayChecks}
 use Rattle.trace_heads.proofs.Heads.{Headed}
 use Rattle.playing.specs.Playing.{HeldTo, Playable, stoppedAt, RoundsPlayed, Played, playedGiven}
 

@@ -18,8 +18,8 @@ use Rattle.model.specs.Planner.{withWindow}
 use Rattle.refusal_laws.proofs.Limits.{Limits, limits}
 use Rattle.hearing.specs.Heard.{audible}
 use Rattle.station_rounds.specs.Rounds.{roundFits}
-use Rattle.run.specs.Trace.{traceHeaderSize, roundsAt, roleAt, traceEntries, tracedMark, tracedBits}
-use Rattle.run.specs.Replay.{stateTo}
+use Rattle.trace.specs.Trace.{traceHeaderSize, roundsAt, roleAt, traceEntries, tracedMark, tracedBits}
+use Rattle.trace.specs.Replay.{stateTo}
 use Rattle.trace_parts.specs.Parts.{partFrom}
 use Rattle.trace_parts.proofs.Parts.{part-length, part-at, part-word}
 use Rattle.playing.specs.Playing.{Playable}

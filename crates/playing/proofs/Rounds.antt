@@ -26,9 +26,9 @@ use Rattle.model.specs.Planner.{Plan, planFrom}
 use Rattle.model.specs.Refusals.{Check, refusal, orNext, runStoppedNumber}
 use Rattle.model.specs.Calls.{step}
 use Rattle.run.specs.Run.{stepped, next, stateAfter}
-use Rattle.run.specs.Trace.{roundsAt, firstAt, soundAt}
-use Rattle.run.specs.Replay.{stateTo, refusedIn, atRound, inRound, runStopped}
-use Rattle.run.proofs.Traced.{bits-fit}
+use Rattle.trace.specs.Trace.{roundsAt, firstAt, soundAt}
+use Rattle.trace.specs.Replay.{stateTo, refusedIn, atRound, inRound, runStopped}
+use Rattle.trace.proofs.Traced.{bits-fit}
 use Rattle.playing.specs.Playing.{HeldTo, below, RoundPlayed, stoppedAt, RoundsPlayed}
 
 -- ---- before the first round

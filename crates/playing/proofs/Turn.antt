@@ -18,8 +18,8 @@ use Rattle.arithmetic.proofs.Writing.{length-overwrite, length-table}
 use Rattle.model.specs.declared.Settings.{Settings}
 use Rattle.model.specs.RoundSheet.{byte, settingsAt}
 use Rattle.station_rounds.specs.Rounds.{meetsTooMany, nextValue, placeOf, firstRefused, refusedGiven, nextGiven}
-use Rattle.run.specs.Trace.{traceHeaderSize, roundsAt, traceEntries}
-use Rattle.run.specs.Replay.{stateTo, refusedIn}
+use Rattle.trace.specs.Trace.{traceHeaderSize, roundsAt, traceEntries}
+use Rattle.trace.specs.Replay.{stateTo, refusedIn}
 use Rattle.trace_parts.specs.Parts.{partFrom}
 use Rattle.playing.specs.Playing.{HeldTo, Playable, below, RoundPlayed}
 use Rattle.playing.proofs.Hearing.{first-is, holds-next}

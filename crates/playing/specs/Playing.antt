@@ -24,8 +24,8 @@ use Rattle.model.specs.RoundSheet.{fca, settingsAt}
 use Rattle.model.specs.Planner.{maxRounds}
 use Rattle.model.specs.Refusals.{Check, refusal, firstOf, settingsChecks, noRoomNumber, runStoppedNumber}
 use Rattle.model.specs.Calls.{Verdict, refused, verdict}
-use Rattle.run.specs.Trace.{roundsAt, soundAt, traceLength}
-use Rattle.run.specs.Replay.{stateTo, refusedIn, runStopped, replayChecks}
+use Rattle.trace.specs.Trace.{roundsAt, soundAt, traceLength}
+use Rattle.trace.specs.Replay.{stateTo, refusedIn, runStopped, replayChecks}
 
 abbrev pub HeldTo : List ℕ → ℕ → List ℕ → Type 0
 HeldTo s k held =

@@ -10,14 +10,13 @@ ghost use Rattle.arithmetic.specs.Words.{twoTo31};
 ghost use Rattle.arithmetic.specs.Writing.{table};
 ghost use Rattle.model.specs.Ensemble.{maxCabinets};
 ghost use Rattle.model.specs.RoundSheet.{settingsAt};
-ghost use Rattle.model.specs.Calls.{granted, step};
-ghost use Rattle.planner.specs.Answers.{planOf};
+ghost use Rattle.model.specs.Calls.{granted};
 ghost use Rattle.refusals.specs.Answers.{checkOf};
 ghost use Rattle.sheet_checks.specs.Answers.{openedOf};
-ghost use Rattle.run.specs.Run.{stepped};
-ghost use Rattle.run.specs.Trace.{roundsAt, firstAt};
-ghost use Rattle.run.specs.Replay.{stateTo};
-ghost use Rattle.playing.specs.Playing.{HeldTo, Playable, RoundPlayed, stoppedAt, RoundsPlayed, Played, playedGiven};
+ghost use Rattle.trace.specs.Trace.{roundsAt, firstAt};
+ghost use Rattle.trace.specs.Replay.{stateTo};
+ghost use Rattle.playing.specs.Playing.{HeldTo, Playable, RoundPlayed, stoppedAt};
+ghost use Rattle.playing.specs.Playing.{RoundsPlayed, Played, playedGiven};
 use model::HEADER_SIZE;
 use model::MAX_CABINETS;
 use model::NO_ROOM;
@@ -25,7 +24,6 @@ use model::RUN_STOPPED;
 use model::Settings;
 use model::TRACE_HEADER_SIZE;
 use planner::Plan;
-use planner::Planned;
 use refusals::Screened;
 use sheet_checks::Opened;
 
@@ -110,16 +108,6 @@ fn play_round(trace: &[u8], settings: Settings, rounds: u8, k: u8, held: &mut [u
     play_in(trace, settings, rounds, k, &mut next[..n], held)
 }
 
-// The plan one round on; one that can go no further stays.
-fn stepped(plan: Plan) -> Plan
-    ensures { λ r. ⌜ planOf r ≡ stepped (step (planOf plan)) (planOf plan) ⌝ }
-{
-    match plan.step() {
-        Planned::Granted(next) => next,
-        Planned::Refused(r) => plan,
-    }
-}
-
 // Plays the first rounds, each at its planned window: the place of check 15, or 0 where no sound cabinet meets too many
 // faults.
 fn play_rounds(trace: &[u8], settings: Settings, rounds: u8, most: u8, held: &mut [u32]) -> u32
@@ -139,7 +127,7 @@ fn play_rounds(trace: &[u8], settings: Settings, rounds: u8, most: u8, held: &mu
         if refused < (settings.n as usize) {
             return trace_sizes::stop_place(k, refused as u8);
         }
-        plan = stepped(plan);
+        plan = plan_steps::stepped(plan);
         k += 1;
     }
     0
@@ -155,12 +143,6 @@ fn stopped(place: u32) -> Screened
     Screened::Refused(refusals::refuse_at(RUN_STOPPED, place))
 }
 
-fn lower(a: u8, b: u8) -> u8
-    ensures { λ r. ⌜ r ≡ min a b ⌝ }
-{
-    if a < b { a } else { b }
-}
-
 // Plays the first rounds of a trace that passes its other checks.
 fn play_checked(trace: &[u8], settings: Settings, most: u8, held: &mut [u32]) -> Screened
     requires { ⌜ Playable (now trace) × (settings ≡ settingsAt (now trace)) × (length (now held) ≡ settings .n) ⌝ }
@@ -169,7 +151,13 @@ fn play_checked(trace: &[u8], settings: Settings, most: u8, held: &mut [u32]) ->
 {
     let rounds = words::byte_at(trace, HEADER_SIZE);
     first_readings(trace, &mut *held);
-    let place = play_rounds(trace, settings, rounds, lower(most, rounds), held);
+    let place = play_rounds(
+        trace,
+        settings,
+        rounds,
+        trace_rounds::rounds_to_play(rounds, most),
+        held,
+    );
     stopped(place)
 }
 

@@ -7,6 +7,7 @@ use mathlib.Core.Path.{_≡_, refl, sym, ap, ap₂, _∙_}
 use Prim.Native.Nat.{ℕ, _+_, _*_, _-_, _/_, _≤_, _<_}
 use native.Mathlib.Nat.{le-of-eq}
 use native.Mathlib.Omega.{arith}
+use borrow.Rule.Slice.PartAt.{part-to-end}
 use borrow.Author.Tests.{eq-eqb, lt-ltb, le-ltb, le-leb, lt-leb, eqb-true, leb-true, ltb-true}
 use lib.Dec.{eqb, leb, ltb}
 use lib.ListN.{length, take, drop, length-drop}
@@ -20,21 +21,23 @@ use Rattle.decision_laws.proofs.Decision.{decide-ext}
 use Rattle.decision_laws.proofs.Rows.{read-direct, read-decided}
 use Rattle.model.specs.declared.Settings.{Settings}
 use Rattle.model.specs.Ensemble.{Reading, Readings, missing, present, maxCabinets}
-use Rattle.model.specs.RoundSheet.{cca, byte, word, entryCount, entryAt, rowEntries, rowPart, sheetLength, headerSize}
+use Rattle.model.specs.RoundSheet.{cca, byte, word, entryCount, entryAt, sheetLength, headerSize}
 use Rattle.model.specs.Steps.{decidedReading, decideRow}
 use Rattle.sheet_laws.proofs.Words.{word-ext}
 use Rattle.held.specs.Held.{heldMark, heldValue}
 use Rattle.decisions.specs.Rows.{copyAt, rowDecision}
-use Rattle.rows.specs.Parts.{partAt}
 use Rattle.held_laws.specs.Stored.{Stored}
 use Rattle.sent_readings.specs.Sizes.{readingsTaken}
 use Rattle.sent_readings.proofs.Sizes.{all-readings}
-use Rattle.decided_readings.specs.Rows.{rowReading, rowsTaken}
+use Rattle.decided_readings.specs.Rows.{rowMarks, rowBytes, rowReading, rowsTaken}
 use Rattle.decided_readings.proofs.Sizes.{all-rows}
 use Rattle.decided_readings.proofs.Squares.{row-room}
 use Rattle.reception.specs.Receiving.{readingAt, fitting, marksReceived, valuesReceived}
 
 -- ---- bytes and words of a part
+
+add-again : (j i b : ℕ) → j + i + b ≡ j + (i + b)
+add-again j i b = omega arith
 
 byte-part : (s : List ℕ) (j k i : ℕ) → i < k → byte (take k (drop j s)) i ≡ byte s (j + i)
 byte-part s j k i h = getD-take k (drop j s) i 0 h ∙ getD-drop j s i 0
@@ -42,10 +45,11 @@ byte-part s j k i h = getD-take k (drop j s) i 0 h ∙ getD-drop j s i 0
 word-part : (s : List ℕ) (j k i : ℕ) → i + 4 ≤ k → word (take k (drop j s)) i ≡ word s (j + i)
 word-part s j k i h =
     word-ext (take k (drop j s)) s i (j + i)
-    (λ b l. byte-part s j k (i + b) (omega arith) ∙ ap (byte s) (sym (again j i b)))
-  where
-    again : (j i b : ℕ) → j + i + b ≡ j + (i + b)
-    again j i b = omega arith
+    (λ b l. byte-part s j k (i + b) (omega arith) ∙ ap (byte s) (sym (add-again j i b)))
+
+word-rest : (s : List ℕ) (j i : ℕ) → word (drop j s) i ≡ word s (j + i)
+word-rest s j i =
+    word-ext (drop j s) s i (j + i) (λ b l. getD-drop j s (i + b) 0 ∙ ap (byte s) (sym (add-again j i b)))
 
 length-part : (s : List ℕ) (j k : ℕ) → j + k ≤ length s → length (take k (drop j s)) ≡ k
 length-part s j k h = length-take-le k (drop j s) (rw (length-drop j s) (omega arith))
@@ -60,6 +64,13 @@ sentMarks s n = take (headerSize + n - headerSize) (drop headerSize s)
 
 abbrev pub sentBytes : List ℕ → ℕ → List ℕ
 sentBytes s n = take (headerSize + n + 4 * n - (headerSize + n)) (drop (headerSize + n) s)
+
+-- those of rows of n copies
+abbrev pub relayedMarks : List ℕ → ℕ → List ℕ
+relayedMarks s n = take (headerSize + n * n - headerSize) (drop headerSize s)
+
+abbrev pub relayedBytes : List ℕ → ℕ → List ℕ
+relayedBytes s n = take (length s - (headerSize + n * n)) (drop (headerSize + n * n) s)
 
 marks-long : (s : List ℕ) (n : ℕ) → headerSize + n ≤ length s → length (sentMarks s n) ≡ n
 marks-long s n h = rw (cut headerSize n) (length-part s headerSize n h)
@@ -112,13 +123,13 @@ pub record Filled (s : List ℕ) (c : Settings) (marks values : List ℕ) : Type
   pub marked : marks ≡ table (λ r. heldMark (readingAt s c r)) (c .n)
   pub valued : values ≡ table (λ r. heldValue (readingAt s c r)) (c .n)
 
-module _ (s : List ℕ) (c : Settings) (marks₀ values₀ marks values : List ℕ)
+module _ (s : List ℕ) (c : Settings) (marks₀ values₀ marks₁ values₁ : List ℕ)
     (markRoom : length marks₀ ≡ c .n) (valueRoom : length values₀ ≡ c .n) where
   filled :
       (v : Readings)
       → ((r : ℕ) → r < c .n → readingAt s c r ≡ v r)
-      → Stored v (c .n) marks₀ values₀ marks values
-      → Filled s c marks values
+      → Stored v (c .n) marks₀ values₀ marks₁ values₁
+      → Filled s c marks₁ values₁
   filled v same st =
       record {
         marked = st .marked ∙ here heldMark marks₀ markRoom;
@@ -163,9 +174,9 @@ module _ (s : List ℕ) (c : Settings) (marks₀ values₀ marks values : List �
         (readingsTaken (length (sentMarks s (c .n))) (length (sentBytes s (c .n))) (length marks₀) (length values₀))
         marks₀
         values₀
-        marks
-        values
-        → Filled s c marks values
+        marks₁
+        values₁
+        → Filled s c marks₁ values₁
     direct-filled st =
         filled (copyAt (take (c .n) (drop headerSize s)) (take (4 * c .n) (drop (headerSize + c .n) s))) direct-copies
         (rw (cut headerSize (c .n), cut (headerSize + c .n) (4 * c .n)) at (rw all-sent at st))
@@ -173,75 +184,91 @@ module _ (s : List ℕ) (c : Settings) (marks₀ values₀ marks values : List �
   -- CCA: the row of each cabinet
   module _ (b : eqb (c .rule) cca ≡ true) (few : 2 * c .m < c .n) (small : c .n ≤ maxCabinets)
       (long : length s ≡ headerSize + 5 * (c .n * c .n)) where
-    rowMarks : ℕ → List ℕ
-    rowMarks r = take (c .n) (drop (headerSize + r * c .n) s)
+    square : ℕ
+    square = c .n * c .n
 
-    rowBytes : ℕ → List ℕ
-    rowBytes r = take (4 * c .n) (drop (headerSize + c .n * c .n + 4 * (r * c .n)) s)
+    marks : List ℕ
+    marks = take square (drop headerSize s)
 
-    row-of : (r : ℕ) → r < c .n → partAt s c r ≡ rowBytes r
-    unfolding partAt rowPart rowEntries entryCount rowBytes
-    row-of r l =
-        let room = row-room r (c .n) l in
-        let end : headerSize + c .n * c .n + 4 * (r * c .n) + 4 * c .n ≤ length s = omega arith in
-        rw (lt-ltb r (c .n) l, b, le-leb (headerSize + c .n * c .n + 4 * (r * c .n) + 4 * c .n) (length s) end)
+    bytes : List ℕ
+    bytes = drop (headerSize + square) s
 
     copies :
         (r t : ℕ)
         → r < c .n
         → t < c .n
-        → entryAt s (c .n * c .n) (r * c .n + t) ≡ copyAt (rowMarks r) (rowBytes r) t
-    unfolding rowMarks rowBytes
+        → entryAt s square (r * c .n + t) ≡ copyAt (rowMarks marks (c .n) r) (rowBytes bytes (c .n) r) t
+    unfolding entryAt marks bytes square
     copies r t l h =
-        entry-part s (c .n * c .n) (headerSize + r * c .n) (c .n) (headerSize + c .n * c .n + 4 * (r * c .n))
-        (4 * c .n)
-        (r * c .n + t)
-        t
-        h
-        (omega arith)
-        (there (r * c .n) t)
-        (behind (r * c .n) (c .n * c .n) t)
+        let room = row-room r (c .n) l in
+        ap₂ (λ (mark bits : ℕ). cond (eqb mark 1) (present (toZ w32 bits)) missing)
+        (sym
+        (byte-part marks (r * c .n) (c .n) t h ∙ byte-part s headerSize square (r * c .n + t) (omega arith)))
+        (sym
+        (word-part bytes (4 * (r * c .n)) (4 * c .n) (4 * t) (omega arith)
+        ∙ word-rest s (headerSize + square) (4 * (r * c .n) + 4 * t)
+        ∙ ap (word s) (behind (r * c .n) square t)))
       where
-        there : (a t : ℕ) → headerSize + (a + t) ≡ headerSize + a + t
-        there a t = omega arith
-
-        behind : (a b t : ℕ) → headerSize + b + 4 * (a + t) ≡ headerSize + b + 4 * a + 4 * t
+        behind : (a b t : ℕ) → headerSize + b + (4 * a + 4 * t) ≡ headerSize + b + 4 * (a + t)
         behind a b t = omega arith
 
-    row-decided : (r : ℕ) → r < c .n → readingAt s c r ≡ rowReading s c (c .n - c .m) r
-    unfolding entryCount rowMarks rowBytes
+    row-decided : (r : ℕ) → r < c .n → readingAt s c r ≡ rowReading marks bytes (c .n) (c .n - c .m) r
+    unfolding entryCount marks bytes square
     row-decided r l =
         let room = row-room r (c .n) l in
-        let long-marks = length-part s (headerSize + r * c .n) (c .n) (omega arith) in
-        let long-bytes = length-part s (headerSize + c .n * c .n + 4 * (r * c .n)) (4 * c .n) (omega arith) in
+        let all-marks = length-part s headerSize square (omega arith) in
+        let all-bytes = length-drop (headerSize + square) s in
+        let long-marks = length-part marks (r * c .n) (c .n) (omega arith) in
+        let long-bytes = length-part bytes (4 * (r * c .n)) (4 * c .n) (omega arith) in
         read-decided c (entryAt s (entryCount c)) r b
         ∙ ap decidedReading
-        (ap (λ (E : ℕ). decideRow need (c .n) (λ t. entryAt s E (r * c .n + t))) square
-        ∙ decide-ext need (c .n) (λ t. entryAt s (c .n * c .n) (r * c .n + t)) (copyAt (rowMarks r) (rowBytes r))
+        (ap (λ (E : ℕ). decideRow need (c .n) (λ t. entryAt s E (r * c .n + t))) entries
+        ∙ decide-ext need (c .n) (λ t. entryAt s square (r * c .n + t))
+        (copyAt (rowMarks marks (c .n) r) (rowBytes bytes (c .n) r))
         (λ t h. copies r t l h)
-        ∙ sym (row-fit need (c .n) (rowMarks r) (rowBytes r) long-marks long-bytes small (half (c .n) (c .m) few))
-        ∙ ap (rowDecision need (rowMarks r)) (sym (row-of r l)))
+        ∙ sym
+        (row-fit need (c .n) (rowMarks marks (c .n) r) (rowBytes bytes (c .n) r) long-marks long-bytes small
+        (half (c .n) (c .m) few)))
       where
         need : ℕ
         need = c .n - c .m
 
-        square : entryCount c ≡ c .n * c .n
-        square = rw b
+        entries : entryCount c ≡ square
+        entries = rw b
 
         half : (n m : ℕ) → 2 * m < n → n / 2 < n - m
         half n m h = omega arith
 
+    -- all of them are taken
+    all-relayed :
+        rowsTaken (c .n) (length (relayedMarks s (c .n))) (length (relayedBytes s (c .n))) (length marks₀)
+        (length values₀)
+        ≡ c .n
+    all-relayed =
+        let cut-marks = cut headerSize (c .n * c .n) in
+        let all-marks = length-part s headerSize (c .n * c .n) (omega arith) in
+        let all-bytes = ap length (part-to-end s (headerSize + c .n * c .n)) ∙ length-drop (headerSize + c .n * c .n) s in
+        all-rows (c .n) (length (relayedMarks s (c .n))) (length (relayedBytes s (c .n))) (length marks₀)
+        (length values₀)
+        small
+        (rw cut-marks (omega arith))
+        (omega arith)
+        (omega arith)
+        (omega arith)
+
     pub relayed-filled :
-        Stored (rowReading s c (c .n - c .m)) (rowsTaken (c .n) (length s) (length marks₀) (length values₀)) marks₀
+        Stored (rowReading (relayedMarks s (c .n)) (relayedBytes s (c .n)) (c .n) (c .n - c .m))
+        (rowsTaken (c .n) (length (relayedMarks s (c .n))) (length (relayedBytes s (c .n))) (length marks₀)
+        (length values₀))
+        marks₀
         values₀
-        marks
-        values
-        → Filled s c marks values
+        marks₁
+        values₁
+        → Filled s c marks₁ values₁
+    unfolding marks bytes square
     relayed-filled st =
-        filled (rowReading s c (c .n - c .m)) row-decided
-        (rw
-        (all-rows (c .n) (length s) (length marks₀) (length values₀) small (omega arith) (omega arith) (omega arith))
-        at st)
+        filled (rowReading marks bytes (c .n) (c .n - c .m)) row-decided
+        (rw (cut headerSize (c .n * c .n), part-to-end s (headerSize + c .n * c .n)) at (rw all-relayed at st))
 
 -- ---- sizes that fit
 

@@ -37,7 +37,15 @@ pub fn receive(sheet: &[u8], settings: Settings, marks: &mut [u8], values: &mut 
     }
     if settings.rule == CCA {
         let need = settings.n - settings.m;
-        decided_readings::receive_decided(sheet, settings, need as u32, marks, values);
+        let body = HEADER_SIZE + n * n;
+        decided_readings::receive_decided(
+            &sheet[HEADER_SIZE..body],
+            &sheet[body..],
+            n,
+            need as u32,
+            marks,
+            values,
+        );
     } else {
         let end = HEADER_SIZE + n;
         sent_readings::receive_sent(

@@ -2,7 +2,7 @@
 // request the values after each round first.
 ghost use mathlib.Core.Path.{_≡_};
 ghost use lib.ListN.{length};
-ghost use Rattle.run.specs.ReplayText.{maxTraceInput};
+ghost use Rattle.trace.specs.ReplayText.{maxTraceInput};
 ghost use Rattle.replay_text.specs.Final.{finalCapacity};
 use libc::STDERR_FILENO;
 use libc::STDIN_FILENO;

@@ -13,10 +13,10 @@ use Rattle.arithmetic.proofs.Bools.{and-left, and-right}
 use Rattle.model.specs.Ensemble.{Reading, ticks}
 use Rattle.model.specs.Planner.{after}
 use Rattle.model.specs.Calls.{Outcome}
-use Rattle.run.specs.Trace.{soundAt, tracedStation}
+use Rattle.trace.specs.Trace.{soundAt, tracedStation}
 use Rattle.run.specs.Rounds.{below}
-use Rattle.run.specs.Traces.{onceTrace, directTraceWith, directTrace, toldTrace, silentTrace, firstTraceWith, farTrace}
-use Rattle.run.proofs.ComputedTraces.{replayed, traces-computed}
+use Rattle.trace.specs.Traces.{onceTrace, directTraceWith, directTrace, toldTrace, silentTrace, firstTraceWith, farTrace}
+use Rattle.trace.proofs.ComputedTraces.{replayed, traces-computed}
 use Rattle.demand_3.proofs.Computed.Tested.{good-tested}
 use Rattle.replay_guarantee.specs.Replayed.{Bytes, AlikeForSound, FewBad}
 use Rattle.replay_guarantee.specs.Witnesses.{Meets, OnceReached, DirectReached, FarStays, SilentRefused}

@@ -8,8 +8,8 @@ use Rattle.model.specs.RoundSheet.{settingsAt, readingBytes}
 use Rattle.model.specs.Refusals.{Check, orNext}
 use Rattle.model.specs.Calls.{writtenAfter}
 use Rattle.refusal_laws.proofs.Checks.{first-snoc}
-use Rattle.run.specs.Trace.{roundsAt}
-use Rattle.run.specs.Replay.{traceChecks, replayChecks, runStopped, valuesTo, replayTo, replay}
+use Rattle.trace.specs.Trace.{roundsAt}
+use Rattle.trace.specs.Replay.{traceChecks, replayChecks, runStopped, valuesTo, replayTo, replay}
 use Rattle.replay_guarantee.specs.Replayed.{Passes}
 
 module _ (s values : List ℕ) (pass : Passes s values) where

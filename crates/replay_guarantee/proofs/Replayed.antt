@@ -26,10 +26,10 @@ use Rattle.model.specs.Calls.{Verdict, granted, verdict, Outcome}
 use Rattle.refusal_laws.proofs.Checks.{next-none-left, next-none-right}
 use Rattle.sheet_laws.proofs.Outcomes.{granted-none}
 use Rattle.run.specs.Run.{Station, Sound, Allowed, stateAfter}
-use Rattle.run.specs.Trace.{roundsAt, soundAt, tracedStation, tracedSends}
-use Rattle.run.specs.Replay.{tooMany, refusedIn, atRound, inRound, runStopped, shownAfter, valuesTo, replay}
-use Rattle.run.proofs.Shown.{few-rounds, recorded, replay-shows}
-use Rattle.run.proofs.Traced.{Recorded, traced-start, traced-allowed, traced-ready}
+use Rattle.trace.specs.Trace.{roundsAt, soundAt, tracedStation, tracedSends}
+use Rattle.trace.specs.Replay.{tooMany, refusedIn, atRound, inRound, runStopped, shownAfter, valuesTo, replay}
+use Rattle.trace.proofs.Shown.{few-rounds, recorded, replay-shows}
+use Rattle.trace.proofs.Traced.{Recorded, traced-start, traced-allowed, traced-ready}
 use Rattle.demand_3.specs.Guarantee.{apart, Good, Close}
 use Rattle.demand_3.proofs.Guarantee.{guarantee}
 use Rattle.replay_guarantee.specs.Replayed.{Bytes, Passes, valueIn, meetsTooMany, NobodyMeets, IsRun, ReplayIsRun}

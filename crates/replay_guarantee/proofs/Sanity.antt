@@ -17,11 +17,11 @@ use Rattle.arithmetic.proofs.Bools.{and-left, and-right}
 use Rattle.model.specs.Ensemble.{missing, present}
 use Rattle.model.specs.declared.Settings.{Settings}
 use Rattle.model.specs.RoundSheet.{word, settingsAt}
-use Rattle.run.specs.Trace.{traceHeaderSize, roundsAt, roleAt, soundAt, traceEntries, entryNumber}
-use Rattle.run.specs.Trace.{tracedMark, tracedBits, tracedEntry}
+use Rattle.trace.specs.Trace.{traceHeaderSize, roundsAt, roleAt, soundAt, traceEntries, entryNumber}
+use Rattle.trace.specs.Trace.{tracedMark, tracedBits, tracedEntry}
 use Rattle.run.specs.Rounds.{below}
-use Rattle.run.specs.Traces.{lent17, onceTrace, directTraceWith, directTrace, otherTrace}
-use Rattle.run.proofs.ComputedTraces.{replayed}
+use Rattle.trace.specs.Traces.{lent17, onceTrace, directTraceWith, directTrace, otherTrace}
+use Rattle.trace.proofs.ComputedTraces.{replayed}
 use Rattle.demand_3.proofs.Computed.Tested.{tested}
 use Rattle.replay_guarantee.specs.Replayed.{Bytes, AlikeForSound, Passes, FewBad, Replays}
 use Rattle.replay_guarantee.specs.Witnesses.{Meets, OtherIgnored}

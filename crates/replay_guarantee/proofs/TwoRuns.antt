@@ -20,10 +20,10 @@ use Rattle.model.specs.Refusals.{tooManyFaults}
 use Rattle.model.specs.Calls.{Outcome, writtenAfter}
 use Rattle.round_laws.proofs.Local.{EqualBelow, EqualRounds, round-local, answer-local}
 use Rattle.run.specs.Run.{State, holds, heard, settled, next, stateAfter}
-use Rattle.run.specs.Trace.{roundsAt, soundAt, tracedStation, tracedSends}
+use Rattle.trace.specs.Trace.{roundsAt, soundAt, tracedStation, tracedSends}
 use Rattle.run.proofs.Entries.{seen}
 use Rattle.run.proofs.Ready.{settles}
-use Rattle.run.proofs.Traced.{Recorded, traced-start, traced-allowed, traced-ready, traced-seen}
+use Rattle.trace.proofs.Traced.{Recorded, traced-start, traced-allowed, traced-ready, traced-seen}
 use Rattle.replay_guarantee.specs.Replayed.{AlikeForSound}
 
 -- windows do not depend on the accuracy

@@ -27,8 +27,8 @@ use Rattle.model.specs.Planner.{planFrom, after, maxAccuracy}
 use Rattle.model.specs.Refusals.{firstOf}
 use Rattle.model.specs.Calls.{granted}
 use Rattle.run.specs.Run.{Sound, stateAfter, settled}
-use Rattle.run.specs.Trace.{roundsAt, roleAt, firstAt, soundAt, entryNumber, tracedEntry, tracedStation, tracedSends}
-use Rattle.run.specs.Replay.{tooMany, refusedIn, traceChecks, replay}
+use Rattle.trace.specs.Trace.{roundsAt, roleAt, firstAt, soundAt, entryNumber, tracedEntry, tracedStation, tracedSends}
+use Rattle.trace.specs.Replay.{tooMany, refusedIn, traceChecks, replay}
 use Rattle.demand_3.specs.Guarantee.{apart, Good, bad}
 
 abbrev pub Bytes : List ℕ → Type 0

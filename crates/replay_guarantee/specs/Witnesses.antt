@@ -20,10 +20,10 @@ use Rattle.model.specs.Cases.{at}
 use Rattle.model.specs.Ensemble.{missing}
 use Rattle.model.specs.Refusals.{refusal, runStoppedNumber}
 use Rattle.model.specs.Calls.{refused}
-use Rattle.run.specs.Trace.{firstAt, soundAt, entryNumber, tracedEntry, tracedStation}
-use Rattle.run.specs.Replay.{replay}
+use Rattle.trace.specs.Trace.{firstAt, soundAt, entryNumber, tracedEntry, tracedStation}
+use Rattle.trace.specs.Replay.{replay}
 use Rattle.run.specs.Rounds.{below}
-use Rattle.run.specs.Traces.{lent17, onceTrace, directTrace, otherTrace, toldTrace, silentTrace, farTrace}
+use Rattle.trace.specs.Traces.{lent17, onceTrace, directTrace, otherTrace, toldTrace, silentTrace, farTrace}
 use Rattle.demand_3.specs.Guarantee.{apart, Good, bad}
 use Rattle.replay_guarantee.specs.Replayed.{Bytes, Passes, valueIn, meetsTooMany, AlikeForSound, FewBad}
 use Rattle.replay_guarantee.specs.Replayed.{SomeRound, finalGap, finalError}

@@ -7,10 +7,10 @@ use native.Mathlib.Nat.{le-refl}
 use lib.ListN.{length}
 use Rattle.model.specs.declared.Refusal.{Refusal}
 use Rattle.model.specs.RoundSheet.{byte}
-use Rattle.run.specs.Trace.{roundsAt}
-use Rattle.run.specs.Replay.{replay}
-use Rattle.run.specs.ReplayText.{listedRoom, replayListing}
-use Rattle.run.proofs.Shown.{replay-refused, replay-granted, replay-shows}
+use Rattle.trace.specs.Trace.{roundsAt}
+use Rattle.trace.specs.Replay.{replay}
+use Rattle.trace.specs.ReplayText.{listedRoom, replayListing}
+use Rattle.trace.proofs.Shown.{replay-refused, replay-granted, replay-shows}
 use Rattle.text.specs.Text.{refusalWritten}
 use Rattle.text.proofs.Texts.{text-fits}
 use Rattle.replay_text.specs.Final.{finalCapacity, finalWritten}

@@ -2,7 +2,7 @@
 -- below the capacity of final values.
 use mathlib.Core.List.{List}
 use Prim.Native.Nat.{ℕ}
-use Rattle.run.specs.ReplayText.{replayListing}
+use Rattle.trace.specs.ReplayText.{replayListing}
 use Rattle.text.specs.Text.{Text, textIn}
 use Rattle.replay_text.specs.Final.{finalCapacity}
 

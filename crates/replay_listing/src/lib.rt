@@ -2,7 +2,7 @@
 ghost use mathlib.Core.Path.{_≡_};
 ghost use Prim.Native.Nat.{_≤_};
 ghost use lib.ListN.{length};
-ghost use Rattle.run.specs.ReplayText.{listedRoom};
+ghost use Rattle.trace.specs.ReplayText.{listedRoom};
 ghost use Rattle.replay_text.specs.Final.{finalCapacity};
 ghost use Rattle.replay_listing.specs.Listed.{replayListed};
 use replay_text::FINAL_CAPACITY;
@@ -17,7 +17,7 @@ fn listing_in(trace: &[u8], values: &mut [u8], text: &mut [u8]) -> usize
 {
     match replaying::replay(trace, values) {
         Replayed::Granted(_) => replay_text::final_text(trace, values, text),
-        Replayed::Refused(r) => text::refusal_text(r.number, r.place, text),
+        Replayed::Refused(r) => refused_text::refused_text(r, text),
     }
 }
 

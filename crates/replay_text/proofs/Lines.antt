@@ -1,38 +1,23 @@
--- How long the text of final values is, at most, and the lines of one cabinet more.
+-- How long the text of final values is, at most.
 -- Assumes nothing.
 use mathlib.Core.List.{List, [], _∷_, _++_}
-use mathlib.Core.Path.{_≡_, refl}
+use mathlib.Core.Path.{_≡_}
 use Prim.Native.Nat.{ℕ, zero, suc, _+_, _*_, _≤_, _<_}
-use native.Mathlib.Numerals.{add-one}
 use native.Mathlib.Omega.{arith}
 use lib.IntN.{ℤ}
 use lib.ListN.{length, length-append}
-use Rattle.model.specs.RoundSheet.{byte, word}
+use Rattle.model.specs.RoundSheet.{byte}
 use Rattle.model.specs.Listing.{decimal, signedDecimal, line}
-use Rattle.run.specs.Trace.{traceHeaderSize, roundsAt, roleAt}
-use Rattle.run.specs.ReplayText.{replayWord, valueLines, finalText}
-use Rattle.fields.specs.Putting.{Puts}
+use Rattle.trace.specs.Trace.{traceHeaderSize, roundsAt, roleAt}
+use Rattle.trace.specs.ReplayText.{replayWord, valueLines, finalText}
 use Rattle.fields.proofs.Digits.{length-decimal-byte}
-use Rattle.fields.proofs.Putting.{puts-then}
-use Rattle.lines.specs.Lines.{cabinetLine}
 use Rattle.text.specs.Text.{cabinetCapacity}
 use Rattle.text.proofs.Lines.{length-line, length-cabinet}
-use Rattle.replay_text.specs.Final.{valueAt, finalCapacity}
+use Rattle.replay_text.specs.Final.{finalCapacity}
 
 -- ---- the lines of cabinets
 
 module _ (role : ℕ → ℕ) (value : ℕ → ℤ) where
-  pub values-none : valueLines role value 0 ≡ []
-  unfolding valueLines
-  values-none = refl
-
-  values-more :
-      (p : ℕ)
-      → valueLines role value (p + 1)
-      ≡ valueLines role value p ++ line (decimal p) (decimal (role p) ∷ signedDecimal (value p) ∷ [])
-  unfolding valueLines
-  values-more p = rw (add-one p)
-
   length-values : (n : ℕ) → n ≤ 256 → ((p : ℕ) → role p < 256) → length (valueLines role value n) ≤ cabinetCapacity * n
   unfolding valueLines
   length-values zero h small = omega arith
@@ -42,16 +27,6 @@ module _ (role : ℕ → ℕ) (value : ℕ → ℤ) where
       let more = line (decimal n) (decimal (role n) ∷ signedDecimal (value n) ∷ []) in
       let whole = length-append (valueLines role value n) more in
       omega arith
-
--- the line of what the bytes say
-module _ (s values : List ℕ) (p role value : ℕ) (r : role ≡ byte s (traceHeaderSize + p))
-    (v : value ≡ word values (4 * p)) where
-  pub value-put :
-      {old text new : List ℕ} {at next end : ℕ} → Puts old at (valueLines (roleAt s) (valueAt values) p) text next
-      → Puts text next (cabinetLine p role value) new end
-      → Puts old at (valueLines (roleAt s) (valueAt values) (p + 1)) new end
-  value-put before here =
-      rw (values-more (roleAt s) (valueAt values) p) (puts-then before (rw (r, v) at here))
 
 -- ---- the whole text
 

@@ -13,11 +13,12 @@ use Rattle.arithmetic.proofs.Counting.{initial, last}
 use Rattle.model.specs.declared.Refusal.{Refusal}
 use Rattle.model.specs.RoundSheet.{settingsAt}
 use Rattle.model.specs.Refusals.{firstOf}
-use Rattle.run.specs.Trace.{roundsAt, roleAt}
-use Rattle.run.specs.Replay.{replayChecks, shownAfter}
-use Rattle.run.specs.ReplayText.{valueLines, finalText, listedRoom, replayListing}
+use Rattle.trace.specs.Trace.{roundsAt, roleAt}
+use Rattle.trace.specs.Replay.{replayChecks, shownAfter}
+use Rattle.trace.specs.ReplayText.{valueLines, finalText, listedRoom, replayListing}
 use Rattle.text.specs.Text.{textIn, refusalCapacity, refusalWritten}
-use Rattle.replay_text.specs.Final.{valueAt, finalCapacity, finalWritten}
+use Rattle.value_lines.specs.Values.{valueAt}
+use Rattle.replay_text.specs.Final.{finalCapacity, finalWritten}
 
 -- a text depends on the values of cabinets 0 to n-1
 module _ (role : ℕ → ℕ) (a b : ℕ → ℤ) where

@@ -1,19 +1,13 @@
 -- What writing the text of final values gives, and what it leaves in the lent buffer.
---   valueAt          a cabinet's value in a buffer of values
 --   finalCapacity    bytes that hold any such text
 --   finalWritten     the text of a trace's bytes and a buffer of values
 use mathlib.Core.List.{List}
 use Prim.Native.Nat.{ℕ, _+_, _*_}
-use lib.IntN.{ℤ}
-use mir.Syntax.{w32}
-use mir.Val.{toZ}
-use Rattle.model.specs.RoundSheet.{byte, word}
-use Rattle.run.specs.Trace.{roundsAt, roleAt}
-use Rattle.run.specs.ReplayText.{finalText}
+use Rattle.model.specs.RoundSheet.{byte}
+use Rattle.trace.specs.Trace.{roundsAt, roleAt}
+use Rattle.trace.specs.ReplayText.{finalText}
+use Rattle.value_lines.specs.Values.{valueAt}
 use Rattle.text.specs.Text.{Text, textIn, cabinetCapacity}
-
-abbrev pub valueAt : List ℕ → ℕ → ℤ
-valueAt values p = toZ w32 (word values (4 * p))
 
 -- `replay`, numbers of three and three bytes, two spaces, a line feed
 abbrev pub firstCapacity : ℕ

@@ -2,12 +2,10 @@
 ghost use mathlib.Core.List.{[], _∷_};
 ghost use mathlib.Core.Path.{_≡_};
 ghost use Rattle.model.specs.Listing.{decimal, line};
-ghost use Rattle.run.specs.Trace.{roleAt};
-ghost use Rattle.run.specs.ReplayText.{replayWord, valueLines};
+ghost use Rattle.trace.specs.ReplayText.{replayWord};
 ghost use Rattle.fields.specs.Putting.{Puts};
-ghost use Rattle.replay_text.specs.Final.{valueAt, finalWritten};
+ghost use Rattle.replay_text.specs.Final.{finalWritten};
 use model::HEADER_SIZE;
-use model::TRACE_HEADER_SIZE;
 
 // Bytes that hold the longest text.
 pub const FINAL_CAPACITY: usize = 5115;
@@ -23,25 +21,6 @@ fn put_first(text: &mut [u8], at: usize, n: u32, rounds: u32) -> usize
     fields::put_byte(text, second, b'\n')
 }
 
-// Puts a line for each of the cabinets 0 to n-1: number, role, value.
-fn put_values(text: &mut [u8], at: usize, trace: &[u8], values: &[u8], n: u32) -> usize
-    ensures { λ r.
-        ⌜ Puts (now (text .entry)) at (valueLines (roleAt (now (trace .entry))) (valueAt (now (values .entry))) n)
-        (now (text .exit)) r ⌝ }
-{
-    let mut next = at;
-    let mut passed: u32 = 0;
-    'cabinets: while passed < n {
-        let p = passed;
-        passed += 1;
-        let i = p as usize;
-        let role = words::byte_at(trace, TRACE_HEADER_SIZE + i) as u32;
-        let value = words::word_at(values, 4 * i);
-        next = lines::put_cabinet(text, next, p, role, value);
-    }
-    next
-}
-
 // The text of a trace's final values: the line of the replay, then a line for each cabinet. A buffer below the capacity
 // is left as it was, and the answer is 0.
 pub fn final_text(trace: &[u8], values: &[u8], text: &mut [u8]) -> usize
@@ -55,5 +34,5 @@ pub fn final_text(trace: &[u8], values: &[u8], text: &mut [u8]) -> usize
     let n = words::byte_at(trace, 0) as u32;
     let rounds = words::byte_at(trace, HEADER_SIZE) as u32;
     let cabinets = put_first(text, 0, n, rounds);
-    put_values(text, cabinets, trace, values, n)
+    value_lines::put_lines(text, cabinets, trace, values, n)
 }

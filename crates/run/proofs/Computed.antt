@@ -2,7 +2,7 @@
 -- comes to the laws, so that a false definition is refused by its numbers.
 -- Assumes nothing.
 use mathlib.Core.List.{List, [], _∷_}
-use mathlib.Core.Path.{_≡_, refl, sym, ap, subst, fun-ext}
+use mathlib.Core.Path.{_≡_, refl, sym, ap, subst, fun-ext, _∙_}
 use Prim.Native.Nat.{ℕ, zero, suc}
 use lib.ListN.{getD}
 use Rattle.arithmetic.specs.Counting.{count, anyBelow, lowest, sum}
@@ -17,12 +17,12 @@ use Rattle.model.specs.Refusals.{firstOf, tooShort, badCabinets, badFaults, bad
 use Rattle.model.specs.Refusals.{badMark, badMissing, tooManyFaults, badPlan, settingsChecks, sheetChecks, entryChecks}
 use Rattle.model.specs.Refusals.{writeChecks, settleChecks, planChecks, stepChecks}
 use Rattle.model.specs.Calls.{write, settle, step}
-use Rattle.run.specs.Run.{Station, State, Sends, heard, entryOf, sheetOf, settled, next}
+use Rattle.run.specs.Run.{Station, State, Sends, heard, entryOf, sheetOf, settled, next, start, stateAfter}
 use Rattle.model.specs.Cases.{at, minus}
 use Rattle.run.specs.Rounds.{heldAfter, unstepped, listed, wideStation, wideSends, exactStation, exactSends, halfStation, halfSends}
 use Rattle.run.specs.Rounds.{closeStation, closeSends, medianStation, medianSends, averageStation, averageSends}
 use Rattle.run.specs.Rounds.{bothStation, bothSends, mixedStation, mixedSends}
-use Rattle.run.specs.Rounds.{directStation, directFirst, directSecond, directNext}
+use Rattle.run.specs.Rounds.{directStation, directFirst, directSecond, directNext, directSends}
 use Rattle.run.specs.Rounds.{crusadersStation, crusadersFirst, crusadersSecond, crusadersNext, RoundsComputed}
 
 -- a round, with all that it computes by: whoever unfolds it unfolds its line
@@ -97,6 +97,14 @@ direct-held = unfold computed directStation directFirst directNext in refl
 crusaders-held : table (crusadersNext .held) 3 ≡ at 25 ∷ at 0 ∷ at 0 ∷ []
 crusaders-held = unfold computed crusadersStation crusadersFirst crusadersNext in refl
 
+direct-next-held : heldAfter directStation directNext directSecond 3 ≡ minus 12 ∷ at 13 ∷ at 0 ∷ []
+direct-next-held = from3 (directNext .held) direct-held directNext directStation directSecond direct-from
+
+two-rounds :
+    (st : Station) (sends : ℕ → Sends) → stateAfter st sends 2 ≡ next st (next st (start st) (sends 0)) (sends 1)
+unfolding stateAfter
+two-rounds st sends = refl
+
 pub rounds-computed : RoundsComputed
 rounds-computed =
     record {
@@ -109,8 +117,10 @@ rounds-computed =
       both = unfold computed bothStation bothSends in refl;
       mixed = unfold computed mixedStation mixedSends in refl;
       direct-first = direct-held;
-      direct-second =
-          from3 (directNext .held) direct-held directNext directStation directSecond direct-from;
+      direct-second = direct-next-held;
+      direct-run =
+          unfold directSends directNext in
+          ap (λ (now : State). table (now .held) 3) (two-rounds directStation directSends) ∙ direct-next-held;
       direct-repeated =
           from3 (directNext .held) direct-held (unstepped directStation directNext) directStation directSecond
           direct-again;

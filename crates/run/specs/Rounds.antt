@@ -10,7 +10,7 @@
 use mathlib.Core.Bool.{Bool}
 use mathlib.Core.List.{List, [], _∷_}
 use mathlib.Core.Path.{_≡_}
-use Prim.Native.Nat.{ℕ}
+use Prim.Native.Nat.{ℕ, zero, suc}
 use lib.Dec.{ltb}
 use lib.ListN.{getD, replicate}
 use Rattle.arithmetic.specs.Writing.{table}
@@ -21,7 +21,7 @@ use Rattle.model.specs.AnswerSheet.{answerLength}
 use Rattle.model.specs.Refusals.{refusal, tooManyFaultsNumber}
 use Rattle.model.specs.Calls.{refused}
 use Rattle.model.specs.Cases.{settings, at, minus}
-use Rattle.run.specs.Run.{Station, Sends, State, start, next, settled}
+use Rattle.run.specs.Run.{Station, Sends, State, start, next, settled, stateAfter}
 
 -- ---- Runs written out
 
@@ -145,6 +145,11 @@ directSecond = twoFaced 4 (minus 50 ∷ at 50 ∷ at 90 ∷ []) []
 unfoldable pub directNext : State
 directNext = next directStation (start directStation) directFirst
 
+-- what it sends, round after round
+unfoldable pub directSends : ℕ → Sends
+directSends zero = directFirst
+directSends (suc k) = directSecond
+
 -- CCA with median: N 4, m 1, windows 100, 25, 7, κ 0; cabinets 0, 1, 2 are good and read 0, which is true time; 3 is
 -- faulty
 unfoldable pub crusadersStation : Station
@@ -178,6 +183,8 @@ pub record RoundsComputed : Type 0 where
   pub mixed : settled mixedStation (start mixedStation) mixedSends 0 .verdict ≡ refused (refusal tooManyFaultsNumber 0)
   pub direct-first : table (directNext .held) 3 ≡ minus 25 ∷ at 25 ∷ at 0 ∷ []
   pub direct-second : heldAfter directStation directNext directSecond 3 ≡ minus 12 ∷ at 13 ∷ at 0 ∷ []
+  -- the run of both rounds
+  pub direct-run : table (stateAfter directStation directSends 2 .held) 3 ≡ minus 12 ∷ at 13 ∷ at 0 ∷ []
   -- settled at the first window cabinet 2 would accept the 90, and be 35 from cabinet 0
   pub direct-repeated :
       heldAfter directStation (unstepped directStation directNext) directSecond 3 ≡ minus 12 ∷ at 13 ∷ at 23 ∷ []

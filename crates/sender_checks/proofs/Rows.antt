@@ -15,7 +15,7 @@ use lib.Seq.{length-take-le, getD-take, getD-drop}
 use Rattle.arithmetic.specs.Counting.{anyBelow}
 use Rattle.arithmetic.proofs.Counting.{any-ext, any-false}
 use Rattle.model.specs.RoundSheet.{byte}
-use Rattle.run.specs.Trace.{senderOf}
+use Rattle.trace.specs.Trace.{senderOf}
 use Rattle.sender_checks.specs.Senders.{presentIn, sentAt, sentIn}
 use Rattle.sender_checks.proofs.Any.{any-none, any-ended, any-parts, any-both}
 

@@ -11,7 +11,7 @@ use lib.Dec.{eqb}
 use lib.ListN.{length}
 use Rattle.arithmetic.specs.Counting.{anyBelow}
 use Rattle.model.specs.RoundSheet.{byte}
-use Rattle.run.specs.Trace.{senderOf}
+use Rattle.trace.specs.Trace.{senderOf}
 
 unfoldable pub presentIn : List ℕ → Bool
 presentIn marks = anyBelow (λ e. eqb (byte marks e) 1) (length marks)

@@ -1,5 +1,6 @@
 -- INNER: no reader needs this page to believe a public promise.
---   readingsTaken    how many readings are taken of this many marks: all, or none where the bytes or the lent lists are short
+--   readingsTaken    how many readings are taken of this many marks: all, or none where the bytes or the lent lists
+--                    are short
 use mathlib.Core.Bool.{cond, _&&_}
 use Prim.Native.Nat.{ℕ, _/_}
 use lib.Dec.{leb}

@@ -4,10 +4,10 @@ ghost use mathlib.Core.Path.{_≡_};
 ghost use lib.ListN.{length};
 ghost use Rattle.model.specs.Listing.{maxInput};
 ghost use Rattle.text.specs.Text.{roundCapacity};
+use input_sizes::MAX_INPUT;
 use libc::STDERR_FILENO;
 use libc::STDIN_FILENO;
 use libc::STDOUT_FILENO;
-use listing::MAX_INPUT;
 use standard_input::Input;
 use text::ROUND_CAPACITY;
 

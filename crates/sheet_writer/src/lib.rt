@@ -4,44 +4,18 @@ ghost use mathlib.Core.Path.{_≡_};
 ghost use Prim.Native.Nat.{_+_, _*_, _≤_};
 ghost use lib.ListN.{length};
 ghost use Rattle.arithmetic.specs.Writing.{overwrite};
-ghost use Rattle.model.specs.RoundSheet.{headerSize, readingBytes, sizeBytes};
+ghost use Rattle.model.specs.RoundSheet.{readingBytes};
 ghost use Rattle.model.specs.Calls.{write};
 ghost use Rattle.sheet_writer.specs.Answers.{writtenOf};
 use model::HEADER_SIZE;
 use model::Refusal;
 use model::Settings;
 use refusals::Screened;
-use tick::Tick;
 
 // The length of the sheet written, or the first refusal.
 pub enum Filled {
     Granted(usize),
     Refused(Refusal),
-}
-
-// Stores the sizes, bytes 0 to 7.
-fn put_sizes(settings: Settings, buffer: &mut [u8])
-    requires { ⌜ headerSize ≤ length (now buffer) ⌝ }
-    ensures { λ _. ⌜ now (buffer .exit) ≡ overwrite (sizeBytes settings) (now (buffer .entry)) ⌝ }
-{
-    buffer[0] = settings.n;
-    buffer[1] = settings.m;
-    buffer[2] = settings.rule;
-    buffer[3] = settings.estimator;
-    word_writer::put_word(buffer, 4, settings.window);
-}
-
-// Stores readings of four bytes each, from byte 0 on.
-fn put_readings(readings: &[i32], buffer: &mut [u8])
-    requires { ⌜ 4 * length (now readings) ≤ length (now buffer) ⌝ }
-    ensures { λ _. ⌜ now (buffer .exit) ≡ overwrite (readingBytes (now (readings .entry))) (now (buffer .entry)) ⌝ }
-{
-    let mut e: usize = 0;
-    'entries: while e < readings.len() {
-        let tick = Tick(readings[e]);
-        word_writer::put_word(buffer, 4 * e, tick.to_bits());
-        e += 1;
-    }
 }
 
 // Stores marks and, behind them, readings, from byte 0 on.
@@ -52,7 +26,7 @@ fn put_entries(marks: &[u8], readings: &[i32], buffer: &mut [u8])
         ≡ overwrite (now (marks .entry) ++ readingBytes (now (readings .entry))) (now (buffer .entry)) ⌝ }
 {
     let at = bytes::copy(marks, buffer);
-    put_readings(readings, &mut buffer[at..]);
+    reading_writer::put_readings(readings, &mut buffer[at..]);
 }
 
 // The writer: fills the buffer with the sheet that the settings, marks and readings make, and gives back the sheet's
@@ -66,7 +40,7 @@ pub fn write(settings: Settings, marks: &[u8], readings: &[i32], buffer: &mut [u
     match writer_checks::check(settings, marks, readings, buffer.len()) {
         Screened::Refused(r) => Filled::Refused(r),
         Screened::Passed => {
-            put_sizes(settings, buffer);
+            size_writer::put_sizes(settings, buffer);
             put_entries(marks, readings, &mut buffer[HEADER_SIZE..]);
             Filled::Granted(size)
         }

@@ -9,9 +9,6 @@ ghost use Rattle.station_rounds.specs.Rounds.{roundFits, refusedGiven, n
 ghost use Rattle.station_rounds.specs.Settling.{Fits, Left};
 use model::Settings;
 
-// The role of a sound cabinet.
-const SOUND: u8 = 1;
-
 // What a cabinet's settling gives: whether it meets too many faults, and else the value that it holds next.
 struct Next {
     refused: bool,
@@ -35,29 +32,30 @@ fn settle_one(
     requires { ⌜ p < length (now roles) ⌝ }
     ensures { λ r. ⌜
         r .refused
-        ≡ meetsTooMany settings (now (roles .entry)) (now (held .entry)) (now (sent .entry)) (now (readings .entry)) p ⌝ }
+        ≡ meetsTooMany
+        settings (now (roles .entry)) (now (held .entry)) (now (sent .entry)) (now (readings .entry)) p ⌝ }
     ensures { λ r. ⌜
         (r .refused ≡ false
         → r .value
         ≡ nextValue settings (now (roles .entry)) (now (held .entry)) (now (sent .entry)) (now (readings .entry)) p) ⌝ }
 {
-    if roles[p] != SOUND {
+    if station_tests::is_faulty(roles[p]) {
         return Next {
             refused: false,
             value: 0,
         };
     }
     hearing::hear(roles, held, sent, readings, p, &mut *marks, &mut *values);
-    let need = settings.n - settings.m;
+    let need = station_tests::quorum(settings.n, settings.m);
     let settled = agreement::agree(
         &mut *marks,
         &*values,
         settings.window,
-        need as u32,
+        need,
         settings.estimator,
     );
     Next {
-        refused: settled.count == 0,
+        refused: station_tests::meets_too_many(settled.count),
         value: settled.value,
     }
 }

@@ -10,7 +10,7 @@ ghost use Rattle.packed_refusals.specs.Answers.{packed};
 pub extern "C" fn tohiranga_answer_cabinets(answer: &[u8]) -> u64
     ensures { λ r. ⌜ r ≡ packed (cabinetsIn (now (answer .entry))) ⌝ }
 {
-    packing::pack_shown(answer_reader::cabinets(answer))
+    packed_fields::pack_cabinets(answer)
 }
 
 // How many readings were accepted.
@@ -18,7 +18,7 @@ pub extern "C" fn tohiranga_answer_cabinets(answer: &[u8]) -> u64
 pub extern "C" fn tohiranga_answer_count(answer: &[u8]) -> u64
     ensures { λ r. ⌜ r ≡ packed (countIn (now (answer .entry))) ⌝ }
 {
-    packing::pack_shown(answer_reader::count(answer))
+    packed_fields::pack_count(answer)
 }
 
 // The estimate.
@@ -26,7 +26,7 @@ pub extern "C" fn tohiranga_answer_count(answer: &[u8]) -> u64
 pub extern "C" fn tohiranga_answer_estimate(answer: &[u8]) -> u64
     ensures { λ r. ⌜ r ≡ packed (estimateIn (now (answer .entry))) ⌝ }
 {
-    packing::pack_shown(answer_reader::estimate(answer))
+    packed_fields::pack_estimate(answer)
 }
 
 // The new value.
@@ -34,7 +34,7 @@ pub extern "C" fn tohiranga_answer_estimate(answer: &[u8]) -> u64
 pub extern "C" fn tohiranga_answer_value(answer: &[u8]) -> u64
     ensures { λ r. ⌜ r ≡ packed (valueIn (now (answer .entry))) ⌝ }
 {
-    packing::pack_shown(answer_reader::value(answer))
+    packed_fields::pack_value(answer)
 }
 
 // A cabinet's mark.
@@ -42,7 +42,7 @@ pub extern "C" fn tohiranga_answer_value(answer: &[u8]) -> u64
 pub extern "C" fn tohiranga_answer_mark(answer: &[u8], cabinet: u32) -> u64
     ensures { λ r. ⌜ r ≡ packed (markIn (now (answer .entry)) cabinet) ⌝ }
 {
-    packing::pack_shown(answer_reader::mark(answer, cabinet))
+    packed_fields::pack_mark(answer, cabinet)
 }
 
 // A cabinet's used value.
@@ -50,7 +50,7 @@ pub extern "C" fn tohiranga_answer_mark(answer: &[u8], cabinet: u32) -> u64
 pub extern "C" fn tohiranga_answer_used(answer: &[u8], cabinet: u32) -> u64
     ensures { λ r. ⌜ r ≡ packed (usedIn (now (answer .entry)) cabinet) ⌝ }
 {
-    packing::pack_shown(answer_reader::used(answer, cabinet))
+    packed_fields::pack_used(answer, cabinet)
 }
 
 // The version of the library: major × 2^16 + minor × 2^8 + patch.

@@ -1,6 +1,6 @@
 // The replay of a recorded run, for C and for Rust.
 ghost use mathlib.Core.Path.{_≡_};
-ghost use Rattle.run.specs.Replay.{replay};
+ghost use Rattle.trace.specs.Replay.{replay};
 ghost use Rattle.packed_refusals.specs.Answers.{packed};
 
 // Replays a trace. The answer is the length of the final values.

@@ -17,10 +17,10 @@ use Rattle.model.specs.RoundSheet.{byte, word}
 use Rattle.model.specs.Refusals.{Check, refuseIf, atEntry, orNext, firstOf, badMark, badMissing, notZero}
 use Rattle.model.specs.Refusals.{badMarkNumber, badMissingNumber, badRolesNumber}
 use Rattle.refusal_laws.proofs.Checks.{next-none}
-use Rattle.run.specs.Trace.{traceHeaderSize, roleAt, soundAt, senderOf, traceEntries, tracedMark, tracedBits}
+use Rattle.trace.specs.Trace.{traceHeaderSize, roleAt, soundAt, senderOf, traceEntries, tracedMark, tracedBits}
 use Rattle.sheet_sizes.specs.Bounds.{mostEntries}
 use Rattle.mark_checks.specs.Marks.{marksIn}
-use Rattle.missing_checks.specs.Missing.{missingIn}
+use Rattle.missing_search.specs.Missing.{missingIn}
 use Rattle.sender_checks.specs.Senders.{sentAt, sentIn}
 use Rattle.role_checks.specs.Roles.{strangeIn, rolesIn}
 use Rattle.entry_checks.proofs.Body.{word-drop}

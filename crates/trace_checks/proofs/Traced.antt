@@ -15,8 +15,8 @@ use Rattle.model.specs.Refusals.{Check, orNext, firstOf, tooShort, settingsChec
 use Rattle.model.specs.Calls.{Verdict, granted, refused, verdict}
 use Rattle.refusal_laws.proofs.Checks.{first-append, next-none-left, next-none-right}
 use Rattle.sheet_laws.proofs.Outcomes.{granted-none, granted-same}
-use Rattle.run.specs.Trace.{roundsAt, traceEntries}
-use Rattle.run.specs.Replay.{badTrace, strangeRole, soundSent, badRoles, traceChecks}
+use Rattle.trace.specs.Trace.{roundsAt, traceEntries}
+use Rattle.trace.specs.Replay.{badTrace, strangeRole, soundSent, badRoles, traceChecks}
 use Rattle.sheet_sizes.specs.Bounds.{mostEntries}
 use Rattle.trace_heads.specs.Heads.{headChecks}
 use Rattle.trace_heads.proofs.Heads.{Headed, headed}

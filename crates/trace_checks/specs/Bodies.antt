@@ -11,7 +11,7 @@ use lib.Dec.{ltb, eqb}
 use lib.ListN.{length}
 use Rattle.arithmetic.specs.Counting.{anyBelow}
 use Rattle.model.specs.Refusals.{Check, refuseIf, arrayChecks, badRolesNumber}
-use Rattle.run.specs.Trace.{roleAt, soundAt, senderOf, traceEntries, tracedMark, tracedBits, traceLength}
+use Rattle.trace.specs.Trace.{roleAt, soundAt, senderOf, traceEntries, tracedMark, tracedBits, traceLength}
 use Rattle.sheet_sizes.specs.Bounds.{mostEntries}
 
 pub record Shaped (s : List ℕ) (n rounds : ℕ) : Type 0 where

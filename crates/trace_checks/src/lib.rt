@@ -4,7 +4,7 @@ ghost use Rattle.model.specs.RoundSheet.{settingsAt};
 ghost use Rattle.model.specs.Refusals.{firstOf};
 ghost use Rattle.model.specs.Calls.{verdict};
 ghost use Rattle.refusals.specs.Answers.{checkOf};
-ghost use Rattle.run.specs.Replay.{traceChecks};
+ghost use Rattle.trace.specs.Replay.{traceChecks};
 ghost use Rattle.sheet_checks.specs.Answers.{openedOf};
 ghost use Rattle.trace_checks.specs.Bodies.{Shaped, bodyOf};
 use model::HEADER_SIZE;

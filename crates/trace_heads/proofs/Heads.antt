@@ -14,8 +14,8 @@ use Rattle.model.specs.Planner.{maxRounds}
 use Rattle.model.specs.Refusals.{Check, orNext, firstOf, tooShort, settingsChecks, noRoom, badTraceNumber, noRoomNumber}
 use Rattle.refusal_laws.proofs.Checks.{first-append, next-none, next-none-left, next-none-right, when-none}
 use Rattle.refusal_laws.proofs.Limits.{Limits, limits}
-use Rattle.run.specs.Trace.{roundsAt, traceLength}
-use Rattle.run.specs.Replay.{badTrace}
+use Rattle.trace.specs.Trace.{roundsAt, traceLength}
+use Rattle.trace.specs.Replay.{badTrace}
 use Rattle.trace_heads.specs.Heads.{headChecks}
 
 module _ (s : List ℕ) (room : ℕ) where
@@ -43,7 +43,7 @@ module _ (s : List ℕ) (room : ℕ) where
   unfolding badTrace noRoom
   headed h =
       record {
-        within = limits (settingsAt s) (next-none-left sizes (orNext (badTrace s) tray) settings);
+        within = limits (settingsAt s) (next-none-left sizes (orNext (badTrace s) roomed) settings);
         rule = eqb-true (settingsAt s .rule) fca (not-false (eqb (settingsAt s .rule) fca) (or-left other late shape));
         rounds =
             ltb-false maxRounds (roundsAt s) (or-left (ltb maxRounds (roundsAt s)) wrong (or-right other late shape));
@@ -53,14 +53,14 @@ module _ (s : List ℕ) (room : ℕ) where
             (or-right (ltb maxRounds (roundsAt s)) wrong (or-right other late shape)));
         spacious =
             ltb-false room (4 * settingsAt s .n)
-            (when-none (ltb room (4 * settingsAt s .n)) noRoomNumber (next-none-right (badTrace s) tray rest));
+            (when-none (ltb room (4 * settingsAt s .n)) noRoomNumber (next-none-right (badTrace s) roomed rest));
       }
     where
       sizes : Check
       sizes = firstOf (settingsChecks (settingsAt s))
 
-      tray : Check
-      tray = noRoom room (4 * settingsAt s .n)
+      roomed : Check
+      roomed = noRoom room (4 * settingsAt s .n)
 
       other : Bool
       other = not (eqb (settingsAt s .rule) fca)
@@ -71,11 +71,11 @@ module _ (s : List ℕ) (room : ℕ) where
       late : Bool
       late = ltb maxRounds (roundsAt s) || wrong
 
-      settings : orNext sizes (orNext (badTrace s) tray) ≡ none
-      settings = next-none-right (tooShort s) (orNext sizes (orNext (badTrace s) tray)) (sym head-checks ∙ h)
+      settings : orNext sizes (orNext (badTrace s) roomed) ≡ none
+      settings = next-none-right (tooShort s) (orNext sizes (orNext (badTrace s) roomed)) (sym head-checks ∙ h)
 
-      rest : orNext (badTrace s) tray ≡ none
-      rest = next-none-right sizes (orNext (badTrace s) tray) settings
+      rest : orNext (badTrace s) roomed ≡ none
+      rest = next-none-right sizes (orNext (badTrace s) roomed) settings
 
       shape : (other || late) ≡ false
-      shape = when-none (other || late) badTraceNumber (next-none-left (badTrace s) tray rest)
+      shape = when-none (other || late) badTraceNumber (next-none-left (badTrace s) roomed rest)

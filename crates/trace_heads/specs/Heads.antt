@@ -5,7 +5,7 @@ use mathlib.Core.List.{List, [], _∷_, _++_}
 use Prim.Native.Nat.{ℕ, _*_}
 use Rattle.model.specs.RoundSheet.{settingsAt}
 use Rattle.model.specs.Refusals.{Check, tooShort, settingsChecks, noRoom}
-use Rattle.run.specs.Replay.{badTrace}
+use Rattle.trace.specs.Replay.{badTrace}
 
 unfoldable pub headChecks : List ℕ → ℕ → List Check
 headChecks s room =

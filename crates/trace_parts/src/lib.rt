@@ -2,7 +2,7 @@
 // readings. Each is a part of the caller's own slice, and empty where the trace is too short for it.
 ghost use mathlib.Core.Path.{_≡_};
 ghost use Prim.Native.Nat.{_+_, _*_};
-ghost use Rattle.run.specs.Trace.{traceHeaderSize, traceEntries};
+ghost use Rattle.trace.specs.Trace.{traceHeaderSize, traceEntries};
 ghost use Rattle.trace_parts.specs.Parts.{partFrom};
 use model::TRACE_HEADER_SIZE;
 

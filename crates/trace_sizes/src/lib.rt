@@ -3,7 +3,7 @@
 ghost use mathlib.Core.Path.{_≡_};
 ghost use Prim.Native.Nat.{_+_, _*_};
 ghost use Rattle.model.specs.Ensemble.{maxCabinets};
-ghost use Rattle.run.specs.Trace.{traceHeaderSize, traceEntries, traceLength};
+ghost use Rattle.trace.specs.Trace.{traceHeaderSize, traceEntries, traceLength};
 use model::MAX_CABINETS;
 use model::TRACE_HEADER_SIZE;
 

@@ -12,10 +12,11 @@ use std::hint::black_box;
 use std::process::ExitCode;
 use std::time::{Duration, Instant};
 
-const USAGE: &str = "bench [--engines A,B,..] [--slices COUNT] [--svg PATH]
-  --engines  two or more of reference, plain, tuned, linked (when built in)
+const USAGE: &str = "bench [--engines A,B,..] [--slices COUNT] [--svg PATH] [--settling]
+  --engines  two or more of reference, plain, tuned, linked, now and before (when built in)
   --slices   short slices of each engine, in turn, for each line (default 41)
-  --svg      where the picture goes (default bench.svg)";
+  --svg      where the picture goes (default bench.svg)
+  --settling time settling alone, and draw nothing";
 
 const SLICE: Duration = Duration::from_micros(1000);
 
@@ -54,6 +55,7 @@ struct Options {
     engines: String,
     slices: usize,
     svg: String,
+    settling: bool,
 }
 
 fn options() -> Option<Options> {
@@ -62,9 +64,14 @@ fn options() -> Option<Options> {
         engines: known.copied().collect::<Vec<_>>().join(","),
         slices: 41,
         svg: "bench.svg".into(),
+        settling: false,
     };
     let mut words = std::env::args().skip(1);
     while let Some(word) = words.next() {
+        if word == "--settling" {
+            options.settling = true;
+            continue;
+        }
         let value = words.next()?;
         match word.as_str() {
             "--engines" => options.engines = value,
@@ -283,6 +290,9 @@ fn main() -> ExitCode {
         return ExitCode::FAILURE;
     };
     show_means(&engines, &cells);
+    if options.settling {
+        return ExitCode::SUCCESS;
+    }
     show_reading(&engines, options.slices);
     if !show_replays(&engines, options.slices) {
         return ExitCode::FAILURE;

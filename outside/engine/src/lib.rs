@@ -2,7 +2,41 @@
 //! a grant, any other is number × 2^32 + place of a refusal.
 #![deny(unsafe_code)]
 
+/// The calls that an engine without its own leaves to the reference.
+macro_rules! others_by_reference {
+    () => {
+        fn write(
+            &self,
+            settings: &Settings,
+            marks: &[u8],
+            readings: &[i32],
+            sheet: &mut [u8],
+        ) -> u64 {
+            crate::Reference.write(settings, marks, readings, sheet)
+        }
+
+        fn row<'a>(&self, sheet: &'a [u8], cabinet: u32) -> &'a [u8] {
+            crate::Reference.row(sheet, cabinet)
+        }
+
+        fn plan(&self, settings: &Settings, accuracy: u32, rounds: u32, plan: &mut Plan) -> u64 {
+            crate::Reference.plan(settings, accuracy, rounds, plan)
+        }
+
+        fn step(&self, plan: &Plan, next: &mut Plan) -> u64 {
+            crate::Reference.step(plan, next)
+        }
+
+        fn target(&self, settings: &Settings, accuracy: u32, target: u32) -> u64 {
+            crate::Reference.target(settings, accuracy, target)
+        }
+    };
+}
+
 mod by_hand;
+#[cfg(feature = "before")]
+#[allow(unsafe_code)]
+mod direct;
 #[cfg(feature = "linked")]
 mod linked;
 #[cfg(feature = "linked")]
@@ -170,32 +204,15 @@ impl<S: Steps> Engine for Own<S> {
         answer
     }
 
-    fn write(&self, settings: &Settings, marks: &[u8], readings: &[i32], sheet: &mut [u8]) -> u64 {
-        Reference.write(settings, marks, readings, sheet)
-    }
-
-    fn row<'a>(&self, sheet: &'a [u8], cabinet: u32) -> &'a [u8] {
-        Reference.row(sheet, cabinet)
-    }
-
-    fn plan(&self, settings: &Settings, accuracy: u32, rounds: u32, plan: &mut Plan) -> u64 {
-        Reference.plan(settings, accuracy, rounds, plan)
-    }
-
-    fn step(&self, plan: &Plan, next: &mut Plan) -> u64 {
-        Reference.step(plan, next)
-    }
-
-    fn target(&self, settings: &Settings, accuracy: u32, target: u32) -> u64 {
-        Reference.target(settings, accuracy, target)
-    }
-
     fn replay(&self, trace: &[u8], values: &mut [u8]) -> u64 {
         plain::replay::<S>(trace, values)
     }
+
+    others_by_reference!();
 }
 
-/// The engine of that name. `linked` and `recorded` are known when the library was built in.
+/// The engine of that name. `linked` and `recorded` are known when the library was built in, `now` and `before` when that
+/// of an earlier commit was too.
 pub fn named(name: &str) -> Option<Box<dyn Engine>> {
     match name {
         "reference" => Some(Box::new(Reference)),
@@ -203,6 +220,10 @@ pub fn named(name: &str) -> Option<Box<dyn Engine>> {
         "tuned" => Some(Box::new(Own(Tuned))),
         #[cfg(feature = "linked")]
         "linked" => Some(Box::new(linked::Linked)),
+        #[cfg(feature = "before")]
+        "now" => Some(Box::new(direct::NOW)),
+        #[cfg(feature = "before")]
+        "before" => Some(Box::new(direct::BEFORE)),
         #[cfg(feature = "linked")]
         "recorded" => Some(Box::new(recorded::Recorded::new())),
         _ => None,

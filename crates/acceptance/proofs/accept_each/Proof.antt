@@ -6,7 +6,7 @@ use native.Mathlib.Omega.{arith}
 use Prim.Native.Nat.{_-_}
 use lib.Dec.{ltb}
 use lib.ListN.{length}
-use Rattle.loop_laws.proofs.Loops.{flag-small}
+use Rattle.arithmetic.proofs.Counting.{bit-le-one}
 use Rattle.acceptance.proofs.Testing.{Testing, test-none, test-one, test-small, flags-long}
 use Rattle.acceptance.proofs.Testing.{all-counted, all-tested}
 use Rattle.acceptance.proofs.accept_each.Statement.{statement}
@@ -53,17 +53,18 @@ slice-write-accepted c =
           (l .inv),
     )
 
-cast-count : tie.Need-cast-count Inv-readings μ-readings
-cast-count c = search needs
+passes-requires : tie.Need-passes-requires Inv-readings μ-readings
+passes-requires c κs = search needs
 
 add-count : tie.Need-add-count Inv-readings μ-readings
 add-count c =
-    let m = turn c .before in
+    let m = turn (c .before) .before in
     let a = call m .args in
     let l = m .readings in
     omega (
       arith,
-      flag-small (ltb (c .before .before .accepts-after .result) (length (a .marks .now))),
+      c .passes .ensures,
+      bit-le-one (ltb (c .before .before .before .accepts-after .result) (length (a .marks .now))),
       test-small (a .span) (a .need) (a .marks .now) (a .values .now) (a .accepted .now) (l .known) (l .accepted)
           (l .count)
           (l .earlier)
@@ -82,7 +83,7 @@ readings-less c = search needs
 
 readings-again : tie.Need-readings-again Inv-readings μ-readings
 readings-again c =
-    let written = c .before in
+    let written = c .before .before in
     let m = turn written in
     let a = call (m .before) .args in
     let l = m .before .readings in
@@ -101,6 +102,8 @@ readings-again c =
     (b .ensures .1 .0)
     (c .later .result)
     (c .later .ensures)
+    (c .before .passes .result)
+    (c .before .passes .ensures)
 
 same-length : tie.Need-same-length Inv-readings μ-readings
 same-length c = search needs
@@ -143,7 +146,7 @@ accept-each-spec =
     readings-holds
     accepts-after-requires
     slice-write-accepted
-    cast-count
+    passes-requires
     add-count
     later-requires
     add-r

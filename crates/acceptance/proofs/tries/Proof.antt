@@ -7,13 +7,13 @@ use lib.Dec.{eqb}
 use Rattle.acceptance.proofs.tries.Statement.{statement}
 use Rattle.acceptance.proofs.tries.Tie as tie
 
-above-requires : tie.Need-above-requires
-above-requires c κs = search needs
+spanned-requires : tie.Need-spanned-requires
+spanned-requires c κs = search needs
 
 returns : tie.Need-returns
 returns c =
     let a = c .before .args in
-    ap (λ (t : Bool). not (eqb (a .known) 1) && (eqb (a .from) 1 && t)) (c .above .ensures)
+    ap (λ (t : Bool). not (eqb (a .known) 1) && (eqb (a .from) 1 && t)) (c .spanned .ensures)
 
 pub tries-spec : {M : Type 1} → statement M
-tries-spec = tie.close (tie.spec above-requires returns)
+tries-spec = tie.close (tie.spec spanned-requires returns)

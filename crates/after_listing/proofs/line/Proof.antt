@@ -2,15 +2,27 @@
 -- no line, and any other is handed on with a buffer for the values.
 -- Assumes nothing.
 use borrow.Author.Needs.{needs}
-use mathlib.Core.Path.{subst}
-use Prim.Native.Nat.{ℕ, _<_}
-use Rattle.run.specs.ReplayText.{afterListing}
+use borrow.Author.Tests.{ltb-false}
+use mathlib.Core.Path.{_≡_, sym, ap, _∙_}
+use Prim.Native.Nat.{ℕ}
+use lib.Dec.{ltb}
+use Rattle.trace.specs.Trace.{roundsAt}
+use Rattle.trace.specs.ReplayText.{afterListing}
 use Rattle.text.proofs.Texts.{text-refused}
 use Rattle.after_text.specs.After.{afterCapacity}
 use Rattle.after_listing.specs.Listed.{afterListed}
 use Rattle.after_listing.proofs.Outcomes.{too-few}
 use Rattle.after_listing.proofs.line.Statement.{statement}
 use Rattle.after_listing.proofs.line.Tie as tie
+
+-- whether the trace has fewer rounds
+fewer :
+    (c : tie.After-is-past)
+    → let args = c .before .before .before .before .before .args in
+    ltb (roundsAt (args .trace .now)) (args .k) ≡ c .is-past .result
+fewer c =
+    let args = c .before .before .before .before .before .args in
+    sym (c .is-past .ensures ∙ ap (λ (x : ℕ). ltb x (args .k)) (c .before .byte-at .ensures))
 
 returns : tie.Need-returns
 unfolding afterListed
@@ -21,19 +33,23 @@ returns c =
 byte-at-requires : tie.Need-byte-at-requires
 byte-at-requires c κs = search needs
 
+is-past-requires : tie.Need-is-past-requires
+is-past-requires c κs = search needs
+
 returns-2 : tie.Need-returns-2
 returns-2 c =
-    let branch = c .before .before in
+    let branch = c .before .before .before in
     let args = branch .before .before .before .args in
-    too-few (args .trace .now) (args .k) (args .text .now)
-    (subst (λ (r : ℕ). r < args .k) (c .before .byte-at .ensures) (c .if2 .taken))
-    (branch .if1 .left)
+    too-few (args .trace .now) (args .k) (args .text .now) (fewer (c .before) ∙ c .if2 .taken) (branch .if1 .left)
 
 slice-aggregate-line-in : tie.Need-slice-aggregate-line-in
 slice-aggregate-line-in c = search needs
 
 line-in-requires : tie.Need-line-in-requires
-line-in-requires c κs = search needs
+line-in-requires c κs =
+    let asked = c .before .before in
+    let args = asked .before .before .before .before .before .before .args in
+    (ltb-false (roundsAt (args .trace .now)) (args .k) (fewer (asked .before) ∙ asked .if2 .left), search needs)
 
 same-length : tie.Need-same-length
 same-length c = search needs
@@ -47,6 +63,7 @@ line-spec =
     (tie.spec
     returns
     byte-at-requires
+    is-past-requires
     returns-2
     slice-aggregate-line-in
     line-in-requires

@@ -5,8 +5,8 @@ use borrow.Author.Needs.{needs}
 use mathlib.Core.List.{List}
 use mathlib.Core.Path.{_≡_, sym, ap, _∙_}
 use Prim.Native.Nat.{ℕ, min}
-use Rattle.run.specs.Trace.{roundsAt}
-use Rattle.run.specs.Replay.{replayTo}
+use Rattle.trace.specs.Trace.{roundsAt}
+use Rattle.trace.specs.Replay.{replayTo}
 use Rattle.replaying.specs.declared.Replayed.{Replayed}
 use Rattle.replaying.specs.declared.Replayed.the-variants.{Granted, Refused}
 use Rattle.replaying.specs.Answers.{replayingOf}

@@ -4,9 +4,9 @@
 use borrow.Author.Needs.{needs}
 use mathlib.Core.List.{List}
 use Prim.Native.Nat.{ℕ}
-use Rattle.run.specs.ReplayText.{afterText}
+use Rattle.trace.specs.ReplayText.{afterText}
 use Rattle.text.proofs.Texts.{text-refused, text-written}
-use Rattle.replay_text.specs.Final.{valueAt}
+use Rattle.value_lines.specs.Values.{valueAt}
 use Rattle.after_text.specs.After.{afterCapacity, afterWritten}
 use Rattle.after_text.proofs.Fields.{length-after}
 use Rattle.after_text.proofs.after_text.Statement.{statement}

@@ -2,7 +2,7 @@
 -- other.
 -- Assumes nothing.
 use borrow.Author.Needs.{needs}
-use Rattle.replay_text.specs.Final.{valueAt}
+use Rattle.value_lines.specs.Values.{valueAt}
 use Rattle.after_text.proofs.Fields.{after-put}
 use Rattle.after_text.proofs.put_after.Statement.{statement}
 use Rattle.after_text.proofs.put_after.Tie as tie
@@ -16,8 +16,8 @@ put-bytes-requires c κs = search needs
 put-field-requires : tie.Need-put-field-requires
 put-field-requires c κs = search needs
 
-put-values-requires : tie.Need-put-values-requires
-put-values-requires c κs = search needs
+put-fields-requires : tie.Need-put-fields-requires
+put-fields-requires c κs = search needs
 
 put-byte-requires : tie.Need-put-byte-requires
 put-byte-requires c κs = search needs
@@ -35,7 +35,7 @@ returns c =
     after-put (start .args .n) (start .args .k) (valueAt (start .args .values .now))
     (first .put-bytes .ensures)
     (second .put-field .ensures)
-    (third .put-values .ensures)
+    (third .put-fields .ensures)
     (fourth .put-byte .ensures)
 
 pub put-after-spec : {M : Type 1} → statement M
@@ -45,7 +45,7 @@ put-after-spec =
     slice-aggregate-put-bytes
     put-bytes-requires
     put-field-requires
-    put-values-requires
+    put-fields-requires
     put-byte-requires
     same-length
     returns)

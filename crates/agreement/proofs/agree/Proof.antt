@@ -5,7 +5,7 @@ use mathlib.Core.Bool.{false}
 use mathlib.Core.Path.{refl}
 use native.Mathlib.Omega.{arith}
 use lib.ListN.{replicate}
-use Rattle.agreement.proofs.Agreeing.{agreed-none, marks-none, few-marks, agreed-some, marks-some}
+use Rattle.agreement.proofs.Agreeing.{agreed-none, marks-none, few-marks, none-struck, agreed-some, marks-some}
 use borrow.Author.Needs.{needs}
 use Rattle.agreement.proofs.agree.Statement.{statement}
 use Rattle.agreement.proofs.agree.Tie as tie
@@ -35,11 +35,11 @@ returns c =
       (marks-none (a .span) (a .need) marks values flags refl (n .result) (n .ensures .0) none, omega arith),
     )
 
-slice-aggregate-strike : tie.Need-slice-aggregate-strike
-slice-aggregate-strike c = search needs
+slice-aggregate-strike-others : tie.Need-slice-aggregate-strike-others
+slice-aggregate-strike-others c = search needs
 
-strike-requires : tie.Need-strike-requires
-strike-requires c κs =
+strike-others-requires : tie.Need-strike-others-requires
+strike-others-requires c κs =
     let some = c .before .before in
     let tested = some .before .before in
     let a = call tested .args in
@@ -47,8 +47,13 @@ strike-requires c κs =
     let flags = replicate 64 false in
     let few =
     few-marks (a .span) (a .need) (a .marks .now) (a .values .now) flags refl (n .result) (n .ensures .0)
-    (some .if1 .left) in
-    omega (arith, n .kept .1 .1 .1 .1 .0)
+    (some .if1 .left) in (
+      omega (arith, n .kept .1 .1 .1 .1 .0),
+      none-struck (a .span) (a .need) (a .marks .now) (a .values .now) flags refl (n .result) (n .ensures .0)
+          (some .if1 .left)
+          (n .last .1 .1 .1 .1 .0)
+          (n .ensures .1),
+    )
 
 evaluate-requires : tie.Need-evaluate-requires
 evaluate-requires c κs = search needs
@@ -63,7 +68,7 @@ returns-2 c =
     let tested = some .before .before in
     let a = call tested .args in
     let n = tested .accept in
-    let s = struck .strike in
+    let s = struck .strike-others in
     let e = c .evaluate in
     let marks = a .marks .now in
     let values = a .values .now in
@@ -94,8 +99,8 @@ agree-spec =
     accept-requires
     same-length
     returns
-    slice-aggregate-strike
-    strike-requires
+    slice-aggregate-strike-others
+    strike-others-requires
     evaluate-requires
     same-length-2
     returns-2)

@@ -10,8 +10,8 @@ use Rattle.answer_reader.proofs.estimate.Tie as tie
 check-requires : tie.Need-check-requires
 check-requires c κs = search needs
 
-word-at-requires : tie.Need-word-at-requires
-word-at-requires c κs = search needs
+estimate-requires : tie.Need-estimate-requires
+estimate-requires c κs = search needs
 
 unless-refused-requires : tie.Need-unless-refused-requires
 unless-refused-requires c κs = search needs
@@ -20,8 +20,8 @@ returns : tie.Need-returns
 unfolding estimateIn
 returns c =
     let at-number = c .before in
-    c .unless-refused .ensures ∙ ap₂ verdict (at-number .before .check .ensures) (at-number .word-at .ensures)
+    c .unless-refused .ensures ∙ ap₂ verdict (at-number .before .check .ensures) (at-number .estimate .ensures)
 
 pub estimate-spec : {M : Type 1} → statement M
 estimate-spec =
-    tie.close (tie.spec check-requires word-at-requires unless-refused-requires returns)
+    tie.close (tie.spec check-requires estimate-requires unless-refused-requires returns)

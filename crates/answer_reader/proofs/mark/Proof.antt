@@ -10,14 +10,8 @@ use Rattle.answer_reader.proofs.mark.Tie as tie
 check-cabinet-requires : tie.Need-check-cabinet-requires
 check-cabinet-requires c κs = search needs
 
-add-at : tie.Need-add-at
-add-at c = search needs
-
-byte-at-requires : tie.Need-byte-at-requires
-byte-at-requires c κs = search needs
-
-cast-number : tie.Need-cast-number
-cast-number c = search needs
+mark-requires : tie.Need-mark-requires
+mark-requires c κs = search needs
 
 unless-refused-requires : tie.Need-unless-refused-requires
 unless-refused-requires c κs = search needs
@@ -26,15 +20,13 @@ returns : tie.Need-returns
 unfolding markIn
 returns c =
     let at-number = c .before in
-    c .unless-refused .ensures ∙ ap₂ verdict (at-number .before .check-cabinet .ensures) (at-number .byte-at .ensures)
+    c .unless-refused .ensures ∙ ap₂ verdict (at-number .before .check-cabinet .ensures) (at-number .mark .ensures)
 
 pub mark-spec : {M : Type 1} → statement M
 mark-spec =
     tie.close
     (tie.spec
     check-cabinet-requires
-    add-at
-    byte-at-requires
-    cast-number
+    mark-requires
     unless-refused-requires
     returns)

@@ -10,8 +10,8 @@ use Rattle.answer_reader.proofs.value.Tie as tie
 check-requires : tie.Need-check-requires
 check-requires c κs = search needs
 
-word-at-requires : tie.Need-word-at-requires
-word-at-requires c κs = search needs
+value-requires : tie.Need-value-requires
+value-requires c κs = search needs
 
 unless-refused-requires : tie.Need-unless-refused-requires
 unless-refused-requires c κs = search needs
@@ -20,7 +20,7 @@ returns : tie.Need-returns
 unfolding valueIn
 returns c =
     let at-number = c .before in
-    c .unless-refused .ensures ∙ ap₂ verdict (at-number .before .check .ensures) (at-number .word-at .ensures)
+    c .unless-refused .ensures ∙ ap₂ verdict (at-number .before .check .ensures) (at-number .value .ensures)
 
 pub value-spec : {M : Type 1} → statement M
-value-spec = tie.close (tie.spec check-requires word-at-requires unless-refused-requires returns)
+value-spec = tie.close (tie.spec check-requires value-requires unless-refused-requires returns)

@@ -35,9 +35,6 @@ values-holds c =
     let n = length (a .marks .now) in
     (search needs, put-none (table (usedIn (a .marks .now) (a .values .now) (a .estimate)) n) (a .tail .now), refl)
 
-mul-put-word : tie.Need-mul-put-word Inv-values μ-values
-mul-put-word c = search needs
-
 shared-slice-read-used : tie.Need-shared-slice-read-used Inv-values μ-values
 shared-slice-read-used c = search needs
 
@@ -50,8 +47,8 @@ shared-slice-read-used-2 c = search needs
 used-requires : tie.Need-used-requires Inv-values μ-values
 used-requires c κs = search needs
 
-put-word-requires : tie.Need-put-word-requires Inv-values μ-values
-put-word-requires c κs = search needs
+store-requires : tie.Need-store-requires Inv-values μ-values
+store-requires c κs = search needs
 
 add-r : tie.Need-add-r Inv-values μ-values
 add-r c = search needs
@@ -71,12 +68,12 @@ values-again c =
     let wanted = usedIn (a .marks .now) (a .values .now) (a .estimate) in
     let long = length-table wanted n in (
       search needs,
-      put .put-word .ensures
+      put .store .ensures
           ∙ put-next (table wanted n) (v .r) (a .tail .now) (v .tail) (used .used .result) (v .inv .1)
           (omega (arith, turn .values-test .taken))
           (used .used .ensures ∙ ap (ofZ w32) (sym (getD-table wanted n (v .r) (pos 0) (turn .values-test .taken))))
           (omega (arith, s .pre .1)),
-      put .put-word .kept .0 ∙ v .inv .2,
+      put .store .kept .0 ∙ v .inv .2,
     )
 
 same-length : tie.Need-same-length Inv-values μ-values
@@ -98,12 +95,11 @@ put-used-spec =
     Inv-values
     μ-values
     values-holds
-    mul-put-word
     shared-slice-read-used
     mul-used
     shared-slice-read-used-2
     used-requires
-    put-word-requires
+    store-requires
     add-r
     values-less
     values-again

@@ -8,11 +8,9 @@ use native.Mathlib.Omega.{arith}
 use Prim.Native.Nat.{ℕ, _+_, _*_, _-_, _≤_}
 use lib.ListN.{length, take, drop}
 use Rattle.model.specs.Steps.{decidedReading}
-use Rattle.model.specs.RoundSheet.{headerSize}
 use Rattle.held.specs.Held.{heldMark, heldValue}
 use Rattle.decisions.specs.Rows.{rowDecision}
-use Rattle.rows.specs.Parts.{partAt}
-use Rattle.decided_readings.specs.Rows.{rowReading, rowsTaken}
+use Rattle.decided_readings.specs.Rows.{rowMarks, rowBytes, rowReading, rowsTaken}
 use Rattle.decided_readings.proofs.Sizes.{Taken, some-taken}
 use Rattle.decided_readings.proofs.Squares.{row-room, square-most}
 use Rattle.held_laws.specs.Stored.{Stored}
@@ -21,13 +19,12 @@ use Rattle.decided_readings.proofs.receive_decided.Statement.{statement
 use Rattle.decided_readings.proofs.receive_decided.Tie as tie
 
 abbrev Inv-rows : tie.InvT-rows
-Inv-rows sheet settings need marks₀ values₀ n rows r₀ marks values r =
-    (n ≡ settings .n)
-    × (rows ≡ rowsTaken (settings .n) (length sheet) (length marks₀) (length values₀))
-    × Storing (rowReading sheet settings need) rows marks₀ values₀ marks values r
+Inv-rows sent copies n need marks₀ values₀ rows r₀ marks values r =
+    (rows ≡ rowsTaken n (length sent) (length copies) (length marks₀) (length values₀))
+    × Storing (rowReading sent copies n need) rows marks₀ values₀ marks values r
 
 abbrev μ-rows : tie.MeasureT-rows
-μ-rows sheet settings need marks₀ values₀ n rows r₀ marks values r = rows - r
+μ-rows sent copies n need marks₀ values₀ rows r₀ marks values r = rows - r
 
 abbrev call : tie.At-rows Inv-rows μ-rows → tie.Start Inv-rows μ-rows
 call c = c .before .before .before .before .before .before
@@ -36,52 +33,52 @@ call c = c .before .before .before .before .before .before
 sizes :
     (c : tie.In-rows Inv-rows μ-rows)
     → let a = call (c .before) .args in
-    Taken (a .settings .n) (length (a .sheet .now)) (length (a .marks .now)) (length (a .values .now))
+    Taken (a .n) (length (a .sent .now)) (length (a .copies .now)) (length (a .marks .now)) (length (a .values .now))
 sizes c =
     let a = call (c .before) .args in
     let rows = c .before .rows in
-    some-taken (a .settings .n) (length (a .sheet .now)) (length (a .marks .now)) (length (a .values .now))
+    some-taken (a .n) (length (a .sent .now)) (length (a .copies .now)) (length (a .marks .now)) (length (a .values .now))
     (rows .r)
-    (omega (arith, rows .inv .1, c .rows-test .taken))
+    (omega (arith, rows .inv .0, c .rows-test .taken))
 
--- the row lies within the marks
+-- the row lies within the marks and within the bytes
 within :
     (c : tie.In-rows Inv-rows μ-rows)
     → let s = call (c .before) in
-    let n = s .args .settings .n in
-    let end = c .before .rows .r * n + n in
-    (end ≤ 4096) × (headerSize + end ≤ length (s .args .sheet .now))
+    let end = c .before .rows .r * s .args .n + s .args .n in
+    (end ≤ 4096) × (end ≤ length (s .args .sent .now)) × (4 * end ≤ length (s .args .copies .now))
 within c =
-    let n = call (c .before) .args .settings .n in
+    let n = call (c .before) .args .n in
     let rows = c .before .rows in
     let k = sizes c in
-    let room = row-room (rows .r) n (omega (arith, rows .inv .1, c .rows-test .taken, k .all)) in
+    let room = row-room (rows .r) n (omega (arith, rows .inv .0, c .rows-test .taken, k .all)) in
     let most = square-most n (k .few) in
-    (omega arith, omega (arith, k .long))
+    (omega arith, omega (arith, k .marked), omega (arith, k .long))
 
--- the row's part of the marks and of the bytes make its decision
+-- the row's parts are its decision's
 read :
     (c : tie.After-receive-row Inv-rows μ-rows)
     → let o = c .before .before .before .before in
     let a = call o .args in
-    let start = headerSize + o .rows .r * a .settings .n in
-    let cut = take (start + a .settings .n - start) (drop start (a .sheet .now)) in
-    let marks = take (a .settings .n) (drop start (a .sheet .now)) in
-    rowDecision (a .need) cut (c .before .row-part .result .now)
-    ≡ rowDecision (a .need) marks (partAt (a .sheet .now) (a .settings) (o .rows .r))
+    let start = o .rows .r * a .n in
+    let end = start + a .n in
+    rowDecision (a .need) (take (end - start) (drop start (a .sent .now)))
+    (take (4 * end - 4 * start) (drop (4 * start) (a .copies .now)))
+    ≡ rowDecision (a .need) (rowMarks (a .sent .now) (a .n) (o .rows .r)) (rowBytes (a .copies .now) (a .n) (o .rows .r))
 read c =
     let o = c .before .before .before .before in
     let a = call o .args in
-    let start = headerSize + o .rows .r * a .settings .n in
-    ap₂ (λ (k : ℕ) (part : List ℕ). rowDecision (a .need) (take k (drop start (a .sheet .now))) part)
-    (width-back start (a .settings .n))
-    (c .before .row-part .ensures)
+    let start = o .rows .r * a .n in
+    ap₂ (λ (k l : ℕ).
+    rowDecision (a .need) (take k (drop start (a .sent .now))) (take l (drop (4 * start) (a .copies .now))))
+    (width-back start (a .n))
+    (bytes-back start (a .n))
   where
     width-back : (a w : ℕ) → a + w - a ≡ w
     width-back a w = omega arith
 
-cast-n : tie.Need-cast-n Inv-rows μ-rows
-cast-n c = search needs
+    bytes-back : (a w : ℕ) → 4 * (a + w) - 4 * a ≡ 4 * w
+    bytes-back a w = omega arith
 
 takes-requires : tie.Need-takes-requires Inv-rows μ-rows
 takes-requires c κs = search needs
@@ -89,17 +86,14 @@ takes-requires c κs = search needs
 rows-holds : tie.Need-rows-holds Inv-rows μ-rows
 rows-holds c =
     let a = c .before .before .before .before .before .args in
-    let v = rowReading (a .sheet .now) (a .settings) (a .need) in
-    (refl, c .takes .ensures, begin v (c .takes .result) (a .marks .now) (a .values .now))
+    let v = rowReading (a .sent .now) (a .copies .now) (a .n) (a .need) in
+    (c .takes .ensures, begin v (c .takes .result) (a .marks .now) (a .values .now))
 
 mul-start : tie.Need-mul-start Inv-rows μ-rows
 mul-start c = let w = within c in omega arith
 
-add-start : tie.Need-add-start Inv-rows μ-rows
-add-start c = let w = within c in omega arith
-
-add-receive-row : tie.Need-add-receive-row Inv-rows μ-rows
-add-receive-row c = let w = within c in omega arith
+add-end : tie.Need-add-end Inv-rows μ-rows
+add-end c = let w = within c in omega arith
 
 sub-receive-row : tie.Need-sub-receive-row Inv-rows μ-rows
 sub-receive-row c = let w = within c in omega arith
@@ -110,8 +104,20 @@ part-receive-row-start c = let w = within c in omega arith
 part-receive-row-end : tie.Need-part-receive-row-end Inv-rows μ-rows
 part-receive-row-end c = let w = within c in omega arith
 
-row-part-requires : tie.Need-row-part-requires Inv-rows μ-rows
-row-part-requires c κs = search needs
+mul-receive-row : tie.Need-mul-receive-row Inv-rows μ-rows
+mul-receive-row c = let w = within (c .before) in omega arith
+
+mul-receive-row-2 : tie.Need-mul-receive-row-2 Inv-rows μ-rows
+mul-receive-row-2 c = let w = within (c .before) in omega arith
+
+sub-receive-row-2 : tie.Need-sub-receive-row-2 Inv-rows μ-rows
+sub-receive-row-2 c = let w = within (c .before) in omega arith
+
+part-receive-row-start-2 : tie.Need-part-receive-row-start-2 Inv-rows μ-rows
+part-receive-row-start-2 c = let w = within (c .before) in omega arith
+
+part-receive-row-end-2 : tie.Need-part-receive-row-end-2 Inv-rows μ-rows
+part-receive-row-end-2 c = let w = within (c .before) in omega arith
 
 receive-row-requires : tie.Need-receive-row-requires Inv-rows μ-rows
 receive-row-requires c κs = search needs
@@ -148,16 +154,15 @@ rows-again c =
     let count = row .before .before .takes .result in
     let r = c .receive-row in
     let decided = read c in (
-      refl,
-      rows .inv .1,
-      store (rowReading (a .sheet .now) (a .settings) (a .need)) count (a .marks .now) (a .values .now)
+      rows .inv .0,
+      store (rowReading (a .sent .now) (a .copies .now) (a .n) (a .need)) count (a .marks .now) (a .values .now)
           (rows .marks)
           (rows .values)
           (rows .r)
-          (rows .inv .2)
+          (rows .inv .1)
           (row .rows-test .taken)
-          (omega (arith, rows .inv .1, k .all, k .markRoom))
-          (omega (arith, rows .inv .1, k .all, k .valueRoom))
+          (omega (arith, rows .inv .0, k .all, k .markRoom))
+          (omega (arith, rows .inv .0, k .all, k .valueRoom))
           (r .result .mark)
           (r .result .value)
           (r .ensures .0 ∙ ap (λ d. heldMark (decidedReading d)) decided)
@@ -174,13 +179,13 @@ returns : tie.Need-returns Inv-rows μ-rows
 returns c =
     let a = call (c .before) .args in
     let rows = c .before .rows in
-    let v = rowReading (a .sheet .now) (a .settings) (a .need) in
-    subst (λ (k : ℕ). Stored v k (a .marks .now) (a .values .now) (rows .marks) (rows .values)) (rows .inv .1)
+    let v = rowReading (a .sent .now) (a .copies .now) (a .n) (a .need) in
+    subst (λ (k : ℕ). Stored v k (a .marks .now) (a .values .now) (rows .marks) (rows .values)) (rows .inv .0)
     (ended v (c .before .before .takes .result) (a .marks .now) (a .values .now)
     (rows .marks)
     (rows .values)
     (rows .r)
-    (rows .inv .2)
+    (rows .inv .1)
     (c .rows-test .left))
 
 pub receive-decided-spec : {M : Type 1} → statement M
@@ -189,16 +194,18 @@ receive-decided-spec =
     (tie.spec
     Inv-rows
     μ-rows
-    cast-n
     takes-requires
     rows-holds
     mul-start
-    add-start
-    add-receive-row
+    add-end
     sub-receive-row
     part-receive-row-start
     part-receive-row-end
-    row-part-requires
+    mul-receive-row
+    mul-receive-row-2
+    sub-receive-row-2
+    part-receive-row-start-2
+    part-receive-row-end-2
     receive-row-requires
     slice-write-marks
     mul-values

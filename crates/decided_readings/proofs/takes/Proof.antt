@@ -16,11 +16,11 @@ returns : tie.Need-returns
 unfolding rowsTaken
 returns c = rw (lt-leb (c .before .args .n) maxCabinets (c .if1 .taken))
 
+mul-pairs : tie.Need-mul-pairs
+mul-pairs c = let most = square-most (c .before .args .n) (c .if1 .left) in omega arith
+
 mul-if2 : tie.Need-mul-if2
 mul-if2 c = let most = square-most (c .before .args .n) (c .if1 .left) in omega arith
-
-add-if2 : tie.Need-add-if2
-add-if2 c = let most = square-most (c .before .args .n) (c .if1 .left) in omega arith
 
 returns-2 : tie.Need-returns-2
 unfolding rowsTaken
@@ -31,4 +31,4 @@ unfolding rowsTaken
 returns-3 c = rw (le-leb (c .before .before .args .n) maxCabinets (c .before .if1 .left), c .if2 .left)
 
 pub takes-spec : {M : Type 1} → statement M
-takes-spec = tie.close (tie.spec cast-if1 returns mul-if2 add-if2 returns-2 returns-3)
+takes-spec = tie.close (tie.spec cast-if1 returns mul-pairs mul-if2 returns-2 returns-3)

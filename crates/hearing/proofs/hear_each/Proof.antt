@@ -20,24 +20,37 @@ Inv-senders roles held sent readings p marks₀ values₀ n r₀ marks values r 
 abbrev μ-senders : tie.MeasureT-senders
 μ-senders roles held sent readings p marks₀ values₀ n r₀ marks values r = length roles - r
 
--- the call, from the place where an entry's number is asked for
-abbrev call : tie.After-shared-slice-known6 Inv-senders μ-senders → tie.Start Inv-senders μ-senders
-call c = c .before .before .before .before .before .before .before .before .before .before
+-- the call, from a turn of the loop, and from the place where an entry's number is known
+abbrev sender : tie.In-senders Inv-senders μ-senders → tie.Start Inv-senders μ-senders
+sender c = c .before .before .before .before .before .before .before .before
+
+abbrev call : tie.After-entry-number Inv-senders μ-senders → tie.Start Inv-senders μ-senders
+call c = sender (c .before)
 
 -- the entry is one of the round's
 entry-lies :
     (c : tie.After-entry-number Inv-senders μ-senders)
-    → let n = length (call (c .before) .args .roles .now) in
+    → let n = length (call c .args .roles .now) in
     c .entry-number .result < n * n
-entry-lies c =
-    rw (c .entry-number .ensures)
-    (digits-lt (c .before .before .before .senders-test .taken) (call (c .before) .pre .0 .1))
+entry-lies c = omega (arith, c .entry-number .ensures, digits-lt (c .before .senders-test .taken) (call c .pre .0 .1))
 
 senders-holds : tie.Need-senders-holds Inv-senders μ-senders
 senders-holds c =
     let a = c .before .before .before .before .before .before .args in
     begin (heardFrom (a .roles .now) (a .held .now) (a .sent .now) (a .readings .now) (a .p)) (length (a .roles .now))
     (a .marks .now) (a .values .now)
+
+cast-entry-number : tie.Need-cast-entry-number Inv-senders μ-senders
+cast-entry-number c = omega (arith, sender c .pre .0 .0)
+
+cast-entry-number-2 : tie.Need-cast-entry-number-2 Inv-senders μ-senders
+cast-entry-number-2 c = omega (arith, sender c .pre .0 .0, c .senders-test .taken)
+
+cast-entry-number-3 : tie.Need-cast-entry-number-3 Inv-senders μ-senders
+cast-entry-number-3 c = omega (arith, sender c .pre .0 .0, sender c .pre .0 .1)
+
+entry-number-requires : tie.Need-entry-number-requires Inv-senders μ-senders
+entry-number-requires c κs = search needs
 
 shared-slice-read-hear-one : tie.Need-shared-slice-read-hear-one Inv-senders μ-senders
 shared-slice-read-hear-one c = search needs
@@ -48,15 +61,11 @@ mul-hear-one c = search needs
 shared-slice-read-hear-one-2 : tie.Need-shared-slice-read-hear-one-2 Inv-senders μ-senders
 shared-slice-read-hear-one-2 c = search needs
 
-entry-number-requires : tie.Need-entry-number-requires Inv-senders μ-senders
-entry-number-requires c κs =
-    let s = call c in
-    (s .pre .0 .0, c .before .before .senders-test .taken, s .pre .0 .1)
-
 hear-one-requires : tie.Need-hear-one-requires Inv-senders μ-senders
 hear-one-requires c κs =
-    let s = call (c .before) in
-    (omega (arith, entry-lies c, s .pre .1 .1 .0), s .pre .1 .1 .1 .0)
+    let numbered = c .before .before in
+    let s = call numbered in
+    (omega (arith, entry-lies numbered, s .pre .1 .1 .0), s .pre .1 .1 .1 .0)
 
 slice-write-marks : tie.Need-slice-write-marks Inv-senders μ-senders
 slice-write-marks c = search needs
@@ -75,10 +84,10 @@ senders-less c = search needs
 
 senders-again : tie.Need-senders-again Inv-senders μ-senders
 senders-again c =
-    let numbered = c .before in
-    let s = call (numbered .before) in
+    let numbered = c .before .before .before in
+    let s = call numbered in
     let a = s .args in
-    let turn = numbered .before .before .before .before in
+    let turn = numbered .before .before in
     let role = getD (a .roles .now) (turn .senders .r) 0 in
     let value = getD (a .held .now) (turn .senders .r) 0 in
     let spoke =
@@ -89,7 +98,7 @@ senders-again c =
     (turn .senders .values)
     (turn .senders .r)
     (turn .senders .inv)
-    (numbered .before .before .before .senders-test .taken)
+    (numbered .before .senders-test .taken)
     (s .pre .1 .1 .1 .1 .0)
     (s .pre .1 .1 .1 .1 .1)
     (c .hear-one .result .mark)
@@ -121,10 +130,13 @@ hear-each-spec =
     Inv-senders
     μ-senders
     senders-holds
+    cast-entry-number
+    cast-entry-number-2
+    cast-entry-number-3
+    entry-number-requires
     shared-slice-read-hear-one
     mul-hear-one
     shared-slice-read-hear-one-2
-    entry-number-requires
     hear-one-requires
     slice-write-marks
     mul-values

@@ -6,8 +6,8 @@ use Prim.Native.Nat.{_-_, _≤_}
 use native.Mathlib.Omega.{arith}
 use mathlib.Core.Path.{_≡_}
 use lib.ListN.{length}
-use Rattle.missing_checks.specs.Missing.{AtLeast}
-use Rattle.missing_checks.proofs.Missing.{least-none, least-next}
+use Rattle.missing_checks.specs.Least.{AtLeast}
+use Rattle.missing_checks.proofs.Bounds.{least-none, least-next}
 use Rattle.missing_checks.proofs.least.Statement.{statement}
 use Rattle.missing_checks.proofs.least.Tie as tie
 

@@ -10,7 +10,7 @@ use mir.Syntax.{w32}
 use mir.Val.{toZ}
 use Rattle.arithmetic.specs.Naturals.{up}
 use Rattle.arithmetic.specs.Words.{twoTo31}
-use Rattle.run.specs.Trace.{firstAt}
+use Rattle.trace.specs.Trace.{firstAt}
 use Rattle.playing.proofs.Filling.{Filling, begin, fill, filled}
 use Rattle.playing.proofs.first_readings.Statement.{statement}
 use Rattle.playing.proofs.first_readings.Tie as tie

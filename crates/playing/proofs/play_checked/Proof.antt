@@ -22,8 +22,8 @@ first-readings-requires c κs =
     let few = playable-few (s .args .trace .now) (s .pre .0) in
     omega (arith, s .pre .2, ap (λ (d : Settings). d .n) (s .pre .1))
 
-lower-requires : tie.Need-lower-requires
-lower-requires c κs = search needs
+rounds-to-play-requires : tie.Need-rounds-to-play-requires
+rounds-to-play-requires c κs = search needs
 
 play-rounds-requires : tie.Need-play-rounds-requires
 play-rounds-requires c κs =
@@ -43,7 +43,7 @@ play-rounds-requires c κs =
       (
         (
           sized .byte-at .ensures,
-          omega (arith, counted .lower .ensures),
+          omega (arith, counted .rounds-to-play .ensures),
           omega (arith, filled .first-readings .kept .1 .0, s .pre .2),
         ),
         first,
@@ -62,10 +62,10 @@ returns c =
     let counted = played .before .before in
     let sized = counted .before .before .before .before .before in
     let a = sized .before .before .before .args in
-    rounds-played (a .trace .now) (counted .lower .result) _ (played .play-rounds .result)
+    rounds-played (a .trace .now) (counted .rounds-to-play .result) _ (played .play-rounds .result)
     (played .play-rounds .last .1 .1 .1 .1 .0)
     _
-    (counted .lower .ensures ∙ ap (min (a .most)) (sized .byte-at .ensures))
+    (counted .rounds-to-play .ensures ∙ ap (min (a .most)) (sized .byte-at .ensures))
     (played .play-rounds .ensures)
     (c .stopped .ensures)
 
@@ -75,7 +75,7 @@ play-checked-spec =
     (tie.spec
     byte-at-requires
     first-readings-requires
-    lower-requires
+    rounds-to-play-requires
     play-rounds-requires
     stopped-requires
     same-length

@@ -6,7 +6,7 @@ use mathlib.Core.Path.{_≡_, sym, ap, _∙_}
 use Prim.Native.Nat.{ℕ, _+_, _*_, _<_}
 use native.Mathlib.Omega.{arith}
 use Rattle.model.specs.RoundSheet.{byte}
-use Rattle.run.specs.Trace.{traceHeaderSize, roundsAt, traceEntries}
+use Rattle.trace.specs.Trace.{traceHeaderSize, roundsAt, traceEntries}
 use Rattle.trace_parts.specs.Parts.{partFrom}
 use Rattle.playing.proofs.Turn.{roles-room, next-long, round-stops, round-passes}
 use Rattle.playing.proofs.play_in.Statement.{statement}

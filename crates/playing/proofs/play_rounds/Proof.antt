@@ -10,7 +10,7 @@ use Rattle.model.specs.declared.Settings.{Settings}
 use Rattle.model.specs.Planner.{Plan}
 use Rattle.model.specs.RoundSheet.{byte, settingsAt}
 use Rattle.planner.specs.Answers.{planOf}
-use Rattle.run.specs.Trace.{roundsAt}
+use Rattle.trace.specs.Trace.{roundsAt}
 use Rattle.playing.proofs.Parting.{cabinets, few}
 use Rattle.playing.proofs.Rounds.{Going, going-first, going-next, stops-here, played-all}
 use Rattle.playing.proofs.play_rounds.Statement.{statement}

@@ -6,8 +6,10 @@ use borrow.Author.Tests.{not-true, not-false, eq-eqb, ne-eqb}
 use mathlib.Core.Bool.{true}
 use mathlib.Core.Path.{_≡_, sym, _∙_}
 use native.Mathlib.Omega.{arith}
+use Prim.Native.Nat.{_+_, _*_, _≤_}
 use lib.ListN.{length}
-use Rattle.model.specs.RoundSheet.{cca}
+use Rattle.model.specs.RoundSheet.{cca, headerSize}
+use Rattle.decided_readings.proofs.Squares.{square-most}
 use Rattle.reception.specs.Receiving.{fitting}
 use Rattle.reception.proofs.Sheets.{Fit, fit, entries-relayed, entries-direct}
 use Rattle.reception.proofs.Sheets.{direct-filled, relayed-filled, marks-fit, values-fit, marks-not, values-not}
@@ -32,6 +34,18 @@ fit-here c =
     let a = call (c .before) .args in
     fit (a .settings) (length (a .sheet .now)) (length (a .marks .now)) (length (a .values .now)) (fits-here c)
 
+-- by CCA the sheet has N × N entries
+squared :
+    (c : tie.Then2)
+    → let a = call (c .before .before .before) .args in
+    let n = a .settings .n in
+    (n * n ≤ 4096) × (length (a .sheet .now) ≡ headerSize + 5 * (n * n))
+squared c =
+    let a = call (c .before .before .before) .args in
+    let f = fit-here (c .before .before) in
+    let e = entries-relayed (a .settings) (eq-eqb (a .settings .rule) cca (c .if2 .taken)) in
+    (square-most (a .settings .n) (f .small), omega (arith, f .long))
+
 cast-n : tie.Need-cast-n
 cast-n c = search needs
 
@@ -51,6 +65,30 @@ returns c =
 
 sub-need : tie.Need-sub-need
 sub-need c = let f = fit-here (c .before .before .before) in omega (arith, f .few)
+
+mul-body : tie.Need-mul-body
+mul-body c = let q = squared (c .before) in omega arith
+
+add-body : tie.Need-add-body
+add-body c = let q = squared (c .before) in omega arith
+
+sub-receive-decided : tie.Need-sub-receive-decided
+sub-receive-decided c = search needs
+
+part-receive-decided-start : tie.Need-part-receive-decided-start
+part-receive-decided-start c = search needs
+
+part-receive-decided-end : tie.Need-part-receive-decided-end
+part-receive-decided-end c = let q = squared (c .before) in omega arith
+
+sub-receive-decided-2 : tie.Need-sub-receive-decided-2
+sub-receive-decided-2 c = let q = squared (c .before .before) in omega arith
+
+part-receive-decided-start-2 : tie.Need-part-receive-decided-start-2
+part-receive-decided-start-2 c = let q = squared (c .before .before) in omega arith
+
+part-receive-decided-end-2 : tie.Need-part-receive-decided-end-2
+part-receive-decided-end-2 c = let q = squared (c .before .before) in omega arith
 
 cast-receive-decided : tie.Need-cast-receive-decided
 cast-receive-decided c = search needs
@@ -106,7 +144,7 @@ same-length-2 c = search needs
 returns-2 : tie.Need-returns-2
 returns-2 c =
     let relayed = c .before .before .before .before in
-    let cca-here = relayed .before .before .before .before in
+    let cca-here = relayed .before .before .before .before .before .before in
     let passed = cca-here .before .before in
     let a = call (passed .before) .args in
     let f = fit-here passed in
@@ -114,8 +152,8 @@ returns-2 c =
     let rule = eq-eqb (a .settings .rule) cca (cca-here .if2 .taken) in
     let e = entries-relayed (a .settings) rule in
     let r = relayed .receive-decided in
-    let marks = r .last .1 .1 .1 .0 in
-    let values = r .last .1 .1 .1 .1 .0 in
+    let marks = r .last .1 .1 .1 .1 .0 in
+    let values = r .last .1 .1 .1 .1 .1 .0 in
     let filled =
     relayed-filled (a .sheet .now) (a .settings) (a .marks .now) (a .values .now) marks values (f .markRoom)
     (f .valueRoom)
@@ -171,6 +209,14 @@ receive-spec =
     fits-requires
     returns
     sub-need
+    mul-body
+    add-body
+    sub-receive-decided
+    part-receive-decided-start
+    part-receive-decided-end
+    sub-receive-decided-2
+    part-receive-decided-start-2
+    part-receive-decided-end-2
     cast-receive-decided
     receive-decided-requires
     add-end

@@ -3,7 +3,7 @@
 use mathlib.Core.Path.{sym}
 use Prim.Native.Nat.{ℕ}
 use lib.ListN.{length-replicate}
-use Rattle.run.specs.ReplayText.{maxTraceInput}
+use Rattle.trace.specs.ReplayText.{maxTraceInput}
 use Rattle.replay.proofs.input_buffer.Statement.{statement}
 use Rattle.replay.proofs.input_buffer.Tie as tie
 

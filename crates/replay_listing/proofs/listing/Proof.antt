@@ -2,7 +2,7 @@
 -- on with a buffer for the values.
 -- Assumes nothing.
 use borrow.Author.Needs.{needs}
-use Rattle.run.specs.ReplayText.{replayListing}
+use Rattle.trace.specs.ReplayText.{replayListing}
 use Rattle.text.proofs.Texts.{text-refused}
 use Rattle.replay_text.specs.Final.{finalCapacity}
 use Rattle.replay_listing.specs.Listed.{replayListed}

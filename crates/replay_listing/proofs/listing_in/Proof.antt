@@ -6,7 +6,7 @@ use mathlib.Core.List.{List}
 use mathlib.Core.Path.{_≡_, sym, ap, _∙_}
 use Prim.Native.Nat.{ℕ}
 use Rattle.model.specs.declared.Refusal.{Refusal}
-use Rattle.run.specs.Replay.{replay}
+use Rattle.trace.specs.Replay.{replay}
 use Rattle.replaying.specs.declared.Replayed.{Replayed}
 use Rattle.replaying.specs.declared.Replayed.the-variants.{Granted, Refused}
 use Rattle.replaying.specs.Answers.{replayingOf}
@@ -64,8 +64,8 @@ final-text-requires c κs = search needs
 enum-known-r : tie.Need-enum-known-r
 enum-known-r c = search needs
 
-refusal-text-requires : tie.Need-refusal-text-requires
-refusal-text-requires c κs = search needs
+refused-text-requires : tie.Need-refused-text-requires
+refused-text-requires c κs = search needs
 
 same-length : tie.Need-same-length
 same-length c = search needs
@@ -95,8 +95,8 @@ returns-2 c =
     let told = written .before .before .before in
     let given = told .r .given in
     let same = refusal-text (told .before .before .before .before) (given .0 .0) (given .1) in (
-      written .refusal-text .ensures .0 ∙ ap (λ (t : Text). t .size) same,
-      written .refusal-text .ensures .1 ∙ ap (λ (t : Text). t .buffer) same,
+      written .refused-text .ensures .0 ∙ ap (λ (t : Text). t .size) same,
+      written .refused-text .ensures .1 ∙ ap (λ (t : Text). t .buffer) same,
     )
 
 pub listing-in-spec : {M : Type 1} → statement M
@@ -107,7 +107,7 @@ listing-in-spec =
     enum-told
     final-text-requires
     enum-known-r
-    refusal-text-requires
+    refused-text-requires
     same-length
     same-length-2
     returns

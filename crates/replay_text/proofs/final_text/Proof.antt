@@ -5,11 +5,12 @@ use borrow.Author.Needs.{needs}
 use mathlib.Core.List.{List}
 use Prim.Native.Nat.{ℕ}
 use Rattle.model.specs.RoundSheet.{byte}
-use Rattle.run.specs.Trace.{roundsAt, roleAt}
-use Rattle.run.specs.ReplayText.{finalText}
+use Rattle.trace.specs.Trace.{roundsAt, roleAt}
+use Rattle.trace.specs.ReplayText.{finalText}
 use Rattle.fields.proofs.Putting.{puts-then}
 use Rattle.text.proofs.Texts.{text-refused, text-written}
-use Rattle.replay_text.specs.Final.{valueAt, finalCapacity, finalWritten}
+use Rattle.value_lines.specs.Values.{valueAt}
+use Rattle.replay_text.specs.Final.{finalCapacity, finalWritten}
 use Rattle.replay_text.proofs.Lines.{final-lines, length-final}
 use Rattle.replay_text.proofs.final_text.Statement.{statement}
 use Rattle.replay_text.proofs.final_text.Tie as tie
@@ -40,8 +41,8 @@ cast-rounds c = search needs
 put-first-requires : tie.Need-put-first-requires
 put-first-requires c κs = search needs
 
-put-values-requires : tie.Need-put-values-requires
-put-values-requires c κs = search needs
+put-lines-requires : tie.Need-put-lines-requires
+put-lines-requires c κs = search needs
 
 same-length : tie.Need-same-length
 same-length c = search needs
@@ -64,7 +65,7 @@ returns-2 c =
     (read .byte-at2 .result)
     (read .before .byte-at .ensures)
     (read .byte-at2 .ensures))
-    (puts-then (first .put-first .ensures) (put .put-values .ensures)))
+    (puts-then (first .put-first .ensures) (put .put-lines .ensures)))
 
 pub final-text-spec : {M : Type 1} → statement M
 final-text-spec =
@@ -76,6 +77,6 @@ final-text-spec =
     byte-at-requires-2
     cast-rounds
     put-first-requires
-    put-values-requires
+    put-lines-requires
     same-length
     returns-2)

@@ -2,8 +2,13 @@
 -- Assumes nothing.
 use borrow.Author.Needs.{needs}
 use mathlib.Core.Path.{sym, _∙_}
+use Prim.Native.Nat.{_-_}
+use native.Mathlib.Omega.{arith}
+use lib.ListN.{length, take, drop}
 use Rattle.model.specs.RoundSheet.{readingBytes}
 use Rattle.sheet_laws.proofs.Storing.{tail-written, copy-overwrites}
+use Rattle.reading_writer.proofs.Stored.{readings-put}
+use Rattle.sheet_writer.proofs.Stores.{length-tail}
 use Rattle.sheet_writer.proofs.put_entries.Statement.{statement}
 use Rattle.sheet_writer.proofs.put_entries.Tie as tie
 
@@ -38,7 +43,17 @@ returns c =
     (put-readings .last .1 .0)
     (copy .result) (sym (copy .ensures .0))
     (copy .ensures .1 ∙ copy-overwrites (a .marks .now) (a .buffer .now))
-    (put-readings .ensures)
+    (put-readings .ensures
+    ∙ readings-put (a .readings .now) (take (length (copy .last .1 .0) - copy .result) (drop (copy .result)
+    (copy .last .1 .0)))
+    (omega (
+      arith,
+      length-tail (copy .last .1 .0)
+          (copy .result),
+      copy .kept .1 .0,
+      copy .ensures .0,
+      start .before .pre,
+    )))
 
 pub put-entries-spec : {M : Type 1} → statement M
 put-entries-spec =

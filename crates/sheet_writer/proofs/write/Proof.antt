@@ -16,6 +16,7 @@ use Rattle.model.specs.Refusals.{firstOf, writeChecks}
 use Rattle.sheet_laws.proofs.Written.{length-sizeBytes}
 use Rattle.sheet_laws.proofs.Storing.{tail-written}
 use Rattle.writer_checks.proofs.Writing.{written-within}
+use Rattle.size_writer.proofs.Stores.{sizes-put}
 use Rattle.sheet_writer.proofs.Filling.{writer-refuses, writer-fills}
 use Rattle.sheet_writer.proofs.Stores.{length-tail}
 use Rattle.sheet_writer.proofs.write.Statement.{statement}
@@ -56,7 +57,7 @@ enum-told : tie.Need-enum-told
 enum-told c = search needs
 
 put-sizes-requires : tie.Need-put-sizes-requires
-put-sizes-requires c κs = omega (arith, within (c .before))
+put-sizes-requires c κs = search needs
 
 sub-put-entries : tie.Need-sub-put-entries
 sub-put-entries c =
@@ -106,7 +107,9 @@ returns-2 c =
     (sized .sheet-length .ensures)
     (tail-written (sizeBytes (settings told)) (marks told ++ readingBytes (readings told)) (buffer told)
     (put-sizes .last .1 .0) (put-entries .last .1 .1 .0) headerSize
-    (length-sizeBytes (settings told)) (put-sizes .ensures) (put-entries .ensures))
+    (length-sizeBytes (settings told))
+    (put-sizes .ensures ∙ sizes-put (settings told) (buffer told) (omega (arith, within told)))
+    (put-entries .ensures))
 
 pub write-spec : {M : Type 1} → statement M
 write-spec =

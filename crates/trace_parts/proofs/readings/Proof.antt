@@ -4,7 +4,7 @@ use borrow.Author.Needs.{needs}
 use mathlib.Core.Path.{_≡_, ap₂, _∙_}
 use Prim.Native.Nat.{ℕ, _+_, _*_, _≤_}
 use native.Mathlib.Omega.{arith}
-use Rattle.run.specs.Trace.{traceHeaderSize, traceEntries}
+use Rattle.trace.specs.Trace.{traceHeaderSize, traceEntries}
 use Rattle.trace_sizes.proofs.Bounds.{byte-entries}
 use Rattle.trace_parts.specs.Parts.{partFrom}
 use Rattle.trace_parts.proofs.readings.Statement.{statement}

@@ -1,0 +1,3 @@
+pub mod ComputedTraces
+pub mod Shown
+pub mod Traced

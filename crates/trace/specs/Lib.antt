@@ -1,0 +1,4 @@
+pub mod Replay
+pub mod ReplayText
+pub mod Trace
+pub mod Traces

@@ -12,11 +12,11 @@ use std::hint::black_box;
 use std::process::ExitCode;
 use std::time::{Duration, Instant};
 
-const USAGE: &str = "bench [--engines A,B,..] [--slices COUNT] [--svg PATH] [--settling]
+const USAGE: &str = "bench [--engines A,B,..] [--slices COUNT] [--svg PATH] [--sheets]
   --engines  two or more of reference, plain, tuned, linked, now and before (when built in)
   --slices   short slices of each engine, in turn, for each line (default 41)
   --svg      where the picture goes (default bench.svg)
-  --settling time settling alone, and draw nothing";
+  --sheets   time settling and reading alone, and draw nothing";
 
 const SLICE: Duration = Duration::from_micros(1000);
 
@@ -55,7 +55,7 @@ struct Options {
     engines: String,
     slices: usize,
     svg: String,
-    settling: bool,
+    sheets: bool,
 }
 
 fn options() -> Option<Options> {
@@ -64,12 +64,12 @@ fn options() -> Option<Options> {
         engines: known.copied().collect::<Vec<_>>().join(","),
         slices: 41,
         svg: "bench.svg".into(),
-        settling: false,
+        sheets: false,
     };
     let mut words = std::env::args().skip(1);
     while let Some(word) = words.next() {
-        if word == "--settling" {
-            options.settling = true;
+        if word == "--sheets" {
+            options.sheets = true;
             continue;
         }
         let value = words.next()?;
@@ -290,10 +290,10 @@ fn main() -> ExitCode {
         return ExitCode::FAILURE;
     };
     show_means(&engines, &cells);
-    if options.settling {
+    show_reading(&engines, options.slices);
+    if options.sheets {
         return ExitCode::SUCCESS;
     }
-    show_reading(&engines, options.slices);
     if !show_replays(&engines, options.slices) {
         return ExitCode::FAILURE;
     }

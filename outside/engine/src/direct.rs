@@ -1,26 +1,56 @@
-//! Settling by a direct call of the library, and of that of an earlier commit beside it in the same program, both in
-//! the same way, so that their times can be compared. The earlier archive has `tohiranga_settle` under the name
-//! `before_settle` and exports no other; tests/bench_before builds both.
+//! Settling and reading by direct calls of the library, and of that of an earlier commit beside it in the same
+//! program, both in the same way, so that their times can be compared. The earlier archive has `tohiranga_settle` and
+//! `tohiranga_read` under the names `before_settle` and `before_read` and exports no other; tests/bench_before builds
+//! both.
 
 use crate::{Engine, Plan, Settings};
 
+/// What the header's `struct tohiranga_opening` is.
+#[repr(C)]
+struct Opening {
+    answer: u64,
+    n: u8,
+    m: u8,
+    rule: u8,
+    estimator: u8,
+    window: u32,
+}
+
 type Settle = unsafe extern "C" fn(*const u8, usize, *mut u8, usize) -> u64;
+type Read = unsafe extern "C" fn(*const u8, usize, *mut u8, usize, *mut i32, usize) -> Opening;
 
 extern "C" {
-    fn tohiranga_settle(sheet: *const u8, sheet_len: usize, answer: *mut u8, room: usize) -> u64;
-    fn before_settle(sheet: *const u8, sheet_len: usize, answer: *mut u8, room: usize) -> u64;
+    fn tohiranga_settle(sheet: *const u8, len: usize, answer: *mut u8, room: usize) -> u64;
+    fn before_settle(sheet: *const u8, len: usize, answer: *mut u8, room: usize) -> u64;
+    fn tohiranga_read(
+        sheet: *const u8,
+        len: usize,
+        marks: *mut u8,
+        marks_len: usize,
+        readings: *mut i32,
+        readings_len: usize,
+    ) -> Opening;
+    fn before_read(
+        sheet: *const u8,
+        len: usize,
+        marks: *mut u8,
+        marks_len: usize,
+        readings: *mut i32,
+        readings_len: usize,
+    ) -> Opening;
 }
 
 pub struct Direct {
     name: &'static str,
     settle: Settle,
+    read: Read,
 }
 
 /// The library of this tree.
-pub const NOW: Direct = Direct { name: "now", settle: tohiranga_settle };
+pub const NOW: Direct = Direct { name: "now", settle: tohiranga_settle, read: tohiranga_read };
 
 /// The library of the earlier commit.
-pub const BEFORE: Direct = Direct { name: "before", settle: before_settle };
+pub const BEFORE: Direct = Direct { name: "before", settle: before_settle, read: before_read };
 
 impl Engine for Direct {
     fn name(&self) -> String {
@@ -40,7 +70,14 @@ impl Engine for Direct {
         marks: &mut [u8],
         readings: &mut [i32],
     ) -> u64 {
-        crate::Reference.read(sheet, settings, marks, readings)
+        let (len, marks_len, readings_len) = (sheet.len(), marks.len(), readings.len());
+        let (marks, readings) = (marks.as_mut_ptr(), readings.as_mut_ptr());
+        // SAFETY: each pointer goes with its slice's length, and the borrows keep the slices apart.
+        let given =
+            unsafe { (self.read)(sheet.as_ptr(), len, marks, marks_len, readings, readings_len) };
+        let Opening { answer, n, m, rule, estimator, window } = given;
+        *settings = Settings { n, m, rule, estimator, window };
+        answer
     }
 
     fn replay(&self, trace: &[u8], values: &mut [u8]) -> u64 {

@@ -9,6 +9,9 @@ ghost use Rattle.replaying.specs.Answers.{replayingOf};
 use model::Refusal;
 use sheet_checks::Opened;
 
+// As many rounds as any trace has: no byte says more.
+const EVERY_ROUND: u8 = 255;
+
 // The bytes of the final values, or the first refusal.
 pub enum Replayed {
     Granted(usize),
@@ -47,5 +50,5 @@ pub fn replay(trace: &[u8], values: &mut [u8]) -> Replayed
     ensures { λ r. ⌜
         replayingOf r (now (values .exit)) ≡ replay (now (trace .entry)) (now (values .entry)) ⌝ }
 {
-    replay_to(trace, trace_rounds::every_round(), values)
+    replay_to(trace, EVERY_ROUND, values)
 }

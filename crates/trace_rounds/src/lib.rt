@@ -1,14 +1,7 @@
 // How many rounds of a trace are played.
 ghost use mathlib.Core.Path.{_≡_};
-ghost use Prim.Native.Nat.{ℕ, _≤_, _<_, min};
+ghost use Prim.Native.Nat.{min};
 ghost use lib.Dec.{ltb};
-
-// As many rounds as any trace has: no byte says more.
-pub fn every_round() -> u8
-    ensures { λ r. ⌜ ((rounds : ℕ) → rounds < 256 → rounds ≤ r) ⌝ }
-{
-    255
-}
 
 // The rounds that are asked for, at most as many as the trace has.
 pub fn rounds_to_play(rounds: u8, most: u8) -> u8

@@ -2,13 +2,10 @@
 -- Assumes nothing.
 use borrow.Author.Needs.{needs}
 use mathlib.Core.Path.{_∙_}
-use Rattle.trace.specs.Trace.{roundsAt}
+use native.Mathlib.Omega.{arith}
 use Rattle.replaying.proofs.Replaying.{replay-all}
 use Rattle.replaying.proofs.replay.Statement.{statement}
 use Rattle.replaying.proofs.replay.Tie as tie
-
-every-round-requires : tie.Need-every-round-requires
-every-round-requires c κs = search needs
 
 replay-to-requires : tie.Need-replay-to-requires
 replay-to-requires c κs = search needs
@@ -19,11 +16,10 @@ same-length c = search needs
 returns : tie.Need-returns
 returns c =
     let played = c .before .before in
-    let every = played .before .before in
-    let known = every .before .before in
+    let known = played .before .before .before in
     let a = known .before .args in
-    let few = every .every-round .ensures (roundsAt (a .trace .now)) (known .shared-slice-known .given 8 .fits) in
-    played .replay-to .ensures ∙ replay-all (a .trace .now) (a .values .now) (every .every-round .result) few
+    let fits = known .shared-slice-known .given 8 .fits in
+    played .replay-to .ensures ∙ replay-all (a .trace .now) (a .values .now) 255 (omega (arith, fits))
 
 pub replay-spec : {M : Type 1} → statement M
-replay-spec = tie.close (tie.spec every-round-requires replay-to-requires same-length returns)
+replay-spec = tie.close (tie.spec replay-to-requires same-length returns)

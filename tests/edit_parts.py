@@ -1,0 +1,69 @@
+"""The functions of a crate's code, and which of them a must-fail edit changes; for the tests of the edits."""
+
+import collections
+import re
+
+HEAD = re.compile(r'(?m)^ *(?P<public>pub )?(?:extern "C" )?(?P<kind>fn|const) (?P<name>\w+)')
+
+# a function or a constant of a file, from its head to the next one's
+Item = collections.namedtuple("Item", "name kind is_public promises start end text")
+
+# a replacement: in which file, what, by what
+Change = collections.namedtuple("Change", "file old new")
+
+
+def items(code):
+    heads = list(HEAD.finditer(code))
+    for head, following in zip(heads, heads[1:] + [None]):
+        end = following.start() if following else len(code)
+        text = code[head.start():end]
+        signature = re.split(r"\n *\{\n", text, maxsplit=1)[0]
+        is_public = bool(head["public"]) and head["kind"] == "fn"
+        yield Item(head["name"], head["kind"], is_public, "ensures" in signature, head.start(), end, text)
+
+
+def sources(crate):
+    """The code of each file of a crate, by its name from the crate's folder on."""
+    return {f"src/{path.name}": path.read_text(encoding="utf-8") for path in sorted((crate / "src").glob("*.rt"))}
+
+
+def changes(edit):
+    """The replacements of an edit, in its order."""
+    file, old = None, None
+    for line in edit.read_text(encoding="utf-8").split("\n"):
+        if line.startswith("file: "):
+            file = line[6:]
+        elif line.startswith("old: "):
+            old = line[5:]
+        elif line.startswith("new:"):
+            yield Change(file, old, line[4:].removeprefix(" "))
+
+
+def item_at(change, code):
+    """The function or constant that a replacement stands in, if it stands in one."""
+    at = code.get(change.file, "").find(change.old)
+    return next((item for item in items(code.get(change.file, "")) if at >= 0 and item.start <= at < item.end), None)
+
+
+def parts(edit):
+    """The replacements of an edit by the function or constant that they stand in; under None those of definitions, proofs and imports."""
+    code = sources(edit.parent.parent)
+    found = {}
+    for change in changes(edit):
+        item = item_at(change, code)
+        found.setdefault(item and item.name, []).append(change)
+    return found
+
+
+def changes_code(change, code):
+    """Whether a replacement changes code, and not only what is promised of it or imported."""
+    item = item_at(change, code)
+    if item is None or not item.promises:
+        return item is not None
+    body = item.start + re.search(r"\n *\{\n", item.text).start()
+    return code[change.file].find(change.old) > body
+
+
+def reasons(edit):
+    """What an edit stands for: the remarks above its parts."""
+    return "; ".join(line.removeprefix("#").strip() for line in edit.read_text(encoding="utf-8").split("\n") if line.startswith("#"))

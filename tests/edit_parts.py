@@ -1,9 +1,10 @@
 """The functions of a crate's code, and which of them a must-fail edit changes; for the tests of the edits."""
 
 import collections
+import hashlib
 import re
 
-HEAD = re.compile(r'(?m)^ *(?P<public>pub )?(?:extern "C" )?(?P<kind>fn|const) (?P<name>\w+)')
+HEAD = re.compile(r'(?m)^ *(?:#\[\w+\]\n *)?(?P<public>pub )?(?:extern "C" )?(?P<kind>fn|const) (?P<name>\w+)')
 
 # a function or a constant of a file, from its head to the next one's
 Item = collections.namedtuple("Item", "name kind is_public promises start end text")
@@ -62,6 +63,29 @@ def changes_code(change, code):
         return item is not None
     body = item.start + re.search(r"\n *\{\n", item.text).start()
     return code[change.file].find(change.old) > body
+
+
+def wrongs(edit):
+    """What is wrong in an edit: by the name of each function or constant that it changes, and under '-' for one of definitions alone, its changes."""
+    found = parts(edit)
+    common = found.pop(None, [])
+    return {name: common + own for name, own in found.items()} or {"-": common}
+
+
+def total(changes):
+    """The sum of some changes, by which tests/edits.txt knows them."""
+    lines, file = [], None
+    for change in changes:
+        lines += [f"file: {change.file}"] if change.file != file else []
+        lines += [f"old: {change.old}", f"new: {change.new}"]
+        file = change.file
+    return hashlib.sha256("\n".join(lines).encode()).hexdigest()[:16]
+
+
+def evidence(page):
+    """The lines of tests/edits.txt: what was found of each edit and function, with the sum of the changes that were tried."""
+    rows = [line.split(" ", 3) for line in page.read_text(encoding="utf-8").splitlines() if line and not line.startswith("#")] if page.is_file() else []
+    return {(edit, name): (tried, found) for edit, name, tried, found in rows}
 
 
 def reasons(edit):

@@ -88,6 +88,17 @@ def evidence(page):
     return {(edit, name): (tried, found) for edit, name, tried, found in rows}
 
 
-def reasons(edit):
-    """What an edit stands for: the remarks above its parts."""
-    return "; ".join(line.removeprefix("#").strip() for line in edit.read_text(encoding="utf-8").split("\n") if line.startswith("#"))
+def remarks(edit):
+    """What an edit stands for: each remark with the functions, constants and files of definitions that are changed below it."""
+    code = sources(edit.parent.parent)
+    found, left = [], changes(edit)
+    for line in edit.read_text(encoding="utf-8").split("\n"):
+        if line.startswith("#"):
+            found.append((line.removeprefix("#").strip(), []))
+        elif line.startswith("new:"):
+            change = next(left)
+            item = item_at(change, code)
+            name = item.name if item else change.file.partition(".")[0]
+            if found and name not in found[-1][1]:
+                found[-1][1].append(name)
+    return found

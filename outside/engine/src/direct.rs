@@ -3,18 +3,8 @@
 //! `tohiranga_read` under the names `before_settle` and `before_read` and exports no other; tests/bench_before builds
 //! both.
 
+use crate::whole::Opening;
 use crate::{Engine, Plan, Settings};
-
-/// What the header's `struct tohiranga_opening` is.
-#[repr(C)]
-struct Opening {
-    answer: u64,
-    n: u8,
-    m: u8,
-    rule: u8,
-    estimator: u8,
-    window: u32,
-}
 
 type Settle = unsafe extern "C" fn(*const u8, usize, *mut u8, usize) -> u64;
 type Read = unsafe extern "C" fn(*const u8, usize, *mut u8, usize, *mut i32, usize) -> Opening;
@@ -75,9 +65,8 @@ impl Engine for Direct {
         // SAFETY: each pointer goes with its slice's length, and the borrows keep the slices apart.
         let given =
             unsafe { (self.read)(sheet.as_ptr(), len, marks, marks_len, readings, readings_len) };
-        let Opening { answer, n, m, rule, estimator, window } = given;
-        *settings = Settings { n, m, rule, estimator, window };
-        answer
+        *settings = crate::linked::settings_from(given.settings);
+        given.answer
     }
 
     fn replay(&self, trace: &[u8], values: &mut [u8]) -> u64 {

@@ -26,7 +26,7 @@ use Rattle.loop_laws.proofs.Loops.{flag, count-next}
 use Rattle.held.specs.Held.{valueAt, presentIn}
 use Rattle.spans.specs.Spans.{inSpan, heldAt}
 use Rattle.span_counts.specs.Places.{places}
-use Rattle.acceptance.specs.Values.{acceptedIn, enoughAt, admits, admitted, Remembered, Holds, passedAt, Counting}
+use Rattle.acceptance.specs.Values.{acceptedIn, enoughAt, admits, admitted, Remembered, Holds, onePass, passedAt, Counting}
 
 -- ---- counting
 
@@ -60,7 +60,7 @@ module _ (w : ℕ) (marks values : List ℕ) (start c t : ℕ) (so-far : Countin
   held = heldAt start w marks values
 
   pub passed-further : (t < passedAt (length marks) t) × (passedAt (length marks) t ≤ length marks)
-  passed-further = go (leb 8 (length marks))
+  passed-further = go (leb onePass (length marks))
     where
       go : (b : Bool) → (t < cond b (length marks) (t + 1)) × (cond b (length marks) (t + 1) ≤ length marks)
       go true = (below, le-refl (length marks))
@@ -72,7 +72,7 @@ module _ (w : ℕ) (marks values : List ℕ) (start c t : ℕ) (so-far : Countin
   pub counted-all :
       length values ≡ length marks
       → length marks ≤ maxCabinets
-      → 8 ≤ length marks
+      → onePass ≤ length marks
       → (h : ℕ)
       → h ≡ count held (places (length marks) (length values))
       → c + h ≡ count held (passedAt (length marks) t)
@@ -81,28 +81,28 @@ module _ (w : ℕ) (marks values : List ℕ) (start c t : ℕ) (so-far : Countin
       let z = so-far .1 below wide in
       let none : c ≡ 0 = so-far .0 ∙ ap (count held) z in
       let n : places (length marks) (length values) ≡ length marks = omega arith in
-      rw (le-leb 8 (length marks) wide) (omega (arith, none, e ∙ ap (count held) n))
+      rw (le-leb onePass (length marks) wide) (omega (arith, none, e ∙ ap (count held) n))
 
   pub counted-one :
-      length marks < 8 → (n : ℕ) → n ≡ c + bit (held t) → n ≡ count held (passedAt (length marks) t)
+      length marks < onePass → (n : ℕ) → n ≡ c + bit (held t) → n ≡ count held (passedAt (length marks) t)
   counted-one narrow n e =
-      rw (lt-leb 8 (length marks) narrow)
+      rw (lt-leb onePass (length marks) narrow)
       (e ∙ ap (λ (a : ℕ). a + bit (held t)) (so-far .0) ∙ sym (count-next held t))
 
   pub counting-on :
       (c′ : ℕ)
       → c′ ≡ count held (passedAt (length marks) t)
       → Counting w marks values start c′ (passedAt (length marks) t)
-  counting-on c′ e = (e, go (leb 8 (length marks)) refl)
+  counting-on c′ e = (e, go (leb onePass (length marks)) refl)
     where
       go :
           (b : Bool)
-          → leb 8 (length marks) ≡ b
+          → leb onePass (length marks) ≡ b
           → cond b (length marks) (t + 1) < length marks
-          → 8 ≤ length marks
+          → onePass ≤ length marks
           → cond b (length marks) (t + 1) ≡ 0
       go true q l wide = absurd (omega (arith, l))
-      go false q l wide = absurd (clash (le-leb 8 (length marks) wide) q)
+      go false q l wide = absurd (clash (le-leb onePass (length marks) wide) q)
 
 -- ---- acceptance, start by start
 

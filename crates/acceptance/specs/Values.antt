@@ -10,7 +10,8 @@
 --   Holds                  a start's reading is present, and its span holds enough
 --   Alike                  as many values as marks, at most 64, and a memory of one start more
 --   Remembered             what the memory of counted spans says of each start
---   passedAt, Counting     the readings of a span are counted one by one, or from 8 on all at once
+--   onePass, passedAt,     the readings of a span are counted one by one, or from some number on all at once
+--   Counting
 use mathlib.Core.Bool.{Bool, true, cond, not, _&&_, _||_}
 use mathlib.Core.List.{List}
 use mathlib.Core.Logic.{_⊎_}
@@ -69,11 +70,15 @@ abbrev pub Remembered : ℕ → ℕ → List ℕ → List ℕ → List ℕ → T
 Remembered w need marks values known =
     (a : ℕ) → a < length marks → (getD known a 0 ≡ 0) ⊎ (getD known a 0 ≡ 1 + bit (enoughAt w need marks values a))
 
+-- from this number of readings on a span is counted in one pass
+abbrev pub onePass : ℕ
+onePass = 8
+
 -- how many of n readings are counted after t of them
 abbrev pub passedAt : ℕ → ℕ → ℕ
-passedAt n t = cond (leb 8 n) n (t + 1)
+passedAt n t = cond (leb onePass n) n (t + 1)
 
 -- the span from a start holds c of the t readings that are counted
 abbrev pub Counting : ℕ → List ℕ → List ℕ → ℕ → ℕ → ℕ → Type 0
 Counting w marks values start c t =
-    (c ≡ count (heldAt start w marks values) t) × (t < length marks → 8 ≤ length marks → t ≡ 0)
+    (c ≡ count (heldAt start w marks values) t) × (t < length marks → onePass ≤ length marks → t ≡ 0)

@@ -41,8 +41,8 @@ fn one_more(found: u32, marks: &[u8], values: &[u32], start: u32, span: u32, t: 
     }
 }
 
-// How many readings the span from a start holds up to the next one, by how many it holds up to t; from 8 readings on
-// how many of all.
+// How many readings the span from a start holds up to the next one, by how many it holds up to t; where there are many
+// readings, how many of all.
 fn counted(found: u32, marks: &[u8], values: &[u32], start: u32, span: u32, t: usize) -> u32
     requires { ⌜ (length (now values) ≡ length (now marks)) × (length (now marks) ≤ maxCabinets) ⌝ }
     requires { ⌜ Counting span (now marks) (now values) start found t × (t < length (now marks)) ⌝ }

@@ -3,7 +3,7 @@
 //! `tohiranga_read` under the names `before_settle` and `before_read` and exports no other; tests/bench_before builds
 //! both.
 
-use crate::whole::Opening;
+use crate::whole::{tohiranga_read, Opening};
 use crate::{Engine, Plan, Settings};
 
 type Settle = unsafe extern "C" fn(*const u8, usize, *mut u8, usize) -> u64;
@@ -12,14 +12,6 @@ type Read = unsafe extern "C" fn(*const u8, usize, *mut u8, usize, *mut i32, usi
 extern "C" {
     fn tohiranga_settle(sheet: *const u8, len: usize, answer: *mut u8, room: usize) -> u64;
     fn before_settle(sheet: *const u8, len: usize, answer: *mut u8, room: usize) -> u64;
-    fn tohiranga_read(
-        sheet: *const u8,
-        len: usize,
-        marks: *mut u8,
-        marks_len: usize,
-        readings: *mut i32,
-        readings_len: usize,
-    ) -> Opening;
     fn before_read(
         sheet: *const u8,
         len: usize,

@@ -16,7 +16,7 @@ pub struct Planning {
 }
 
 extern "C" {
-    fn tohiranga_read(
+    pub fn tohiranga_read(
         sheet: *const u8,
         sheet_len: usize,
         marks: *mut u8,

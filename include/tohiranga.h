@@ -11,7 +11,8 @@
  *
  * Cabinets are numbered from 0. A tick is 1/16,777,216 second.
  *
- * Refusals, checked in this order (13 in the place of 6, 14 and 15 after 9), each call only those that concern it.
+ * Refusals, checked in this order (13 in the place of 6, 14 and 15 after 9, 16 between 5 and 6), each call only those that
+ * concern it.
  * tohiranga_refusal_text says what each means; this is what to do about it:
  *
  *    1   the transfer was cut off: fetch the sheet again
@@ -32,6 +33,7 @@
  *   14   mark the entries of sound senders missing, since the replay supplies them
  *   15   place / 64 is the round and place % 64 the cabinet: look at what it heard. More are faulty than planned for, or the
  *        first readings of sound cabinets lie too far apart
+ *   16   give a spread of at most TOHIRANGA_MAX_SPREAD with rule 0, and of 0 with rule 1
  */
 #ifndef TOHIRANGA_H
 #define TOHIRANGA_H
@@ -45,13 +47,14 @@ extern "C" {
 
 /* The version. tohiranga_version() is that of the archive; as one number it is major * 2^16 + minor * 2^8 + patch. */
 #define TOHIRANGA_VERSION_MAJOR 0
-#define TOHIRANGA_VERSION_MINOR 3
+#define TOHIRANGA_VERSION_MINOR 4
 #define TOHIRANGA_VERSION_PATCH 0
 #define TOHIRANGA_VERSION (TOHIRANGA_VERSION_MAJOR * 65536 + TOHIRANGA_VERSION_MINOR * 256 + TOHIRANGA_VERSION_PATCH)
-#define TOHIRANGA_VERSION_TEXT "0.3.0"
+#define TOHIRANGA_VERSION_TEXT "0.4.0"
 
 #define TOHIRANGA_MAX_CABINETS 64
 #define TOHIRANGA_MAX_WINDOW 1000000
+#define TOHIRANGA_MAX_SPREAD 100000
 #define TOHIRANGA_MAX_ACCURACY 1000000000
 #define TOHIRANGA_MAX_ROUNDS 32
 #define TOHIRANGA_TICKS_PER_SECOND 16777216
@@ -74,7 +77,8 @@ enum tohiranga_refusal {
     TOHIRANGA_TARGET_MISSED = 12,
     TOHIRANGA_BAD_TRACE = 13,
     TOHIRANGA_BAD_ROLES = 14,
-    TOHIRANGA_RUN_STOPPED = 15
+    TOHIRANGA_RUN_STOPPED = 15,
+    TOHIRANGA_BAD_SPREAD = 16
 };
 
 /* The entries of a sheet of n cabinets; the bytes of a sheet and of an answer sheet; the bytes of the longest of each. */
@@ -136,6 +140,7 @@ static inline const char *tohiranga_refusal_text(unsigned number) {
     case TOHIRANGA_BAD_TRACE: return "the trace is not one of an FCA run of at most 32 rounds, or not as long as it says";
     case TOHIRANGA_BAD_ROLES: return "a role is not 0 or 1, or a sound sender's entry is present";
     case TOHIRANGA_RUN_STOPPED: return "too many faults for a sound cabinet; the place is 64 x round (from 1) + cabinet";
+    case TOHIRANGA_BAD_SPREAD: return "the spread is above 100,000, or above 0 with CCA";
     default: return "no refusal of this library";
     }
 }
@@ -151,6 +156,17 @@ uint32_t tohiranga_version(void);
  * The answer sheet: byte 0 N, 1 the number accepted, 2 to 5 the estimate, 6 to 9 the new value; N marks (0 missing or known
  * faulty, 1 accepted, 2 present and not accepted); N used values of four bytes. */
 uint64_t tohiranga_settle(const uint8_t *sheet, size_t sheet_len, uint8_t *answer, size_t answer_len);
+
+/* Settles a round sheet of rule 0 where cable runs differ: two sound cabinets' readings of a good one differ by up to the
+ * spread, 0 to TOHIRANGA_MAX_SPREAD ticks. A span is then as wide as the window and the spread together; all else is as for
+ * tohiranga_settle, which is this call with the spread 0. Refuses under 1 to 5, 16, and 6 to 10, in this order.
+ *
+ * All cabinets of a station give the same spread. It is no part of the sheet, and no call can tell whether it is true. Let w be
+ * the window, D the spread, t at most m the number of bad cabinets, and let each sound cabinet's readings of the good ones lie
+ * within w + D of each other and within k of true time. Then no sound cabinet is refused under 10, after one round two new values are
+ * at most D + 2t(w + D)/N apart, and each is within k + t(w + D)/N of true time, both quotients rounded up. More rounds, or more
+ * than m bad, are promised for the spread 0 alone. */
+uint64_t tohiranga_settle_spread(const uint8_t *sheet, size_t sheet_len, uint32_t spread, uint8_t *answer, size_t answer_len);
 
 /* The fields of an answer sheet of any bytes: N, the number accepted, the estimate, the new value; a cabinet's mark and used
  * value. answer_len is the answer sheet's own length, as tohiranga_settle answers it, not the buffer's. Each refuses under 2

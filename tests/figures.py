@@ -78,8 +78,8 @@ def refusals():
     """The checks of the table: number and name."""
     page = text(MODEL / "Refusals.antt")
     checks = re.findall(r"^(\w+)Number = (\d+)$", page, flags=re.M)
-    if [int(number) for _, number in checks] != list(range(1, 16)):
-        sys.exit("figures: crates/model/specs/Refusals.antt does not have the numbers 1 to 15")
+    if [int(number) for _, number in checks] != list(range(1, 17)):
+        sys.exit("figures: crates/model/specs/Refusals.antt does not have the numbers 1 to 16")
     both = page + text(TRACE / "Replay.antt")
     for name, _ in checks:
         if not re.search(rf"^unfoldable pub {name} :", both, flags=re.M) or not re.search(rf"(?<!= )\b{name}Number\b(?! [:=])", both):
@@ -90,8 +90,8 @@ def refusals():
 def meanings():
     """README's table of refusals."""
     rows = re.findall(r"^\| (\d+) \| ([^|]+) \| [^|]+ \|$", text(ROOT / "README.md"), flags=re.M)
-    if [int(number) for number, _ in rows] != list(range(1, 16)):
-        sys.exit("figures: README does not have the refusals 1 to 15")
+    if [int(number) for number, _ in rows] != list(range(1, 17)):
+        sys.exit("figures: README does not have the refusals 1 to 16")
     return {int(number): meaning.strip() for number, meaning in rows}
 
 
@@ -107,6 +107,7 @@ def shared():
     """What C and Rust both have."""
     yield f"MAX_CABINETS {FIGURES['maxCabinets']}"
     yield f"MAX_WINDOW {FIGURES['maxWindow']}"
+    yield f"MAX_SPREAD {FIGURES['maxSpread']}"
     yield f"MAX_ACCURACY {FIGURES['maxAccuracy']}"
     yield f"MAX_ROUNDS {FIGURES['maxRounds']}"
     yield f"TICKS_PER_SECOND {FIGURES['ticksPerSecond']}"
@@ -119,7 +120,7 @@ def shared():
     for number, name in refusals():
         yield f"{name} {number}"
     said = meanings()
-    for number in range(17):
+    for number in range(18):
         yield f"refusal {number}: {said.get(number, 'no refusal of this library')}"
     for n in range(0, 256, 7):
         yield f"entries of {n} {entries(n, FIGURES['fca'])} {entries(n, FIGURES['cca'])}"

@@ -75,12 +75,20 @@ sabotage "hostile: what was not reached is passed over" "sed -i '/never reached:
 sabotage "hostile: plans are not compared" "sed -i 's/number(answer) != 0 || given != right/false/' outside/hostile/src/run.rs" "$hostile"
 sabotage "hostile: replays are not compared" "sed -i 's/answer != right || values != station/false/' outside/hostile/src/tape.rs" "$hostile" "replay-"
 sabotage "hostile: refused replays allowed at t ≤ m" "sed -i 's/few_refused_replays += (.*) as u64;/few_refused_replays += 0;/' outside/hostile/src/tape.rs" "$hostile" "no replay is refused\\|ends as the station did"
+sabotage "hostile: limits with cables are not held" "sed -i '/hold(tally, 2[01], /d' outside/hostile/src/cables.rs" "$hostile" "by Lemma 16: 0 0"
+sabotage "hostile: Lemma 16's limit with cables" "sed -i 's/+ 3 \* spread as i64/+ 2 * spread as i64/' outside/hostile/src/limits.rs" "$hostile"
+sabotage "hostile: refusals with cables allowed" "sed -i 's/tally.refused_with_cables += 1;/tally.refused_with_cables += 0;/' outside/hostile/src/cables.rs" "$hostile" "spread-ignored"
+sabotage "hostile: cables that shift nothing" "sed -i 's/let (w, d) = (settings.window as i64, spread as i64);/let (w, d) = (settings.window as i64, 0 * spread as i64);/' outside/hostile/src/cables.rs" "$hostile" "by Lemma 16: 0 0"
+sabotage "hostile: good readings wider apart than a span" "sed -i 's/.min(base + w + d)/.min(base + w + 2 * d)/' outside/hostile/src/cables.rs" "$hostile" "read as document 02 says"
+sabotage "hostile: what was met with cables is passed over" "sed -i '/: the limits not met/d' outside/hostile/src/run.rs" "$hostile" "a_station_without_runs_fails"
 sabotage "hostile: no run" "sed -i 's/runs: 100_000/runs: 0/' outside/hostile/src/main.rs" "(cd outside && cargo run -q --release --offline -p hostile)" "never held"
 
 # ---- the comparison
 compare="(cd outside && cargo build --release --offline -q -p reference -p compare && cargo test --release --offline -q -p compare)"
 sound "$compare" compare
 sabotage "compare: replays by hand are not compared" "sed -i '/self.same_replay(\"by hand\", &given, &by_hand, &bytes);/d' outside/compare/src/calls.rs" "$compare" "by hand\\|step-wide"
+sabotage "compare: no spread" "sed -i 's/self.settle_spread(random);/()/' outside/compare/src/calls.rs" "$compare" "not met\\|not found"
+sabotage "compare: a spread of 0 is not compared with settling" "sed -i 's/answers.0 == answers.1 \&\& with == without/true/' outside/compare/src/calls.rs" "$compare" "a_spread_of_0"
 sabotage "compare: no trace" "sed -i 's/now.is_multiple_of(SHEETS_FOR_A_TRACE)/false/' outside/compare/src/calls.rs" "$compare" "not met\\|not found"
 
 # ---- what must run

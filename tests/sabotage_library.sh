@@ -14,7 +14,8 @@ tried=0
 fresh() {
     rm -rf "$room/copy"
     mkdir -p "$room/copy/target/staticlib"
-    (cd "$top" && tar cf - --exclude=target include bindings tests README.md crates/model/specs crates/version/specs) | tar xf - -C "$room/copy"
+    (cd "$top" && tar cf - --exclude=target include bindings examples/cables.c examples/cables.stdout tests README.md \
+        crates/model/specs crates/trace/specs crates/version/specs) | tar xf - -C "$room/copy"
     printf '#!/usr/bin/env bash\necho "%s/target/staticlib"\n' "$top" >"$room/copy/tests/build_archive"
 }
 
@@ -67,6 +68,10 @@ sabotage "header: the text of refusal 15" $header "64 x round (from 1)" "64 x ro
 sabotage "header: refusals 14 and 15 swapped" $header "TOHIRANGA_BAD_ROLES = 14,
     TOHIRANGA_RUN_STOPPED = 15" "TOHIRANGA_BAD_ROLES = 15,
     TOHIRANGA_RUN_STOPPED = 14"
+sabotage "header: the text of refusal 16" $header "or above 0 with CCA" "or above 0 with FCA"
+sabotage "header: a spread of 1000000" $header "MAX_SPREAD 100000" "MAX_SPREAD 1000000"
+sabotage "header: the spread before the sheet" $header "tohiranga_settle_spread(const uint8_t *sheet, size_t sheet_len, uint32_t spread," \
+    "tohiranga_settle_spread(uint32_t spread, const uint8_t *sheet, size_t sheet_len,"
 sabotage "header: traces of 8 + 5N + 5 rounds N N" $header "TRACE_SIZE(n, rounds) (9 +" "TRACE_SIZE(n, rounds) (8 +"
 sabotage "header: values of 5N" $header "VALUES_SIZE(n) (4 *" "VALUES_SIZE(n) (5 *"
 sabotage "header: the longest trace" $header "MAX_TRACE 655689" "MAX_TRACE 655688"
@@ -94,10 +99,15 @@ sabotage "wrapper: the meaning of 14" $wrapper "a role is not 0 or 1, or" "a rol
 sabotage "wrapper: MAX_TRACE 20488" $wrapper "MAX_TRACE: usize = 655_689" "MAX_TRACE: usize = 20_488"
 sabotage "wrapper: trace and values swapped" $wrapper "tohiranga_replay(trace.as_ptr(), trace.len(), values.as_mut_ptr(), values.len())" \
     "tohiranga_replay(values.as_ptr(), values.len(), trace.as_ptr() as *mut u8, trace.len())"
+sabotage "wrapper: MAX_SPREAD 10000" $wrapper "MAX_SPREAD: u32 = 100_000" "MAX_SPREAD: u32 = 10_000"
+sabotage "wrapper: no spread is given on" $wrapper "            spread,
+            answer.as_mut_ptr()," "            spread & 0,
+            answer.as_mut_ptr(),"
 sabotage "wrapper: estimate and new value swapped" $wrapper "self.field(tohiranga_answer_value)" "self.field(tohiranga_answer_estimate)"
 sabotage "wrapper: mark and used value swapped" $wrapper "self.field_of(tohiranga_answer_mark, cabinet)" "self.field_of(tohiranga_answer_used, cabinet)"
-sabotage "wrapper: another version" bindings/rust/Cargo.toml 'version = "0.3.0"' 'version = "0.3.1"'
+sabotage "wrapper: another version" bindings/rust/Cargo.toml 'version = "0.4.0"' 'version = "0.4.1"'
 sabotage "README: the text of refusal 8" README.md "| 8 | a mark is not 0 or 1;" "| 8 | a mark is not 1 or 2;"
+sabotage "definitions: a spread of 100001" crates/model/specs/Ensemble.antt "maxSpread = 100_000" "maxSpread = 100_001"
 sabotage "definitions: 63 cabinets" crates/model/specs/Ensemble.antt "maxCabinets = 64" "maxCabinets = 63"
 
 echo "$tried sabotages tried"

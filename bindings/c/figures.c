@@ -27,6 +27,7 @@ static void show_method(const char *name, uint8_t rule, uint8_t estimator) {
 int main(void) {
     NUMBER(MAX_CABINETS);
     NUMBER(MAX_WINDOW);
+    NUMBER(MAX_SPREAD);
     NUMBER(MAX_ACCURACY);
     NUMBER(MAX_ROUNDS);
     NUMBER(TICKS_PER_SECOND);
@@ -54,7 +55,8 @@ int main(void) {
     NUMBER(BAD_TRACE);
     NUMBER(BAD_ROLES);
     NUMBER(RUN_STOPPED);
-    for (unsigned number = 0; number < 17; number++)
+    NUMBER(BAD_SPREAD);
+    for (unsigned number = 0; number < 18; number++)
         printf("refusal %u: %s\n", number, tohiranga_refusal_text(number));
     for (unsigned n = 0; n < 256; n += 7)
         printf("entries of %u %zu %zu\n", n, TOHIRANGA_ENTRIES(n, TOHIRANGA_FCA), TOHIRANGA_ENTRIES(n, TOHIRANGA_CCA));

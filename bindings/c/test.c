@@ -114,6 +114,90 @@ static void settle_bad(const uint8_t *good, size_t len, uint8_t n) {
     give_back(sheet), give_back(room), give_back(wide), give_back(tight), give_back(none), give_back(longer);
 }
 
+/* ---- Settling with a spread */
+
+static uint64_t settle_spread(struct lent sheet, uint32_t spread, struct lent answer) {
+    return tohiranga_settle_spread(sheet.start, sheet.len, spread, answer.start, answer.len);
+}
+
+static void spread_refused(struct lent sheet, uint32_t spread, struct lent answer, uint64_t wanted) {
+    EXPECT(settle_spread(sheet, spread, answer) == wanted && kept(answer));
+}
+
+/* 16 is for a spread above 100,000, or above 0 by CCA; it comes after 5, and before 6. */
+static void spread_bad(const uint8_t *good, size_t len, uint8_t n, uint8_t rule) {
+    const size_t size = TOHIRANGA_ANSWER_SIZE(n);
+    const uint32_t most = TOHIRANGA_MAX_SPREAD, fit[] = {1, 2, 99999, most}, unfit[] = {most + 1, 1u << 31, UINT32_MAX};
+    struct lent sheet = lend_copy(good, len), cut = lend_copy(good, len - 1), stub = lend_copy(good, 7);
+    struct lent room = lend(size), plain = lend(size), tight = lend(size - 1);
+    for (size_t i = 0; i < sizeof unfit / sizeof *unfit; i++) {
+        spread_refused(sheet, unfit[i], room, REFUSED(16, 0));
+        spread_refused(sheet, unfit[i], tight, REFUSED(16, 0));
+        spread_refused(cut, unfit[i], room, REFUSED(16, 0));
+        spread_refused(stub, unfit[i], room, REFUSED(1, 0));
+        EXPECT(tohiranga_settle_spread(sheet.start, sheet.len, unfit[i], NULL, 0) == REFUSED(16, 0));
+        EXPECT(tohiranga_settle_spread(NULL, 0, unfit[i], NULL, 0) == REFUSED(1, 0));
+        sheet.start[7] = 1; /* a window above 1,000,000 */
+        spread_refused(sheet, unfit[i], room, REFUSED(5, 0));
+        sheet.start[7] = 0;
+    }
+    EXPECT(settle(sheet, plain) == size);
+    for (size_t i = 0; i < sizeof fit / sizeof *fit; i++) {
+        spread_refused(cut, fit[i], tight, rule == TOHIRANGA_CCA ? REFUSED(16, 0) : REFUSED(6, 0));
+        spread_refused(sheet, fit[i], tight, rule == TOHIRANGA_CCA ? REFUSED(16, 0) : REFUSED(7, 0));
+        if (rule == TOHIRANGA_CCA)
+            spread_refused(sheet, fit[i], room, REFUSED(16, 0));
+        else /* all are accepted without a spread */
+            EXPECT(settle_spread(sheet, fit[i], room) == size && memcmp(room.start, plain.start, size) == 0 && kept_from(room, size));
+    }
+    give_back(room), room = lend(size);
+    spread_refused(cut, 0, room, REFUSED(6, 0));
+    spread_refused(sheet, 0, tight, REFUSED(7, 0));
+    EXPECT(settle_spread(sheet, 0, room) == size && memcmp(room.start, plain.start, size) == 0 && kept_from(room, size));
+    EXPECT(memcmp(sheet.start, good, len) == 0);
+    give_back(sheet), give_back(cut), give_back(stub), give_back(room), give_back(plain), give_back(tight);
+}
+
+/* Four cabinets, planned for one fault, FCA with median: the answer, and the new value where there is one. */
+static uint64_t settle_four(uint32_t window, const int32_t *readings, uint32_t spread, int32_t *value) {
+    const struct tohiranga_settings settings = {4, 1, TOHIRANGA_FCA, TOHIRANGA_MEDIAN, window};
+    const uint8_t marks[4] = {1, 1, 1, 1};
+    uint8_t sheet[TOHIRANGA_SHEET_SIZE(4, TOHIRANGA_FCA)], answer[TOHIRANGA_ANSWER_SIZE(4)];
+    EXPECT(tohiranga_write(settings, marks, 4, readings, 4, sheet, sizeof sheet) == sizeof sheet);
+    memset(answer, OLD, sizeof answer);
+    const uint64_t said = tohiranga_settle_spread(sheet, sizeof sheet, spread, answer, sizeof answer);
+    if (tohiranga_number(said) == 0)
+        *value = tohiranga_ticks(tohiranga_answer_value(answer, (size_t)said));
+    else
+        for (size_t i = 0; i < sizeof answer; i++)
+            EXPECT(answer[i] == OLD);
+    return said;
+}
+
+static int four_give(uint32_t window, const int32_t *readings, uint32_t spread, int32_t wanted) {
+    int32_t value;
+    return settle_four(window, readings, spread, &value) == TOHIRANGA_ANSWER_SIZE(4) && value == wanted;
+}
+
+static void spreads(void) {
+    /* request 2's own numbers: 4 apart, as the limit allows; with a tick less the liar's reading is not accepted */
+    const int32_t low[4] = {0, 0, 0, -3}, high[4] = {2, 2, 2, 5};
+    EXPECT(four_give(1, low, 2, -1) && four_give(1, high, 2, 3));
+    EXPECT(four_give(1, low, 1, 0) && four_give(1, high, 1, 2));
+    /* cases 1 and 2 of the scope: the span is window and spread together, also for too many faults */
+    const int32_t cases[4] = {0, 4, 10, 500};
+    int32_t none;
+    EXPECT(four_give(10, cases, 0, 5) && four_give(9, cases, 1, 5) && four_give(0, cases, 10, 5));
+    EXPECT(settle_four(9, cases, 0, &none) == REFUSED(10, 0) && settle_four(0, cases, 9, &none) == REFUSED(10, 0));
+    /* the widest span, at either end of the readings */
+    const int32_t bottom[4] = {INT32_MIN, INT32_MIN, INT32_MIN + 1100000, 0}, top[4] = {0, INT32_MAX, INT32_MAX, INT32_MAX - 1100000};
+    EXPECT(four_give(TOHIRANGA_MAX_WINDOW, bottom, TOHIRANGA_MAX_SPREAD, INT32_MIN + 275000));
+    EXPECT(four_give(TOHIRANGA_MAX_WINDOW, top, TOHIRANGA_MAX_SPREAD, INT32_MAX - 275000));
+    EXPECT(settle_four(TOHIRANGA_MAX_WINDOW, bottom, TOHIRANGA_MAX_SPREAD - 1, &none) == REFUSED(10, 0));
+    EXPECT(settle_four(TOHIRANGA_MAX_WINDOW, top, TOHIRANGA_MAX_SPREAD - 1, &none) == REFUSED(10, 0));
+    EXPECT(settle_four(TOHIRANGA_MAX_WINDOW, bottom, TOHIRANGA_MAX_SPREAD + 1, &none) == REFUSED(16, 0));
+}
+
 /* ---- The reader and the writer */
 
 static struct tohiranga_opening read_into(struct lent sheet, struct lent marks, struct lent readings) {
@@ -429,6 +513,7 @@ int main(void) {
     EXPECT(tohiranga_version() == TOHIRANGA_VERSION);
     case_1();
     plans();
+    spreads();
     replay_stops();
     static uint8_t sheet[LARGEST], trace[LONGEST];
     const uint8_t sizes[] = {1, 2, 4, 7, 16, 33, 64}, rounds[] = {0, 1, 2, 6, 32};
@@ -437,6 +522,7 @@ int main(void) {
             for (uint8_t rule = 0; rule < 2; rule++) {
                 size_t len = make_sheet(sheet, sizes[i], rule);
                 settle_bad(sheet, len, sizes[i]);
+                spread_bad(sheet, len, sizes[i], rule);
                 read_and_write_bad(sheet, len, sizes[i], rule);
                 rows_bad(sheet, len, sizes[i], rule);
                 answers_bad(sheet, len, sizes[i]);

@@ -28,14 +28,14 @@ fn show_method(name: &str, rule: u8, estimator: u8) -> Result<(), Refusal> {
 
 fn main() -> Result<(), Refusal> {
     numbers! {
-        MAX_CABINETS MAX_WINDOW MAX_ACCURACY MAX_ROUNDS TICKS_PER_SECOND MAX_SHEET MAX_ANSWER
+        MAX_CABINETS MAX_WINDOW MAX_SPREAD MAX_ACCURACY MAX_ROUNDS TICKS_PER_SECOND MAX_SHEET MAX_ANSWER
         MAX_TRACE MAX_VALUES FCA CCA AVERAGE MEDIAN MIDPOINT
     }
     refusals! {
         TOO_SHORT BAD_CABINETS BAD_FAULTS BAD_METHOD BAD_WINDOW BAD_LENGTH NO_ROOM BAD_MARK BAD_MISSING TOO_MANY_FAULTS
-        BAD_PLAN TARGET_MISSED BAD_TRACE BAD_ROLES RUN_STOPPED
+        BAD_PLAN TARGET_MISSED BAD_TRACE BAD_ROLES RUN_STOPPED BAD_SPREAD
     }
-    for number in 0..17 {
+    for number in 0..18 {
         println!("refusal {number}: {}", Refusal { number, place: 0 }.meaning());
     }
     for n in (0..=255).step_by(7) {

@@ -16,6 +16,7 @@ pub const TICKS_PER_SECOND: u32 = 16_777_216;
 
 pub const MAX_CABINETS: u8 = 64;
 pub const MAX_WINDOW: u32 = 1_000_000;
+pub const MAX_SPREAD: u32 = 100_000;
 pub const MAX_ACCURACY: u32 = 1_000_000_000;
 pub const MAX_ROUNDS: u32 = 32;
 
@@ -111,6 +112,7 @@ impl Refusal {
     pub const BAD_TRACE: u32 = 13;
     pub const BAD_ROLES: u32 = 14;
     pub const RUN_STOPPED: u32 = 15;
+    pub const BAD_SPREAD: u32 = 16;
 
     /// What the number means.
     pub fn meaning(&self) -> &'static str {
@@ -136,6 +138,7 @@ impl Refusal {
             Self::RUN_STOPPED => {
                 "too many faults for a sound cabinet; the place is 64 x round (from 1) + cabinet"
             }
+            Self::BAD_SPREAD => "the spread is above 100,000, or above 0 with CCA",
             _ => "no refusal of this library",
         }
     }
@@ -235,6 +238,13 @@ extern "C" {
         answer: *mut u8,
         answer_len: usize,
     ) -> u64;
+    fn tohiranga_settle_spread(
+        sheet: *const u8,
+        sheet_len: usize,
+        spread: u32,
+        answer: *mut u8,
+        answer_len: usize,
+    ) -> u64;
     fn tohiranga_read(
         sheet: *const u8,
         sheet_len: usize,
@@ -276,6 +286,21 @@ pub fn settle(sheet: &[u8], answer: &mut [u8]) -> Result<usize, Refusal> {
     // SAFETY: each pointer goes with its slice's length, and the borrows keep the slices apart.
     granted(unsafe {
         tohiranga_settle(sheet.as_ptr(), sheet.len(), answer.as_mut_ptr(), answer.len())
+    })
+}
+
+/// Settles a round sheet where two sound cabinets' readings of a good one differ by up to a spread, 0 to `MAX_SPREAD`
+/// ticks. All cabinets of a station give the same one; above 0 it is for FCA alone. `settle` is this with the spread 0.
+pub fn settle_spread(sheet: &[u8], spread: u32, answer: &mut [u8]) -> Result<usize, Refusal> {
+    // SAFETY: each pointer goes with its slice's length, and the borrows keep the slices apart.
+    granted(unsafe {
+        tohiranga_settle_spread(
+            sheet.as_ptr(),
+            sheet.len(),
+            spread,
+            answer.as_mut_ptr(),
+            answer.len(),
+        )
     })
 }
 

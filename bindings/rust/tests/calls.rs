@@ -28,6 +28,62 @@ fn settles() {
     assert_eq!(settle(&[], &mut []), refused(1, 0));
 }
 
+/// The new value of four cabinets, planned for one fault, FCA with median.
+fn settled(window: u32, readings: [i32; 4], spread: u32) -> Result<i32, Refusal> {
+    let (mut sheet, mut answer) = ([0; 28], [0xa5; 31]);
+    write(Settings { window, ..SETTINGS }, &[1; 4], &readings, &mut sheet)?;
+    let given = settle_spread(&sheet, spread, &mut answer);
+    assert_eq!(answer[30], 0xa5);
+    if given.is_err() {
+        assert_eq!(answer, [0xa5; 31]);
+    }
+    given.map(|length| Answer::new(&answer[..length]).unwrap().value())
+}
+
+#[test]
+fn settles_with_a_spread() {
+    // request 2's own numbers; a tick less, and the liar's reading is not accepted
+    assert_eq!((settled(1, [0, 0, 0, -3], 2), settled(1, [2, 2, 2, 5], 2)), (Ok(-1), Ok(3)));
+    assert_eq!((settled(1, [0, 0, 0, -3], 1), settled(1, [2, 2, 2, 5], 1)), (Ok(0), Ok(2)));
+    assert_eq!(
+        (settled(9, [0, 4, 10, 500], 0), settled(9, [0, 4, 10, 500], 1)),
+        (refused(10, 0), Ok(5))
+    );
+    assert_eq!(settled(MAX_WINDOW, [0, 0, 1_100_000, i32::MIN], MAX_SPREAD), Ok(275_000));
+    assert_eq!(settled(MAX_WINDOW, [0, 0, 1_100_000, i32::MIN], MAX_SPREAD - 1), refused(10, 0));
+    assert_eq!(settled(MAX_WINDOW, [0; 4], MAX_SPREAD + 1), refused(Refusal::BAD_SPREAD, 0));
+    // without one it is `settle`
+    let mut wide = sheet();
+    wide[4] = 20;
+    let (mut plain, mut answer) = ([0xa5; 31], [0xa5; 31]);
+    assert_eq!(settle(&wide, &mut plain), settle_spread(&wide, 0, &mut answer));
+    assert_eq!(plain, answer);
+}
+
+/// 16 comes after 5, and before 6 and 7.
+#[test]
+fn refuses_a_spread() {
+    let mut answer = [0xa5; 30];
+    let (fits, above) = (MAX_SPREAD, MAX_SPREAD + 1);
+    assert_eq!(settle_spread(&sheet(), above, &mut answer), refused(16, 0));
+    assert_eq!(settle_spread(&sheet(), u32::MAX, &mut []), refused(16, 0));
+    assert_eq!(settle_spread(&sheet()[..27], above, &mut answer), refused(16, 0));
+    assert_eq!(settle_spread(&sheet()[..27], fits, &mut answer), refused(6, 0));
+    assert_eq!(settle_spread(&sheet(), fits, &mut answer[..29]), refused(7, 0));
+    assert_eq!(settle_spread(&[], above, &mut []), refused(1, 0));
+    let mut window = sheet();
+    window[7] = 1;
+    assert_eq!(settle_spread(&window, above, &mut answer), refused(5, 0));
+    assert_eq!(answer, [0xa5; 30]);
+    let (crusaders, mut relayed) = (Settings { rule: CCA, ..SETTINGS }, [0; 88]);
+    write(crusaders, &[1; 16], &[0; 16], &mut relayed).unwrap();
+    for spread in [1, fits, above] {
+        assert_eq!(settle_spread(&relayed, spread, &mut answer), refused(16, 0));
+    }
+    assert_eq!(answer, [0xa5; 30]);
+    assert_eq!(settle_spread(&relayed, 0, &mut answer), Ok(30));
+}
+
 #[test]
 fn reads_back_what_was_written() {
     let (mut marks, mut readings) = ([9; 5], [9; 5]);

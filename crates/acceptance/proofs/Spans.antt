@@ -5,18 +5,19 @@ use mathlib.Core.Bool.{Bool, true, false, cond, not, _&&_}
 use mathlib.Core.List.{List}
 use mathlib.Core.Logic.{_⊎_, inr, ⊎-elim}
 use mathlib.Core.Path.{_≡_, refl, sym, ap, _∙_}
-use Prim.Native.Nat.{ℕ, zero, suc, _+_, _≤_, _<_, zero-le, suc-le-suc}
-use native.Mathlib.Nat.{le-refl, le-of-suc-le-suc, not-suc-le-zero, lt-irrefl}
+use Prim.Native.Nat.{ℕ, zero, suc, _+_, _-_, _≤_, _<_, zero-le, suc-le-suc}
+use native.Mathlib.Nat.{le-refl, le-trans, le-of-suc-le-suc, not-suc-le-zero, lt-irrefl}
 use native.Mathlib.Omega.{arith}
 use borrow.Author.Count.{below-more}
-use borrow.Author.Tests.{le-leb, lt-leb, eqb-true, eqb-false, lt-ltb, le-ltb, ltb-true}
+use borrow.Author.Tests.{le-leb, lt-leb, leb-true, eqb-true, eqb-false, lt-ltb, le-ltb, ltb-true}
 use lib.Dec.{leb, ltb, eqb}
 use lib.ListN.{length, getD, set, length-set}
 use mir.Val.{boolByte}
 use lib.Seq.{getD-set-same, getD-set-other}
 use Rattle.arithmetic.specs.Counting.{bit, count}
 use Rattle.arithmetic.proofs.Bools.{and-left, and-right, and-intro, and-false, clash}
-use Rattle.arithmetic.proofs.Counting.{split-last, count-le, count-ext, any-true, any-false, any-ext}
+use Rattle.arithmetic.proofs.Counting.{split-last, count-le, count-ext, count-mono, count-not}
+use Rattle.arithmetic.proofs.Counting.{any-some, any-true, any-false, any-ext}
 use Rattle.arithmetic.specs.Words.{twoTo31}
 use Rattle.model.specs.Ensemble.{maxCabinets}
 use Rattle.round_laws.specs.Naturals.{spans, accepted-nat}
@@ -26,7 +27,8 @@ use Rattle.loop_laws.proofs.Loops.{flag, count-next}
 use Rattle.held.specs.Held.{valueAt, presentIn}
 use Rattle.spans.specs.Spans.{inSpan, heldAt}
 use Rattle.span_counts.specs.Places.{places}
-use Rattle.acceptance.specs.Values.{acceptedIn, enoughAt, admits, admitted, Remembered, Holds, onePass, passedAt, Counting}
+use Rattle.acceptance.specs.Values.{acceptedIn, enoughAt, admits, admitted, Remembered, Holds}
+use Rattle.acceptance.specs.Values.{onePass, passedAt, Counting}
 
 -- ---- counting
 
@@ -38,6 +40,12 @@ count-grows p m (suc n) h =
     (λ l. let ih = count-grows p m n (le-of-suc-le-suc l) in omega arith)
     (λ e. rw e (le-refl (count p n + bit (p n))))
     (split-last m (suc n) (suc-le-suc h))
+
+-- each index left counts for one at most
+count-left : (p : ℕ → Bool) (m n : ℕ) → m ≤ n → count p n ≤ count p m + (n - m)
+count-left p m n h =
+    let misses = count-grows (λ i. not (p i)) m n h in
+    omega (arith, count-not p m, count-not p n, misses)
 
 -- what a present reading counts for, and a missing one
 module _ (start w : ℕ) (marks values : List ℕ) (t : ℕ) {p : Bool} (e : p ≡ presentIn marks t) where
@@ -162,6 +170,67 @@ module _ (w need : ℕ) (marks values : List ℕ) where
       go true e = absurd (clash (held-present r e) m)
       go false e = refl
 
+  -- a present reading in the span of a start that holds enough is accepted
+  span-accepts :
+      (s r : ℕ)
+      → s < length marks
+      → (presentIn marks s ≡ true) × (enoughAt w need marks values s ≡ true)
+      → presentIn marks r ≡ true
+      → inSpan (valueAt values s) w (valueAt values r) ≡ true
+      → acceptedIn w need marks values r ≡ true
+  unfolding admitted admits
+  span-accepts s r below holds present inside =
+      accepted-admitted r present
+      ∙ any-true (admits w need marks values (valueAt values r)) (length marks) s below
+      (and-intro (and-intro (holds .0) inside) (holds .1))
+
+  -- as the code tests it
+  pub joined-accepted :
+      (s r : ℕ) {b : Bool}
+      → length values ≡ length marks
+      → Holds w need marks values s
+      → b ≡ (presentIn marks r && (ltb s (length values) && inSpan (valueAt values s) w (valueAt values r)))
+      → b ≡ true
+      → acceptedIn w need marks values r ≡ true
+  joined-accepted s r alike holds e t =
+      let both = sym e ∙ t in
+      let span = and-right (presentIn marks r) _ both in
+      let below : s < length marks = omega (arith, ltb-true s (length values) (and-left _ _ span)) in
+      span-accepts s r below (holds below) (and-left (presentIn marks r) _ both)
+      (and-right (ltb s (length values)) _ span)
+
+  -- so an accepted reading is one of enough
+  accepted-enough :
+      (r : ℕ) → acceptedIn w need marks values r ≡ true → need ≤ count (acceptedIn w need marks values) (length marks)
+  unfolding admitted admits enoughAt heldAt
+  accepted-enough r e =
+      let found =
+      any-some (admits w need marks values (valueAt values r)) (length marks)
+      (sym (accepted-admitted r (held-present r e)) ∙ e) in
+      let s = found .0 in
+      let from = presentIn marks s && inSpan (valueAt values s) w (valueAt values r) in
+      let enough = and-right from _ (found .2) in
+      let start = and-left (presentIn marks s) _ (and-left from _ (found .2)) in
+      le-trans (leb-true need _ enough)
+      (count-mono (heldAt (valueAt values s) w marks values) (acceptedIn w need marks values) (length marks)
+      (λ t _ h.
+      span-accepts s t (found .1) (start, enough) (and-left (presentIn marks t) _ h)
+      (and-right (presentIn marks t) _ h)))
+
+  -- where those before a reading and those left are too few, it is not
+  too-few-not :
+      (r : ℕ)
+      → r < length marks
+      → count (acceptedIn w need marks values) r + (length marks - r) < need
+      → acceptedIn w need marks values r ≡ false
+  too-few-not r l few = go (acceptedIn w need marks values r) refl
+    where
+      go : (b : Bool) → acceptedIn w need marks values r ≡ b → b ≡ false
+      go true e =
+          let most = count-left (acceptedIn w need marks values) r (length marks) (omega arith) in
+          absurd (omega (arith, few, most, accepted-enough r e))
+      go false e = refl
+
   -- what is answered of v: a start that admits it, or none
   abbrev pub Answer : ℕ → List ℕ → ℕ → Type 0
   Answer v known s =
@@ -193,54 +262,53 @@ module _ (w need : ℕ) (marks values : List ℕ) where
       (ltb s (length marks) ≡ acceptedIn w need marks values r)
       × (Holds w need marks values s × Remembered w need marks values known)
 
-  -- a missing one is not accepted
+  -- one that is not accepted
+  decided-not :
+      (r : ℕ) (known : List ℕ)
+      → acceptedIn w need marks values r ≡ false
+      → Remembered w need marks values known
+      → Decision r known (length marks)
+  decided-not r known e m = (
+    le-ltb (length marks) (length marks) (le-refl (length marks)) ∙ sym e,
+    (λ l. absurd (lt-irrefl (length marks) l), m),
+  )
+
+  -- a missing one
   pub decided-missing :
       (r : ℕ) (known : List ℕ)
       → presentIn marks r ≡ false
       → Remembered w need marks values known
       → Decision r known (length marks)
-  decided-missing r known e m = (
-    le-ltb (length marks) (length marks) (le-refl (length marks)) ∙ sym (missing-not r e),
-    (λ l. absurd (lt-irrefl (length marks) l), m),
+  decided-missing r known e m = decided-not r known (missing-not r e) m
+
+  -- one where the accepted ones before it and those left are too few
+  pub decided-too-few :
+      (r : ℕ) (known : List ℕ) (before : ℕ) {b : Bool}
+      → r < length marks
+      → before ≡ count (acceptedIn w need marks values) r
+      → b ≡ ltb (before + (length marks - r)) need
+      → b ≡ true
+      → Remembered w need marks values known
+      → Decision r known (length marks)
+  decided-too-few r known before l exact e t m =
+      let few = ltb-true (before + (length marks - r)) need (sym e ∙ t) in
+      decided-not r known (too-few-not r l (omega (arith, few, exact))) m
+
+  -- the answer of its value is its own, and the start that gives it is remembered
+  pub decided-answered :
+      (r : ℕ) (known : List ℕ) (s : ℕ)
+      → presentIn marks r ≡ true
+      → length known ≡ 65
+      → length marks ≤ maxCabinets
+      → Answer (valueAt values r) known s
+      → Decision r (set known s 2) s
+  decided-answered r known s present long few a = (
+    a .0 .1 ∙ sym (accepted-admitted r present),
+    (
+      a .1 .0,
+      remember known s 2 (omega (arith, a .0 .0)) (λ l. ap (λ (b : Bool). 1 + bit b) (sym (a .1 .0 l .1))) (a .1 .1),
+    ),
   )
-
-  module _ (r : ℕ) (known : List ℕ) (present : presentIn marks r ≡ true) where
-    -- one in the span of a start that holds enough is
-    pub decided-earlier :
-        (s : ℕ) {b : Bool}
-        → length values ≡ length marks
-        → Holds w need marks values s
-        → b ≡ (ltb s (length values) && inSpan (valueAt values s) w (valueAt values r))
-        → b ≡ true
-        → Remembered w need marks values known
-        → Decision r known s
-    unfolding admitted admits
-    decided-earlier s alike holds e t m =
-        let t′ = sym e ∙ t in
-        let below : s < length marks = omega (arith, ltb-true s (length values) (and-left _ _ t′)) in
-        let h = holds below in (
-          lt-ltb s (length marks) below
-              ∙ sym
-              (accepted-admitted r present
-              ∙ any-true (admits w need marks values (valueAt values r)) (length marks) s below
-              (and-intro (and-intro (h .0) (and-right (ltb s (length values)) _ t′)) (h .1))),
-          (holds, m),
-        )
-
-    -- the answer of its value is its own, and the start that gives it is remembered
-    pub decided-answered :
-        (s : ℕ)
-        → length known ≡ 65
-        → length marks ≤ maxCabinets
-        → Answer (valueAt values r) known s
-        → Decision r (set known s 2) s
-    decided-answered s long few a = (
-      a .0 .1 ∙ sym (accepted-admitted r present),
-      (
-        a .1 .0,
-        remember known s 2 (omega (arith, a .0 .0)) (λ l. ap (λ (b : Bool). 1 + bit b) (sym (a .1 .0 l .1))) (a .1 .1),
-      ),
-    )
 
   -- where the starts below s are tried, and the memory is sound
   pub record Tried (v : ℕ) (known : List ℕ) (s : ℕ) : Type 0 where

@@ -69,6 +69,40 @@ module _ (w need : ℕ) (marks values : List ℕ) (flags₀ : List Bool) where
         let f = so-far .alike .1 in
         omega arith
 
+    -- a reading's test
+    test-next :
+        r < length marks
+        → (known′ : List ℕ)
+        → length known′ ≡ length known
+        → Remembered w need marks values known′
+        → (b : Bool)
+        → b ≡ acceptedIn w need marks values r
+        → (next : ℕ)
+        → Holds w need marks values next
+        → (k : ℕ)
+        → k ≡ bit b
+        → Testing known′ (set flags r b) (c + k) next (r + 1)
+    test-next h known′ l m b e next holds k q =
+        record {
+          upTo = omega arith;
+          alike = (so-far .alike .0, so-far .alike .1, l ∙ so-far .alike .2);
+          room = so-far .room;
+          memory = m;
+          start = holds;
+          exact =
+              ap₂ (λ (x y : ℕ). x + y) (so-far .exact) (q ∙ ap bit e)
+              ∙ sym (count-next passing r);
+          written = store-next passing r flags₀ flags b (so-far .written) e (omega (arith, so-far .room));
+        }
+
+    -- by the start that accepted an earlier one
+    pub test-joined :
+        r < length marks
+        → acceptedIn w need marks values r ≡ true
+        → Testing known (set flags r true) (c + 1) earlier (r + 1)
+    test-joined h e = test-next h known refl (so-far .memory) true (sym e) earlier (so-far .start) 1 refl
+
+    -- by the start that is found
     pub test-one :
         r < length marks
         → (known′ : List ℕ)
@@ -82,20 +116,8 @@ module _ (w need : ℕ) (marks values : List ℕ) (flags₀ : List Bool) where
         → (k : ℕ)
         → k ≡ bit (ltb s (length marks))
         → Testing known′ (set flags r (ltb s (length marks))) (c + k) next (r + 1)
-    test-one h known′ l m s e holds next n k b =
-        record {
-          upTo = omega arith;
-          alike = (so-far .alike .0, so-far .alike .1, l ∙ so-far .alike .2);
-          room = so-far .room;
-          memory = m;
-          start = rw n (go (ltb s (length marks)));
-          exact =
-              ap₂ (λ (x y : ℕ). x + y) (so-far .exact) (b ∙ ap bit e)
-              ∙ sym (count-next passing r);
-          written =
-              store-next passing r flags₀ flags (ltb s (length marks)) (so-far .written) e
-              (omega (arith, so-far .room));
-        }
+    test-one h known′ l m s e holds next n k q =
+        test-next h known′ l m (ltb s (length marks)) e next (rw n (go (ltb s (length marks)))) k q
       where
         go : (b : Bool) → Holds w need marks values (cond b s earlier)
         go true = holds

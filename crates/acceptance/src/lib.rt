@@ -7,6 +7,7 @@ ghost use lib.ListN.{length};
 ghost use Rattle.arithmetic.specs.Counting.{bit, count};
 ghost use Rattle.arithmetic.specs.Writing.{table, overwrite};
 ghost use Rattle.model.specs.Ensemble.{maxCabinets};
+ghost use Rattle.held.specs.Held.{presentIn, valueAt};
 ghost use Rattle.spans.specs.Spans.{inSpan, heldAt};
 ghost use Rattle.acceptance.specs.Values.{acceptedIn, acceptedCount, countGiven, flagsOf};
 ghost use Rattle.acceptance.specs.Values.{admitted, passedAt, Counting, Alike, Remembered, Holds};
@@ -110,19 +111,28 @@ fn accepts(
     s
 }
 
-// The same of any reading. The start that accepted an earlier one is tried first. A start that accepts is remembered;
-// the place behind the last one is that of none.
-fn accepts_after(
+// Whether the accepted readings and those left are fewer than needed.
+fn too_few(before: u32, left: usize, need: u32) -> bool
+    requires { ⌜ (before ≤ maxCabinets) × (left ≤ maxCabinets) ⌝ }
+    ensures { λ r. ⌜ r ≡ ltb (before + left) need ⌝ }
+{
+    before + (left as u32) < need
+}
+
+// The first start whose span accepts a reading, by how many before it are accepted; the number of readings where none
+// does. Such a span holds accepted readings alone: where those before it and those left are too few, no start is tried.
+// A start that accepts is remembered; the place behind the last one is that of none.
+fn find_start(
     marks: &[u8],
     values: &[u32],
     span: u32,
     need: u32,
     known: &mut [u8],
-    earlier: usize,
+    before: u32,
     r: usize,
 ) -> usize
     requires { ⌜ Alike (now marks) (now values) (now known) × (r < length (now marks)) ⌝ }
-    requires { ⌜ Holds span need (now marks) (now values) earlier ⌝ }
+    requires { ⌜ before ≡ count (acceptedIn span need (now marks) (now values)) r ⌝ }
     requires { ⌜ Remembered span need (now marks) (now values) (now known) ⌝ }
     ensures { λ a. ⌜
         ltb a (length (now (marks .entry)))
@@ -133,13 +143,27 @@ fn accepts_after(
     if marks[r] != PRESENT {
         return marks.len();
     }
-    let value = values[r];
-    if starts::spanned_from(values, earlier, span, value) {
-        return earlier;
+    if too_few(before, marks.len() - r, need) {
+        return marks.len();
     }
-    let s = accepts(marks, values, span, need, &mut *known, value);
+    let s = accepts(marks, values, span, need, &mut *known, values[r]);
     known[s] = ENOUGH;
     s
+}
+
+// Whether a present reading lies in the span of the start that accepted an earlier one.
+fn joins(marks: &[u8], values: &[u32], span: u32, earlier: usize, r: usize) -> bool
+    requires { ⌜ (length (now values) ≡ length (now marks)) × (r < length (now marks)) ⌝ }
+    ensures { λ b. ⌜
+        b
+        ≡ (presentIn (now (marks .entry)) r
+        && (ltb earlier (length (now (values .entry)))
+        && inSpan (valueAt (now (values .entry)) earlier) span (valueAt (now (values .entry)) r))) ⌝ }
+{
+    if marks[r] != PRESENT {
+        return false;
+    }
+    starts::spanned_from(values, earlier, span, values[r])
 }
 
 fn later(first: usize, n: usize, second: usize) -> usize
@@ -148,7 +172,8 @@ fn later(first: usize, n: usize, second: usize) -> usize
     if first < n { first } else { second }
 }
 
-// Says of each reading whether it is accepted, and counts the accepted ones.
+// Says of each reading whether it is accepted, and counts the accepted ones. The start that accepted an earlier one is
+// tried first.
 fn accept_each(
     marks: &[u8],
     values: &[u32],
@@ -170,10 +195,15 @@ fn accept_each(
     let mut earlier = marks.len();
     let mut r = 0;
     'readings: while r < marks.len() {
-        let start = accepts_after(marks, values, span, need, &mut *known, earlier, r);
-        accepted[r] = start < marks.len();
-        count += starts::passes(start, marks.len());
-        earlier = later(start, marks.len(), earlier);
+        if joins(marks, values, span, earlier, r) {
+            accepted[r] = true;
+            count += 1;
+        } else {
+            let start = find_start(marks, values, span, need, &mut *known, count, r);
+            accepted[r] = start < marks.len();
+            count += starts::passes(start, marks.len());
+            earlier = later(start, marks.len(), earlier);
+        }
         r += 1;
     }
     count

@@ -24,26 +24,26 @@ use Rattle.estimates.specs.declared.Estimated.{Estimated}
 use Rattle.acceptance.specs.Values.{acceptedIn, acceptedCount}
 use Rattle.agreement.specs.Values.{agreedRound, agreedOf}
 
-module _ (c : Settings) (v : Readings) (marks values : List ℕ) (long : length marks ≡ c .n)
+module _ (c : Settings) (D : ℕ) (v : Readings) (marks values : List ℕ) (long : length marks ≡ c .n)
     (same : EqualBelow (c .n) v (readingsIn marks values)) where
   -- the round that is agreed on
   abbrev pub agreed : Round
-  agreed = agreedRound (spanWidth c) (quorum c) (c .estimator) marks values
+  agreed = agreedRound (spanWidth c D) (quorum c) (c .estimator) marks values
 
   -- it is the round of the readings
-  pub agreed-is : EqualRounds (c .n) agreed (roundOf c v)
+  pub agreed-is : EqualRounds (c .n) agreed (roundOf c D v)
   unfolding roundOf acceptedAt acceptedIn
   agreed-is =
-      subst (λ (r : Round). EqualRounds (c .n) r (roundOf c v)) (sym here)
-      (round-local c (readingsIn marks values) v (λ r l. sym (same r l)))
+      subst (λ (r : Round). EqualRounds (c .n) r (roundOf c D v)) (sym here)
+      (round-local c D (readingsIn marks values) v (λ r l. sym (same r l)))
     where
       of : ℕ → Round
       of n =
-          roundWith n (readingsIn marks values) (accepted (spanWidth c) (quorum c) n (readingsIn marks values))
-          (estimate (c .estimator) (accepted (spanWidth c) (quorum c) n (readingsIn marks values)) n
+          roundWith n (readingsIn marks values) (accepted (spanWidth c D) (quorum c) n (readingsIn marks values))
+          (estimate (c .estimator) (accepted (spanWidth c D) (quorum c) n (readingsIn marks values)) n
           (readingsIn marks values))
 
-      here : agreed ≡ roundOf c (readingsIn marks values)
+      here : agreed ≡ roundOf c D (readingsIn marks values)
       here = ap of long
 
 -- the lists hold the readings
@@ -67,40 +67,42 @@ module _ (c : Settings) (v : Readings)
       (ap (λ (k : List ℕ). getD k r 0) valued ∙ getD-table (λ r. heldValue (v r)) (c .n) r 0 l)
       ∙ kept r l)
 
-  abbrev counted : ℕ
-  counted = acceptedCount (spanWidth c) (quorum c) marks values
+  pub fit-held : c .n ≤ maxCabinets → unfit (length marks) (length values) ≡ false
+  fit-held few =
+      rw (marks-long, values-long, le-ltb maxCabinets (c .n) few, eq-eqb (c .n) (c .n) refl)
 
-  pub counted-is : counted ≡ roundOf c v .count
-  unfolding acceptedCount
-  counted-is = agreed-is c v marks values marks-long same-held .count
+  -- with a spread
+  module _ (D : ℕ) where
+    abbrev counted : ℕ
+    counted = acceptedCount (spanWidth c D) (quorum c) marks values
 
-  module _ (few : c .n ≤ maxCabinets) where
-    pub fit-held : unfit (length marks) (length values) ≡ false
-    fit-held =
-        rw (marks-long, values-long, le-ltb maxCabinets (c .n) few, eq-eqb (c .n) (c .n) refl)
+    pub counted-is : counted ≡ roundOf c D v .count
+    unfolding acceptedCount
+    counted-is = agreed-is c D v marks values marks-long same-held .count
 
-    abbrev given : Estimated
-    given = agreedOf (spanWidth c) (quorum c) (c .estimator) marks values
+    module _ (few : c .n ≤ maxCabinets) where
+      abbrev given : Estimated
+      given = agreedOf (spanWidth c D) (quorum c) (c .estimator) marks values
 
-    pub agreed-count : given .count ≡ roundOf c v .count
-    unfolding agreedOf
-    agreed-count = rw fit-held (go counted refl)
-      where
-        go :
-            (k : ℕ) → counted ≡ k
-            → (cond (eqb k 0) nothing
-            (record {
-              count = counted;
-              estimate = up twoTo31 (agreed c v marks values marks-long same-held .estimate);
-              value = up twoTo31 (agreed c v marks values marks-long same-held .value);
-            }))
-            .count
-            ≡ roundOf c v .count
-        go zero e = sym e ∙ counted-is
-        go (suc k) e = rw (ne-eqb (suc k) 0 (λ h. omega arith)) counted-is
+      pub agreed-count : given .count ≡ roundOf c D v .count
+      unfolding agreedOf
+      agreed-count = rw (fit-held few) (go counted refl)
+        where
+          go :
+              (k : ℕ) → counted ≡ k
+              → (cond (eqb k 0) nothing
+              (record {
+                count = counted;
+                estimate = up twoTo31 (agreed c D v marks values marks-long same-held .estimate);
+                value = up twoTo31 (agreed c D v marks values marks-long same-held .value);
+              }))
+              .count
+              ≡ roundOf c D v .count
+          go zero e = sym e ∙ counted-is
+          go (suc k) e = rw (ne-eqb (suc k) 0 (λ h. omega arith)) counted-is
 
-    pub agreed-value : (roundOf c v .count ≡ 0 → ⊥) → given .value ≡ up twoTo31 (roundOf c v .value)
-    unfolding agreedOf
-    agreed-value d =
-        rw (fit-held, ne-eqb counted 0 (λ h. d (sym counted-is ∙ h)))
-        (ap (up twoTo31) (agreed-is c v marks values marks-long same-held .value))
+      pub agreed-value : (roundOf c D v .count ≡ 0 → ⊥) → given .value ≡ up twoTo31 (roundOf c D v .value)
+      unfolding agreedOf
+      agreed-value d =
+          rw (fit-held few, ne-eqb counted 0 (λ h. d (sym counted-is ∙ h)))
+          (ap (up twoTo31) (agreed-is c D v marks values marks-long same-held .value))

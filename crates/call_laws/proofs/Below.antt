@@ -10,7 +10,6 @@ use native.Mathlib.Omega.{arith}
 use lib.Dec.{ltb, eqb}
 use lib.ListN.{length}
 use Rattle.arithmetic.specs.Counting.{anyBelow, lowest}
-use Rattle.arithmetic.specs.Words.{twoTo32}
 use Rattle.arithmetic.proofs.Counting.{lowest-found}
 use Rattle.model.specs.declared.Refusal.{Refusal}
 use Rattle.model.specs.Ensemble.{maxCabinets}
@@ -18,7 +17,6 @@ use Rattle.model.specs.RoundSheet.{fca, settingsAt}
 use Rattle.model.specs.Planner.{maxRounds}
 use Rattle.model.specs.Refusals.{Check, refusal, firstOf, badTraceNumber, badRolesNumber, runStoppedNumber}
 use Rattle.model.specs.Refusals.{arrayChecks}
-use Rattle.model.specs.Calls.{verdict}
 use Rattle.refusal_laws.proofs.Checks.{first-snoc, next-none-left}
 use Rattle.refusal_laws.proofs.Numbers.{Says, says-if, plain-append, check-more, plain-one, each, short-says, room-says}
 use Rattle.refusal_laws.proofs.Numbers.{plain-settings}
@@ -29,10 +27,9 @@ use Rattle.trace_heads.specs.Heads.{headChecks}
 use Rattle.trace_heads.proofs.Heads.{Headed, headed}
 use Rattle.trace_checks.specs.Bodies.{rolesOf, bodyOf}
 use Rattle.trace_checks.proofs.Traced.{shaped, trace-checks}
-use Rattle.packed_refusals.specs.Answers.{packed}
-use Rattle.call_laws.specs.Statements.{ReplayTells, ReplayBelow}
+use Rattle.call_laws.specs.Statements.{ReplayBelow}
 use Rattle.call_laws.proofs.Sound.{InTable, Sound, none-sound, next-sound, says-sound, plain-sound, array-sound}
-use Rattle.call_laws.proofs.Sound.{refusal-tells}
+use Rattle.call_laws.proofs.Sound.{size-tells}
 
 roles-say : (s : List ℕ) (n rounds : ℕ) → Says badRolesNumber (rolesOf s n rounds)
 unfolding rolesOf
@@ -127,14 +124,9 @@ module _ (s : List ℕ) (room : ℕ) where
       (sym (first-snoc (traceChecks s room) (runStopped s (roundsAt s))) ∙ passes))
       .within .cabinets
 
-tells : (check : Check) (size : ℕ) → Sound 15 check → (check ≡ none → size < twoTo32)
-    → ReplayTells (verdict check size) (packed (verdict check size))
-tells none size t small = small refl
-tells (some r) size t small = refusal-tells r (t .told r refl)
-
 pub replay-below : ReplayBelow
 unfolding replay replayTo
 replay-below s values =
-    tells (firstOf (replayChecks s (roundsAt s) (length values))) (4 * settingsAt s .n)
+    size-tells (firstOf (replayChecks s (roundsAt s) (length values))) (4 * settingsAt s .n)
     (replay-sound s (length values))
     λ passes. let few = few-cabinets s (length values) passes in omega arith

@@ -18,8 +18,9 @@ use Rattle.model.specs.Refusals.{Check, atEntry, orNext, firstOf, badMarkNumber
 use Rattle.model.specs.Refusals.{notZero, badMark, badMissing, arrayChecks}
 use Rattle.refusal_laws.proofs.Numbers.{Says, entry-says, Plain, no-checks, check-more, each}
 use Rattle.refusal_laws.proofs.Numbers.{mark-number, missing-number}
-use Rattle.packed_refusals.specs.Answers.{packedRefusal}
-use Rattle.call_laws.specs.Statements.{Refuses}
+use Rattle.model.specs.Calls.{verdict}
+use Rattle.packed_refusals.specs.Answers.{packedRefusal, packed}
+use Rattle.call_laws.specs.Statements.{Refuses, Tells}
 use Rattle.call_laws.proofs.Halves.{upper-back, lower-back}
 
 pub record InTable (most : ℕ) (r : Refusal) : Type 0 where
@@ -111,3 +112,10 @@ refusal-tells r t =
       first = t .first;
       last = t .last;
     }
+
+-- a length, or the first refusal, packed
+pub size-tells :
+    {most : ℕ} (check : Check) (size : ℕ) → Sound most check → (check ≡ none → size < twoTo32)
+    → Tells most (verdict check size) (packed (verdict check size))
+size-tells none size t small = small refl
+size-tells (some r) size t small = refusal-tells r (t .told r refl)

@@ -2,16 +2,19 @@
 -- number, 1 to 12, and its place. A refusal has the place of an entry only where the settings pass, and these have at
 -- most 4,096 entries.
 -- Assumes nothing.
-use mathlib.Core.Bool.{Bool, _||_}
+use mathlib.Core.Bool.{Bool, true, _||_}
 use mathlib.Core.List.{List}
 use mathlib.Core.Option.{none, some}
 use mathlib.Core.Path.{_≡_, refl, sym, _∙_}
 use Prim.Native.Nat.{ℕ, _+_, _*_, _≤_, _<_}
+use native.Mathlib.Nat.{le-trans}
 use native.Mathlib.Omega.{arith}
-use lib.Dec.{ltb}
+use borrow.Author.Tests.{leb-true, le-leb}
+use lib.Dec.{leb, ltb}
 use lib.IntN.{ℤ}
 use lib.ListN.{length}
 use Rattle.arithmetic.specs.Words.{twoTo32}
+use Rattle.arithmetic.proofs.Bools.{and-intro}
 use Rattle.model.specs.declared.Settings.{Settings}
 use Rattle.model.specs.RoundSheet.{byte, word, settingsAt, entryCount}
 use Rattle.model.specs.RoundSheet.{sheetLength, markAt, bitsAt, bitsIn}
@@ -20,25 +23,27 @@ use Rattle.model.specs.Steps.{roundAt}
 use Rattle.model.specs.Planner.{Plan, planFrom, advance, after, windowAfter, maxAccuracy, maxRounds}
 use Rattle.model.specs.Refusals.{Check, firstOf}
 use Rattle.model.specs.Refusals.{badLength, noRoom}
-use Rattle.model.specs.Refusals.{settingsChecks, sheetChecks, entryChecks, planningChecks}
+use Rattle.model.specs.Refusals.{settingsChecks, sheetChecks, spreadChecks, entryChecks, planningChecks}
+use Rattle.model.specs.Refusals.{noRoomNumber, badMarkNumber, badMissingNumber, tooManyFaultsNumber}
 use Rattle.model.specs.Refusals.{readChecks, writeChecks, settleChecks, planChecks, stepChecks, targetChecks}
-use Rattle.model.specs.Calls.{Verdict, granted, refused, verdict, read, write, settle, plan, step, Target}
+use Rattle.model.specs.Calls.{Verdict, granted, refused, verdict, read, write, settleSpread, settle, plan, step, Target}
 use Rattle.refusal_laws.proofs.Checks.{first-snoc, next-none-left}
 use Rattle.refusal_laws.proofs.Limits.{limits, entries-most}
 use Rattle.refusal_laws.proofs.Numbers.{check-more, plain-append, plain-one, each}
 use Rattle.refusal_laws.proofs.Numbers.{length-says, room-says, faults-says, plan-says, target-says, cabinets-say}
-use Rattle.refusal_laws.proofs.Numbers.{plain-settings, plain-sheet}
+use Rattle.refusal_laws.proofs.Numbers.{plain-settings, plain-sheet, plain-spread}
 use Rattle.sheet_laws.proofs.Checks.{settings-passed}
 use Rattle.sheet_laws.proofs.Words.{word-fits}
-use Rattle.sheet_laws.proofs.Orders.{read-checks, write-checks, settle-checks}
+use Rattle.sheet_laws.proofs.Orders.{read-checks, write-checks, spread-passed, no-spread, settle-checks}
 use Rattle.planner_laws.proofs.Checks.{none-may-start, none-may-step}
 use Rattle.planner_laws.proofs.Rounds.{rounds-after}
 use Rattle.answer_reader.specs.Fields.{answerChecks, cabinetChecks, cabinetsIn, countIn, estimateIn}
 use Rattle.answer_reader.specs.Fields.{valueIn, markIn, usedIn}
 use Rattle.packed_refusals.specs.Answers.{packed}
 use Rattle.packed_records.specs.Answers.{openingOf, planningOf}
-use Rattle.call_laws.specs.Statements.{AnswerTells, FieldsTell, GrantsBelow}
-use Rattle.call_laws.proofs.Sound.{Sound, next-sound, says-sound, plain-sound, array-sound, refusal-tells}
+use Rattle.call_laws.specs.Statements.{Tells, AnswerTells, FieldsTell, GrantsBelow, SpreadBelow}
+use Rattle.call_laws.proofs.Sound.{Sound, next-sound, listed, says-sound, plain-sound, array-sound, refusal-tells}
+use Rattle.call_laws.proofs.Sound.{size-tells}
 
 -- ---- The checks
 
@@ -73,15 +78,6 @@ module _ (s : List ℕ) where
       array-sound 12 refl refl (markAt s) (bitsAt s (entryCount (settingsAt s))) (entryCount (settingsAt s))
       (omega arith)
 
-  settle-sound : (room : ℕ) → Sound 12 (firstOf (settleChecks s room))
-  settle-sound room =
-      let wanted = answerLength (settingsAt s .n) in
-      rw (settle-checks s room)
-      (next-sound (firstOf (sheetChecks s)) _ sheet-sound λ pass.
-      next-sound (noRoom room wanted) _ (room-sound room wanted) λ _.
-      next-sound (firstOf (entryChecks s)) _ (entries-sound pass) λ _.
-      says-sound (faults-says (roundAt s .count)) refl)
-
   read-sound : (marks readings : ℕ) → Sound 12 (firstOf (readChecks s marks readings))
   read-sound marks readings =
       let E = entryCount (settingsAt s) in
@@ -113,11 +109,6 @@ target-sound c κ target =
 
 -- ---- What is packed
 
-size-tells : (check : Check) (size : ℕ) → Sound 12 check → (check ≡ none → size < twoTo32)
-    → AnswerTells (verdict check size) (packed (verdict check size))
-size-tells none size t small = small refl
-size-tells (some r) size t small = refusal-tells r (t .told r refl)
-
 opening-tells : (check : Check) (c : Settings) → Sound 12 check → (check ≡ none → entryCount c < twoTo32)
     → AnswerTells (verdict check c) (openingOf (verdict check c) .answer)
 opening-tells none c t small = small refl
@@ -128,14 +119,45 @@ planning-tells : (check : Check) (p : Plan) → Sound 12 check → (check ≡ no
 planning-tells none p t small = small refl
 planning-tells (some r) p t small = refusal-tells r (t .told r refl)
 
+-- settling with a spread, whose first checks refuse under numbers up to some number, 10 or above
+module _ (most : ℕ) (enough : leb tooManyFaultsNumber most ≡ true) (s : List ℕ) (D : ℕ)
+    (front : Sound most (firstOf (spreadChecks s D))) where
+  listed-here : (number : ℕ) → leb 1 number ≡ true → leb number tooManyFaultsNumber ≡ true → listed most number ≡ true
+  listed-here number first last =
+      let a = leb-true number tooManyFaultsNumber last in
+      let b = leb-true tooManyFaultsNumber most enough in
+      and-intro first (le-leb number most (le-trans a b))
+
+  spread-sound : (room : ℕ) → Sound most (firstOf (settleChecks s D room))
+  unfolding entryChecks
+  spread-sound room =
+      let wanted = answerLength (settingsAt s .n) in
+      let E = entryCount (settingsAt s) in
+      rw (settle-checks s D room)
+      (next-sound (firstOf (spreadChecks s D)) _ front λ pass.
+      next-sound (noRoom room wanted) _ (says-sound (room-says room wanted) (listed-here noRoomNumber refl refl)) λ _.
+      next-sound (firstOf (entryChecks s)) _
+      (let few = few-passed s (spread-passed s D pass .1) in
+      array-sound most (listed-here badMarkNumber refl refl) (listed-here badMissingNumber refl refl) (markAt s)
+      (bitsAt s E) E (omega arith)) λ _.
+      says-sound (faults-says (roundAt s D .count)) (listed-here tooManyFaultsNumber refl refl))
+
+  spread-tells :
+      (answer : List ℕ) → Tells most (settleSpread s D answer .verdict) (packed (settleSpread s D answer .verdict))
+  unfolding settleSpread
+  spread-tells answer =
+      let room = length answer in
+      size-tells (firstOf (settleChecks s D room)) (answerLength (settingsAt s .n)) (spread-sound room) λ pass.
+      let sizes = next-none-left (firstOf (spreadChecks s D)) _ (sym (settle-checks s D room) ∙ pass) in
+      let cabinets = limits (settingsAt s) (settings-passed s (spread-passed s D sizes .1)) .cabinets in
+      omega arith
+
 settle-tells : (s answer : List ℕ) → AnswerTells (settle s answer .verdict) (packed (settle s answer .verdict))
 unfolding settle
-settle-tells s answer =
-    let room = length answer in
-    size-tells (firstOf (settleChecks s room)) (answerLength (settingsAt s .n)) (settle-sound s room) λ pass.
-    let sizes = next-none-left (firstOf (sheetChecks s)) _ (sym (settle-checks s room) ∙ pass) in
-    let cabinets = limits (settingsAt s) (settings-passed s sizes) .cabinets in
-    omega arith
+settle-tells s = spread-tells 12 refl s 0 (rw (no-spread s) (sheet-sound s))
+
+pub spread-below : SpreadBelow
+spread-below s D = spread-tells 16 refl s D (plain-sound (plain-spread s D) (unfold each in refl))
 
 read-tells : (s marks : List ℕ) (readings : List ℤ)
     → AnswerTells (read s marks readings .verdict) (openingOf (read s marks readings .verdict) .answer)

@@ -1,12 +1,15 @@
 -- What include/tohiranga.h says of answers, of every call and everything that it is given. The theorems are
--- `grants-below : GrantsBelow` of proofs/Told.antt, `replay-below : ReplayBelow` of proofs/Below.antt and
--- `row-named : RowNamed` of proofs/Parts.antt.
+-- `grants-below : GrantsBelow` and `spread-below : SpreadBelow` of proofs/Told.antt, `replay-below : ReplayBelow` of
+-- proofs/Below.antt and `row-named : RowNamed` of proofs/Parts.antt.
 --   Refuses        an answer is 2^32 or above, and gives back the number of a refusal, 1 to `most`, and its place
---   AnswerTells    an answer tells a verdict: below 2^32 where it grants, and else its refusal, 1 to 12
+--   Tells          an answer tells a verdict: below 2^32 where it grants, and else its refusal, 1 to `most`
+--   AnswerTells    it does, with refusals 1 to 12
 --   ReplayTells    the answer of a replay does, with refusals 1 to 15
+--   SpreadTells    the answer of settling with a spread does, with refusals 1 to 16
 --   FieldsTell     the answers of the calls for an answer sheet's fields do
 --   GrantsBelow    the answers of all calls do
 --   ReplayBelow    the answers of replays do
+--   SpreadBelow    the answers of settling with a spread do
 --   RowNamed       the answer of the row call names the row's bytes, inside the sheet
 use mathlib.Core.List.{List}
 use mathlib.Core.Path.{_≡_}
@@ -18,7 +21,7 @@ use Rattle.model.specs.declared.Refusal.{Refusal}
 use Rattle.model.specs.declared.Settings.{Settings}
 use Rattle.model.specs.RoundSheet.{byte}
 use Rattle.model.specs.Planner.{Plan}
-use Rattle.model.specs.Calls.{Verdict, granted, refused, read, write, row, settle, plan, step}
+use Rattle.model.specs.Calls.{Verdict, granted, refused, read, write, row, settleSpread, settle, plan, step}
 use Rattle.trace.specs.Replay.{replay}
 use Rattle.answer_reader.specs.Fields.{cabinetsIn, countIn, estimateIn, valueIn, markIn, usedIn}
 use Rattle.packed_refusals.specs.Answers.{upperHalf, lowerHalf, packed, TargetPacked}
@@ -34,14 +37,19 @@ pub record Refuses (most : ℕ) (r : Refusal) (answer : ℕ) : Type 0 where
   pub last : r .number ≤ most
 
 -- "An answer below 2^32 is a grant"
-abbrev pub AnswerTells : {A : Type 0} → Verdict A → ℕ → Type 0
-AnswerTells (granted a) answer = answer < twoTo32
-AnswerTells (refused r) answer = Refuses 12 r answer
+abbrev pub Tells : {A : Type 0} → ℕ → Verdict A → ℕ → Type 0
+Tells most (granted a) answer = answer < twoTo32
+Tells most (refused r) answer = Refuses most r answer
 
--- a replay's refusals have the numbers up to 15
+abbrev pub AnswerTells : {A : Type 0} → Verdict A → ℕ → Type 0
+AnswerTells verdict answer = Tells 12 verdict answer
+
+-- a replay's refusals have the numbers up to 15, those of settling with a spread up to 16
 abbrev pub ReplayTells : Verdict ℕ → ℕ → Type 0
-ReplayTells (granted size) answer = answer < twoTo32
-ReplayTells (refused r) answer = Refuses 15 r answer
+ReplayTells verdict answer = Tells 15 verdict answer
+
+abbrev pub SpreadTells : Verdict ℕ → ℕ → Type 0
+SpreadTells verdict answer = Tells 16 verdict answer
 
 pub record FieldsTell (a : List ℕ) (r : ℕ) : Type 0 where
   pub cabinets : AnswerTells (cabinetsIn a) (packed (cabinetsIn a))
@@ -65,6 +73,11 @@ pub record GrantsBelow : Type 0 where
 
 abbrev pub ReplayBelow : Type 0
 ReplayBelow = (s values : List ℕ) → ReplayTells (replay s values .verdict) (packed (replay s values .verdict))
+
+abbrev pub SpreadBelow : Type 0
+SpreadBelow =
+    (s : List ℕ) (D : ℕ) (answer : List ℕ)
+    → SpreadTells (settleSpread s D answer .verdict) (packed (settleSpread s D answer .verdict))
 
 -- "Where the row of readings of a cabinet stands in the sheet: start * 2^32 + length, within the sheet"
 pub record RowNamed : Type 0 where

@@ -25,13 +25,13 @@ use Rattle.model.specs.Steps.{roundAt}
 use Rattle.model.specs.Planner.{Plan, planFrom, advance, after, windowAfter, Reaches, maxAccuracy, maxRounds}
 use Rattle.model.specs.Planner.{maxStepAccuracy}
 use Rattle.model.specs.Refusals.{refusal, Check, firstOf, noRoom, badLength, tooManyFaults, targetMissedNumber}
-use Rattle.model.specs.Refusals.{settingsChecks, sheetChecks, entryChecks, readChecks, writeChecks, rowChecks}
+use Rattle.model.specs.Refusals.{settingsChecks, sheetChecks, spreadChecks, entryChecks, readChecks, writeChecks, rowChecks}
 use Rattle.model.specs.Refusals.{settleChecks, planChecks, stepChecks, targetChecks}
-use Rattle.model.specs.Calls.{Verdict, granted, refused, verdict, lent, marksOf, ticksOf, read, write, settle}
+use Rattle.model.specs.Calls.{Verdict, granted, refused, verdict, lent, marksOf, ticksOf, read, write, settleSpread}
 use Rattle.model.specs.Calls.{plan, step, Target}
 use Rattle.refusal_laws.proofs.Checks.{none-at}
 use Rattle.refusal_laws.proofs.Numbers.{no-refusal, Plain, check-more, no-checks, plain-append, plain-one}
-use Rattle.refusal_laws.proofs.Numbers.{plain-first, plain-settings, plain-sheet, length-says, room-says, faults-says}
+use Rattle.refusal_laws.proofs.Numbers.{plain-first, plain-settings, plain-sheet, plain-spread, length-says, room-says, faults-says}
 use Rattle.refusal_laws.proofs.Numbers.{plan-says, target-says, each}
 use Rattle.sheet_laws.proofs.Answer.{length-answerBytes}
 use Rattle.sheet_laws.proofs.Checks.{length-passed, room-passed}
@@ -76,46 +76,46 @@ module _ (s : List ℕ) where
   abbrev E : ℕ
   E = entryCount (settingsAt s)
 
-  module _ (answer : List ℕ) where
+  module _ (D : ℕ) (answer : List ℕ) where
     pub before-settle :
-        Plain (1 ∷ 2 ∷ 3 ∷ 4 ∷ 5 ∷ 6 ∷ 7 ∷ [])
-        (sheetChecks s ++ (noRoom (length answer) (answerLength (settingsAt s .n)) ∷ []))
+        Plain (1 ∷ 2 ∷ 3 ∷ 4 ∷ 5 ∷ 16 ∷ 6 ∷ 7 ∷ [])
+        (spreadChecks s D ++ (noRoom (length answer) (answerLength (settingsAt s .n)) ∷ []))
     before-settle =
-        plain-append (plain-sheet s) (plain-one (room-says (length answer) (answerLength (settingsAt s .n))))
+        plain-append (plain-spread s D) (plain-one (room-says (length answer) (answerLength (settingsAt s .n))))
 
-    behind-settle : Plain (10 ∷ []) (tooManyFaults (roundAt s .count) ∷ [])
-    behind-settle = plain-one (faults-says (roundAt s .count))
+    behind-settle : Plain (10 ∷ []) (tooManyFaults (roundAt s D .count) ∷ [])
+    behind-settle = plain-one (faults-says (roundAt s D .count))
 
-    pub settle-order : InOrder (1 ∷ 2 ∷ 3 ∷ 4 ∷ 5 ∷ 6 ∷ 7 ∷ 8 ∷ 9 ∷ 10 ∷ []) (settleChecks s (length answer))
-    unfolding settleChecks sheetChecks settingsChecks entryChecks
+    pub settle-order : InOrder (1 ∷ 2 ∷ 3 ∷ 4 ∷ 5 ∷ 16 ∷ 6 ∷ 7 ∷ 8 ∷ 9 ∷ 10 ∷ []) (settleChecks s D (length answer))
+    unfolding settleChecks spreadChecks settingsChecks entryChecks
     settle-order = entry-order (markAt s) (bitsAt s E) E before-settle behind-settle
 
-    settle-placed : (r : Refusal) → settle s answer .verdict ≡ refused r → Placed (markAt s) (bitsAt s E) E r
-    unfolding settle settleChecks sheetChecks settingsChecks entryChecks each
+    settle-placed : (r : Refusal) → settleSpread s D answer .verdict ≡ refused r → Placed (markAt s) (bitsAt s E) E r
+    unfolding settleSpread settleChecks spreadChecks settingsChecks entryChecks each
     settle-placed r h =
         entry-placed (markAt s) (bitsAt s E) E before-settle behind-settle refl refl r
-        (refused-some (firstOf (settleChecks s (length answer))) (answerLength (settingsAt s .n)) r h)
+        (refused-some (firstOf (settleChecks s D (length answer))) (answerLength (settingsAt s .n)) r h)
 
     settle-room :
-        firstOf (settleChecks s (length answer)) ≡ none
-        → length (answerBytes (settingsAt s .n) (roundAt s)) ≤ length answer
-    unfolding settleChecks sheetChecks settingsChecks entryChecks
+        firstOf (settleChecks s D (length answer)) ≡ none
+        → length (answerBytes (settingsAt s .n) (roundAt s D)) ≤ length answer
+    unfolding settleChecks spreadChecks settingsChecks entryChecks
     settle-room h =
         let room =
         room-passed (length answer) (answerLength (settingsAt s .n))
-        (none-at (settleChecks s (length answer)) h 6) in
-        let long = length-answerBytes (settingsAt s .n) (roundAt s) in
+        (none-at (settleChecks s D (length answer)) h 7) in
+        let long = length-answerBytes (settingsAt s .n) (roundAt s D) in
         omega arith
 
-    settling : OfSettle s answer
-    unfolding settle
+    settling : OfSettle s D answer
+    unfolding settleSpread
     settling =
         record {
           order = settle-order;
-          gives = gives-first (settleChecks s (length answer)) (answerLength (settingsAt s .n));
+          gives = gives-first (settleChecks s D (length answer)) (answerLength (settingsAt s .n));
           leaves =
-              leaves-first (settleChecks s (length answer)) (answerLength (settingsAt s .n))
-              (answerBytes (settingsAt s .n) (roundAt s)) answer settle-room;
+              leaves-first (settleChecks s D (length answer)) (answerLength (settingsAt s .n))
+              (answerBytes (settingsAt s .n) (roundAt s D)) answer settle-room;
           place = settle-placed;
         }
 

@@ -23,7 +23,7 @@ use Rattle.model.specs.AnswerSheet.{answerLength, answerBytes}
 use Rattle.model.specs.Steps.{Decision, knownFaulty, decidedReading, decideRow, readingsOf, Round, roundOf, roundAt}
 use Rattle.model.specs.Planner.{Plan, planFrom, ceilDiv, windowFactor, nextWindow, growth, advance, after}
 use Rattle.model.specs.Refusals.{Check, firstOf, settleChecks, stepChecks}
-use Rattle.model.specs.Calls.{granted, lent, settle, step}
+use Rattle.model.specs.Calls.{granted, lent, settleSpread, step}
 use Rattle.decision_laws.proofs.Decision.{decided-need, decide-value, decide-none}
 use Rattle.decision_laws.proofs.Equality.{missing-present}
 use Rattle.decision_laws.proofs.Rows.{reading-decided, read-direct, read-decided}
@@ -43,25 +43,25 @@ use Rattle.demand_1_2.proofs.Spans.{accepted-span}
 
 -- ---- accepted readings and used values
 
-module _ (c : Settings) (v : Readings) where
-  accepted : Accepted c v
+module _ (c : Settings) (D : ℕ) (v : Readings) where
+  accepted : Accepted c D v
   unfolding roundOf
   accepted =
       record {
-        someSpan = accepted-span c v;
+        someSpan = accepted-span c D v;
         counted = refl;
         markMissing = λ r e. rw e;
         markAccepted = λ r z e a. rw (e, a);
         markNotAccepted = λ r z e a. rw (e, a);
       }
 
-  used : Used c v
+  used : Used c D v
   unfolding roundOf
   used =
       record {
         accepted = λ r a. rw a;
         replaced = λ r a. rw a;
-        mean = λ some-n. mean-nearest-whole (c .n) (sum (roundOf c v .used) (c .n)) some-n;
+        mean = λ some-n. mean-nearest-whole (c .n) (sum (roundOf c D v .used) (c .n)) some-n;
       }
 
 -- ---- the crusaders decision
@@ -105,31 +105,32 @@ module _ (c : Settings) (entry : Readings) (r : ℕ) (three : 3 * c .m + 1 ≤ c
 
 -- ---- the answer sheet
 
-module _ (s answer : List ℕ) (small : Bytes s) (size : ℕ) (g : settle s answer .verdict ≡ granted size) where
+module _ (s : List ℕ) (D : ℕ) (answer : List ℕ) (small : Bytes s) (size : ℕ)
+    (g : settleSpread s D answer .verdict ≡ granted size) where
   abbrev round : Round
-  round = roundAt s
+  round = roundAt s D
 
-  passed : firstOf (settleChecks s (length answer)) ≡ none
-  unfolding settle
-  passed = granted-none (firstOf (settleChecks s (length answer))) (answerLength (settingsAt s .n)) size g
+  passed : firstOf (settleChecks s D (length answer)) ≡ none
+  unfolding settleSpread
+  passed = granted-none (firstOf (settleChecks s D (length answer))) (answerLength (settingsAt s .n)) size g
 
-  left : settle s answer .buffer ≡ overwrite (answerBytes (settingsAt s .n) (roundAt s)) answer
-  unfolding settle
+  left : settleSpread s D answer .buffer ≡ overwrite (answerBytes (settingsAt s .n) (roundAt s D)) answer
+  unfolding settleSpread
   left = ap (λ (x : Check). lent x (overwrite (answerBytes (settingsAt s .n) round) answer) answer) passed
 
-  answer-shown : Shown s (overwrite (answerBytes (settingsAt s .n) (roundAt s)) answer)
+  answer-shown : Shown s D (overwrite (answerBytes (settingsAt s .n) (roundAt s D)) answer)
   answer-shown =
       record {
         cabinets = answer-cabinets (settingsAt s .n) round answer;
         counted = answer-count (settingsAt s .n) round answer;
-        estimate = answer-estimate (settingsAt s .n) round answer (settled-estimate s small answer passed);
-        value = answer-value (settingsAt s .n) round answer (settled-value s small answer passed);
+        estimate = answer-estimate (settingsAt s .n) round answer (settled-estimate s small D answer passed);
+        value = answer-value (settingsAt s .n) round answer (settled-value s small D answer passed);
         mark = answer-mark (settingsAt s .n) round answer;
-        used = λ r l. answer-used (settingsAt s .n) round answer r l (settled-used s small answer passed r l);
+        used = λ r l. answer-used (settingsAt s .n) round answer r l (settled-used s small D answer passed r l);
       }
 
-  shown : Shown s (settle s answer .buffer)
-  shown = subst⁻¹ (Shown s) left answer-shown
+  shown : Shown s D (settleSpread s D answer .buffer)
+  shown = subst⁻¹ (Shown s D) left answer-shown
 
 -- ---- the planner
 

@@ -28,9 +28,9 @@ use Rattle.demand_1_2.proofs.Represented.{le-up, lt-up}
 use Rattle.demand_1_2.proofs.Roundings.{rounded-down}
 use Rattle.demand_1_2.proofs.Spans.{accepted-present}
 
-module _ (c : Settings) (v : Readings) where
+module _ (c : Settings) (D : ℕ) (v : Readings) where
   abbrev acc : ℕ → Bool
-  acc = acceptedAt c v
+  acc = acceptedAt c D v
 
   -- whether r's reading is numbered h from below among the accepted ones
   abbrev test : ℕ → ℕ → Bool
@@ -55,7 +55,7 @@ module _ (c : Settings) (v : Readings) where
       near s i = reach-above v (c .n) s i
 
   pub numbered-from-below :
-      (h : ℕ) → 0 < h → h ≤ count (acceptedAt c v) (c .n) → FromBelow c v h (numbered (acceptedAt c v) (c .n) v h)
+      (h : ℕ) → 0 < h → h ≤ count (acceptedAt c D v) (c .n) → FromBelow c D v h (numbered (acceptedAt c D v) (c .n) v h)
   unfolding numbered
   numbered-from-below h some-h most =
       ⊎-elim
@@ -67,24 +67,24 @@ module _ (c : Settings) (v : Readings) where
     where
       found :
           (r : ℕ) → lowest (test h) (c .n) ≡ some r → Lowest (test h) (c .n) r
-          → FromBelow c v h (ticksAt v (lowest (test h) (c .n)))
+          → FromBelow c D v h (ticksAt v (lowest (test h) (c .n)))
       found r e w =
           let rest = and-right (acc r) _ (w .passes) in
-          subst⁻¹ (FromBelow c v h) (ap (ticksAt v) e)
+          subst⁻¹ (FromBelow c D v h) (ap (ticksAt v) e)
           (record {
             reading =
                 record {
                   cabinet = r;
                   inRange = w .inRange;
                   accepted = and-left (acc r) _ (w .passes);
-                  reads = accepted-present c v r (and-left (acc r) _ (w .passes));
+                  reads = accepted-present c D v r (and-left (acc r) _ (w .passes));
                 };
             atOrBelow = leb-true h _ (and-left (leb h _) _ rest);
             below = ltb-true _ h (and-right (leb h _) _ rest);
           })
 
   -- the first from below is the lowest, and the last the highest
-  from-below-lowest : (z : ℤ) → FromBelow c v 1 z → LowestAccepted c v z
+  from-below-lowest : (z : ℤ) → FromBelow c D v 1 z → LowestAccepted c D v z
   from-below-lowest z f =
       record {
         reading = f .reading;
@@ -97,7 +97,7 @@ module _ (c : Settings) (v : Readings) where
             (both-ways (ltZ (ticks (v r)) z));
       }
 
-  from-below-highest : (z : ℤ) → FromBelow c v (count (acceptedAt c v) (c .n)) z → HighestAccepted c v z
+  from-below-highest : (z : ℤ) → FromBelow c D v (count (acceptedAt c D v) (c .n)) z → HighestAccepted c D v z
   from-below-highest z f =
       record {
         reading = f .reading;
@@ -110,13 +110,13 @@ module _ (c : Settings) (v : Readings) where
             (both-ways (leZ (ticks (v r)) z));
       }
 
-  module _ (some-acc : 0 < roundOf c v .count) where
-    counted : 0 < count (acceptedAt c v) (c .n)
+  module _ (some-acc : 0 < roundOf c D v .count) where
+    counted : 0 < count (acceptedAt c D v) (c .n)
     unfolding roundOf
     counted = some-acc
 
     -- the estimate by a given estimator
-    by : {kind : ℕ} → c .estimator ≡ kind → roundOf c v .estimate ≡ estimate kind acc (c .n) v
+    by : {kind : ℕ} → c .estimator ≡ kind → roundOf c D v .estimate ≡ estimate kind acc (c .n) v
     unfolding roundOf
     by e = ap (λ (kind : ℕ). estimate kind acc (c .n) v) e
 
@@ -124,19 +124,19 @@ module _ (c : Settings) (v : Readings) where
     abbrev picked : ℕ → ℤ
     picked r = cond (acc r) (ticks (v r)) (pos 0)
 
-    by-average : RoundedDown (sum picked (c .n)) (roundOf c v .count) (estimate average acc (c .n) v)
+    by-average : RoundedDown (sum picked (c .n)) (roundOf c D v .count) (estimate average acc (c .n) v)
     unfolding roundOf estimate averageOf
     by-average = rounded-down (sum picked (c .n)) (count acc (c .n)) counted
 
     by-median :
-        (h : ℕ) → roundOf c v .count ≤ 2 * h → 2 * h ≤ roundOf c v .count + 1
-        → FromBelow c v h (estimate median acc (c .n) v)
+        (h : ℕ) → roundOf c D v .count ≤ 2 * h → 2 * h ≤ roundOf c D v .count + 1
+        → FromBelow c D v h (estimate median acc (c .n) v)
     unfolding roundOf estimate medianOf
     by-median h low high =
         let half : (count acc (c .n) + 1) / 2 ≡ h = omega arith in
         rw half (numbered-from-below h (omega (arith, counted)) (omega (arith, counted)))
 
-    by-midpoint : Midpoint c v (estimate midpoint acc (c .n) v)
+    by-midpoint : Midpoint c D v (estimate midpoint acc (c .n) v)
     unfolding estimate midpointOf
     by-midpoint =
         record {
@@ -148,11 +148,11 @@ module _ (c : Settings) (v : Readings) where
           half = rounded-down (numbered acc (c .n) v 1 +ℤ numbered acc (c .n) v (count acc (c .n))) 2 (omega arith);
         }
 
-    pub estimated : Estimate c v (roundOf c v .estimate)
+    pub estimated : Estimate c D v (roundOf c D v .estimate)
     estimated =
         record {
           byAverage = λ e.
-              subst⁻¹ (RoundedDown (sum picked (c .n)) (roundOf c v .count)) (by e) by-average;
-          byMedian = λ e h low high. subst⁻¹ (FromBelow c v h) (by e) (by-median h low high);
-          byMidpoint = λ e. subst⁻¹ (Midpoint c v) (by e) by-midpoint;
+              subst⁻¹ (RoundedDown (sum picked (c .n)) (roundOf c D v .count)) (by e) by-average;
+          byMedian = λ e h low high. subst⁻¹ (FromBelow c D v h) (by e) (by-median h low high);
+          byMidpoint = λ e. subst⁻¹ (Midpoint c D v) (by e) by-midpoint;
         }

@@ -26,15 +26,15 @@ use Rattle.limit_laws.proofs.Acceptance.{span-accepted}
 use Rattle.demand_1_2.specs.Demand2.{FullSpan, SpanWith}
 use Rattle.demand_1_2.proofs.Represented.{le-up, pres, accepted-up}
 
-module _ (c : Settings) (v : Readings) where
+module _ (c : Settings) (D : ℕ) (v : Readings) where
   abbrev w : ℕ
-  w = spanWidth c
+  w = spanWidth c D
 
   -- ---- from the definition to a span
 
   span-at :
       (s r : ℕ) (y : Reading) → v s ≡ y
-      → (within w y (v r) && leb (quorum c) (count (λ t. within w y (v t)) (c .n))) ≡ true → SpanWith c v r
+      → (within w y (v r) && leb (quorum c) (count (λ t. within w y (v t)) (c .n))) ≡ true → SpanWith c D v r
   span-at s r missing e h = clash h refl
   span-at s r (present a) e h =
       record {
@@ -48,7 +48,7 @@ module _ (c : Settings) (v : Readings) where
         within = and-left (within w (present a) (v r)) _ h;
       }
 
-  pub accepted-holds : (r : ℕ) → acceptedAt c v r ≡ true → SpanWith c v r
+  pub accepted-holds : (r : ℕ) → acceptedAt c D v r ≡ true → SpanWith c D v r
   unfolding accepted acceptedAt
   accepted-holds r e =
       let test : ℕ → Bool = λ s. within w (v s) (v r) && leb (quorum c) (count (λ t. within w (v s) (v t)) (c .n)) in
@@ -58,7 +58,7 @@ module _ (c : Settings) (v : Readings) where
   -- ---- from any span to the definition
 
   -- far enough for every reading and for the ends of the span
-  module _ (r : ℕ) (l : r < c .n) (h : SpanWith c v r) where
+  module _ (r : ℕ) (l : r < c .n) (h : SpanWith c D v r) where
     abbrev s : ℤ
     s = h .span .start
 
@@ -101,7 +101,7 @@ module _ (c : Settings) (v : Readings) where
         leb-true (up k y) (up k f) (sym (le-up k y f near end-near) ∙ and-right (leZ s y) (leZ y f) z) in
         A.inside-intro w (up k s) (up k y) low (le-trans high end-le)
 
-    pub holds-accepted : acceptedAt c v r ≡ true
+    pub holds-accepted : acceptedAt c D v r ≡ true
     unfolding acceptedAt
     holds-accepted =
         let here = inside-up r (v r) refl l (h .within) in
@@ -119,7 +119,7 @@ module _ (c : Settings) (v : Readings) where
         })
 
   -- document 01's words: a reading is accepted exactly where some span as wide as the window holds it and N-m readings
-  pub accepted-span : (r : ℕ) → r < c .n → (acceptedAt c v r ≡ true) ↔ SpanWith c v r
+  pub accepted-span : (r : ℕ) → r < c .n → (acceptedAt c D v r ≡ true) ↔ SpanWith c D v r
   accepted-span r l = (accepted-holds r, holds-accepted r l)
 
   -- an accepted cabinet's reading is present
@@ -127,32 +127,32 @@ module _ (c : Settings) (v : Readings) where
   inside-present s f missing h = clash h refl
   inside-present s f (present z) h = refl
 
-  pub accepted-present : (r : ℕ) → acceptedAt c v r ≡ true → v r ≡ present (ticks (v r))
+  pub accepted-present : (r : ℕ) → acceptedAt c D v r ≡ true → v r ≡ present (ticks (v r))
   accepted-present r e = let h = accepted-holds r e in inside-present (h .span .start) (h .span .end) (v r) (h .within)
 
   -- demand 2's words: no reading is accepted exactly where no span as wide as the window holds N-m readings
-  pub too-many-faults : 0 < quorum c → (roundOf c v .count ≡ 0) ↔ (FullSpan c v → ⊥)
+  pub too-many-faults : 0 < quorum c → (roundOf c D v .count ≡ 0) ↔ (FullSpan c D v → ⊥)
   unfolding roundOf
   too-many-faults some-need = (none, nothing)
     where
       impossible : (k : ℕ) → 0 < k → k ≡ 0 → ⊥
       impossible k h e = omega arith
 
-      none : count (acceptedAt c v) (c .n) ≡ 0 → FullSpan c v → ⊥
+      none : count (acceptedAt c D v) (c .n) ≡ 0 → FullSpan c D v → ⊥
       none z span =
           let r =
           count-some (λ t. inside (span .start) (span .end) (v t)) (c .n)
           (lt-of-lt-of-le some-need (span .enough)) in
-          impossible (count (acceptedAt c v) (c .n))
-          (count-pos (acceptedAt c v) (c .n) (r .0) (r .1)
+          impossible (count (acceptedAt c D v) (c .n))
+          (count-pos (acceptedAt c D v) (c .n) (r .0) (r .1)
           (holds-accepted (r .0) (r .1) (record { span = span; within = r .2 })))
           z
 
-      nothing : (FullSpan c v → ⊥) → count (acceptedAt c v) (c .n) ≡ 0
-      nothing none-holds = go (count (acceptedAt c v) (c .n)) refl
+      nothing : (FullSpan c D v → ⊥) → count (acceptedAt c D v) (c .n) ≡ 0
+      nothing none-holds = go (count (acceptedAt c D v) (c .n)) refl
         where
-          go : (k : ℕ) → count (acceptedAt c v) (c .n) ≡ k → k ≡ 0
+          go : (k : ℕ) → count (acceptedAt c D v) (c .n) ≡ k → k ≡ 0
           go zero e = refl
           go (suc k) e =
-              let r = count-some (acceptedAt c v) (c .n) (subst (λ (j : ℕ). 0 < j) (sym e) (omega arith)) in
+              let r = count-some (acceptedAt c D v) (c .n) (subst (λ (j : ℕ). 0 < j) (sym e) (omega arith)) in
               absurd (none-holds (accepted-holds (r .0) (r .2) .span))

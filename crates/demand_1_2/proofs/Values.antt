@@ -24,24 +24,24 @@ use Rattle.value_laws.proofs.Means.{mean-above, mean-below}
 use Rattle.demand_1_2.proofs.Represented.{le-of-down, accepted-up}
 
 -- z lies between the readings of two accepted cabinets
-pub record AmongAccepted (c : Settings) (v : Readings) (z : ℤ) : Type 0 where
+pub record AmongAccepted (c : Settings) (D : ℕ) (v : Readings) (z : ℤ) : Type 0 where
   pub lowest : ℕ
   pub highest : ℕ
-  pub lowestAccepted : (lowest < c .n) × (acceptedAt c v lowest ≡ true)
-  pub highestAccepted : (highest < c .n) × (acceptedAt c v highest ≡ true)
+  pub lowestAccepted : (lowest < c .n) × (acceptedAt c D v lowest ≡ true)
+  pub highestAccepted : (highest < c .n) × (acceptedAt c D v highest ≡ true)
   pub above : ticks (v lowest) ≤ℤ z
   pub below : z ≤ℤ ticks (v highest)
 
 -- z lies between the values used for two cabinets
-pub record AmongUsed (c : Settings) (v : Readings) (z : ℤ) : Type 0 where
+pub record AmongUsed (c : Settings) (D : ℕ) (v : Readings) (z : ℤ) : Type 0 where
   pub lowest : ℕ
   pub highest : ℕ
   pub lowestIn : lowest < c .n
   pub highestIn : highest < c .n
-  pub above : roundOf c v .used lowest ≤ℤ z
-  pub below : z ≤ℤ roundOf c v .used highest
+  pub above : roundOf c D v .used lowest ≤ℤ z
+  pub below : z ≤ℤ roundOf c D v .used highest
 
-module _ (c : Settings) (v : Readings) (some-acc : 0 < roundOf c v .count) where
+module _ (c : Settings) (D : ℕ) (v : Readings) (some-acc : 0 < roundOf c D v .count) where
   -- the readings moved up far enough for all of them
   abbrev k : ℕ
   k = reach v (c .n)
@@ -52,46 +52,46 @@ module _ (c : Settings) (v : Readings) (some-acc : 0 < roundOf c v .count) where
   same : EqualBelow (c .n) v (shifted (reach v (c .n)) (λ r. isPresent (v r)) (raise (reach v (c .n)) v))
   same = represented k v (c .n) (le-refl k)
 
-  counted : 0 < count (acc-of c pres (raise k v)) (c .n)
-  counted = subst (λ (a : ℕ). 0 < a) (round-count c pres (raise k v) v k same) some-acc
+  counted : 0 < count (acc-of c D pres (raise k v)) (c .n)
+  counted = subst (λ (a : ℕ). 0 < a) (round-count c D pres (raise k v) v k same) some-acc
 
-  accepts : (r : ℕ) → r < c .n → acceptedAt c v r ≡ acc-of c pres (raise k v) r
+  accepts : (r : ℕ) → r < c .n → acceptedAt c D v r ≡ acc-of c D pres (raise k v) r
   unfolding acceptedAt
-  accepts r l = accepted-up v (c .n) k (le-refl k) (spanWidth c) _ r l
+  accepts r l = accepted-up v (c .n) k (le-refl k) (spanWidth c D) _ r l
 
   raised : (r : ℕ) → r < c .n → down k (raise k v r) ≡ ticks (v r)
   raised r l = down-up k (ticks (v r)) (reach-above v (c .n) r l)
 
-  pub estimate-among : AmongAccepted c v (roundOf c v .estimate)
+  pub estimate-among : AmongAccepted c D v (roundOf c D v .estimate)
   estimate-among =
-      let lo = least (acc-of c pres (raise k v)) (raise k v) (c .n) counted in
-      let hi = greatest (acc-of c pres (raise k v)) (raise k v) (c .n) counted in
-      let e = round-estimate c pres (raise k v) v k same counted in
-      let b = estimate-between (acc-of c pres (raise k v)) (c .n) (raise k v) counted k (c .estimator) lo hi in
+      let lo = least (acc-of c D pres (raise k v)) (raise k v) (c .n) counted in
+      let hi = greatest (acc-of c D pres (raise k v)) (raise k v) (c .n) counted in
+      let e = round-estimate c D pres (raise k v) v k same counted in
+      let b = estimate-between (acc-of c D pres (raise k v)) (c .n) (raise k v) counted k (c .estimator) lo hi in
       record {
         lowest = lo .index;
         highest = hi .index;
         lowestAccepted = (lo .inRange, accepts (lo .index) (lo .inRange) ∙ lo .passes);
         highestAccepted = (hi .inRange, accepts (hi .index) (hi .inRange) ∙ hi .passes);
         above =
-            subst (λ z. z ≤ℤ roundOf c v .estimate) (raised (lo .index) (lo .inRange))
+            subst (λ z. z ≤ℤ roundOf c D v .estimate) (raised (lo .index) (lo .inRange))
             (subst⁻¹ (λ z. down k (raise k v (lo .index)) ≤ℤ z) e (le-of-down k _ _ (b .low)));
         below =
-            subst (λ z. roundOf c v .estimate ≤ℤ z) (raised (hi .index) (hi .inRange))
+            subst (λ z. roundOf c D v .estimate ≤ℤ z) (raised (hi .index) (hi .inRange))
             (subst⁻¹ (λ z. z ≤ℤ down k (raise k v (hi .index))) e (le-of-down k _ _ (b .high)));
       }
 
-  pub value-among : 0 < c .n → AmongUsed c v (roundOf c v .value)
+  pub value-among : 0 < c .n → AmongUsed c D v (roundOf c D v .value)
   value-among some-n =
       let all : 0 < count (λ _. true) (c .n) = count-pos (λ _. true) (c .n) 0 some-n refl in
-      let lo = least (λ _. true) (used-of c pres (raise k v) k) (c .n) all in
-      let hi = greatest (λ _. true) (used-of c pres (raise k v) k) (c .n) all in
-      let e = round-value c pres (raise k v) v k same some-n counted in
+      let lo = least (λ _. true) (used-of c D pres (raise k v) k) (c .n) all in
+      let hi = greatest (λ _. true) (used-of c D pres (raise k v) k) (c .n) all in
+      let e = round-value c D pres (raise k v) v k same some-n counted in
       let low =
-      mean-above (c .n) some-n (used-of c pres (raise k v) k) (used-of c pres (raise k v) k (lo .index))
+      mean-above (c .n) some-n (used-of c D pres (raise k v) k) (used-of c D pres (raise k v) k (lo .index))
       (λ r l. lo .first r l refl) in
       let high =
-      mean-below (c .n) some-n (used-of c pres (raise k v) k) (used-of c pres (raise k v) k (hi .index))
+      mean-below (c .n) some-n (used-of c D pres (raise k v) k) (used-of c D pres (raise k v) k (hi .index))
       (λ r l. hi .first r l refl) in
       record {
         lowest = lo .index;
@@ -99,11 +99,11 @@ module _ (c : Settings) (v : Readings) (some-acc : 0 < roundOf c v .count) where
         lowestIn = lo .inRange;
         highestIn = hi .inRange;
         above =
-            subst⁻¹ (λ z. z ≤ℤ roundOf c v .value)
-            (round-used c pres (raise k v) v k same counted (lo .index) (lo .inRange))
-            (subst⁻¹ (λ z. down k (used-of c pres (raise k v) k (lo .index)) ≤ℤ z) e (le-of-down k _ _ low));
+            subst⁻¹ (λ z. z ≤ℤ roundOf c D v .value)
+            (round-used c D pres (raise k v) v k same counted (lo .index) (lo .inRange))
+            (subst⁻¹ (λ z. down k (used-of c D pres (raise k v) k (lo .index)) ≤ℤ z) e (le-of-down k _ _ low));
         below =
-            subst⁻¹ (λ z. roundOf c v .value ≤ℤ z)
-            (round-used c pres (raise k v) v k same counted (hi .index) (hi .inRange))
-            (subst⁻¹ (λ z. z ≤ℤ down k (used-of c pres (raise k v) k (hi .index))) e (le-of-down k _ _ high));
+            subst⁻¹ (λ z. roundOf c D v .value ≤ℤ z)
+            (round-used c D pres (raise k v) v k same counted (hi .index) (hi .inRange))
+            (subst⁻¹ (λ z. z ≤ℤ down k (used-of c D pres (raise k v) k (hi .index))) e (le-of-down k _ _ high));
       }

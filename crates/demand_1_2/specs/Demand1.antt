@@ -1,9 +1,9 @@
 -- Demand 1: what leaves where bytes of any kind, or settings of any kind, come in. The theorem is `demand-1` of
 -- proofs/Demand1.antt.
 --
--- It speaks of `settle`, `read`, `write`, `row`, `plan`, `step` and `Target` of crates/model/specs/Calls.antt: the same
--- definitions that the functions' promises are equations with. The checks of a call are its list in
--- crates/model/specs/Refusals.antt.
+-- It speaks of `settleSpread`, `read`, `write`, `row`, `plan`, `step` and `Target` of crates/model/specs/Calls.antt: the same
+-- definitions that the functions' promises are equations with. `settle` is `settleSpread` with the spread 0. The checks
+-- of a call are its list in crates/model/specs/Refusals.antt.
 --
 -- "Nothing is presumed checked": every field holds for all arguments. A list may be empty, or longer than any sheet,
 -- and its elements need not even be bytes.
@@ -30,7 +30,8 @@ use Rattle.model.specs.Steps.{roundAt}
 use Rattle.model.specs.Planner.{Plan, planFrom, advance, after, Reaches}
 use Rattle.model.specs.Refusals.{Check, settleChecks, readChecks, writeChecks, rowChecks}
 use Rattle.model.specs.Refusals.{planChecks, stepChecks, targetChecks}
-use Rattle.model.specs.Calls.{Verdict, granted, refused, marksOf, ticksOf, read, write, row, settle, plan, step, Target}
+use Rattle.model.specs.Calls.{Verdict, granted, refused, marksOf, ticksOf, read, write, row, settleSpread, plan, step}
+use Rattle.model.specs.Calls.{Target}
 
 -- ---- "one answer sheet or one numbered refusal, the first that applies"
 
@@ -87,18 +88,20 @@ pub record Placed (mark bits : ℕ → ℕ) (E : ℕ) (r : Refusal) : Type 0 whe
 
 -- ---- Sheets
 
--- "A round sheet comes in as bytes of any kind and any length": the list s, and the answer buffer
-pub record OfSettle (s answer : List ℕ) : Type 0 where
-  pub order : InOrder (1 ∷ 2 ∷ 3 ∷ 4 ∷ 5 ∷ 6 ∷ 7 ∷ 8 ∷ 9 ∷ 10 ∷ []) (settleChecks s (length answer))
+-- "A round sheet comes in as bytes of any kind and any length": the list s, a spread D of any size (document 02, request
+-- 2: 16 "after 5"), and the answer buffer
+pub record OfSettle (s : List ℕ) (D : ℕ) (answer : List ℕ) : Type 0 where
+  pub order : InOrder (1 ∷ 2 ∷ 3 ∷ 4 ∷ 5 ∷ 16 ∷ 6 ∷ 7 ∷ 8 ∷ 9 ∷ 10 ∷ []) (settleChecks s D (length answer))
   -- "It leaves as one answer sheet or one numbered refusal, the first that applies": what is granted is its length
   pub gives :
-      Gives (settleChecks s (length answer)) (λ size. size ≡ answerLength (settingsAt s .n))
-      (settle s answer .verdict)
+      Gives (settleChecks s D (length answer)) (λ size. size ≡ answerLength (settingsAt s .n))
+      (settleSpread s D answer .verdict)
   -- "and a refusal changes nothing in the answer buffer"; later bytes keep what they had
   pub leaves :
-      Leaves (settle s answer .verdict) (answerBytes (settingsAt s .n) (roundAt s)) answer (settle s answer .buffer)
+      Leaves (settleSpread s D answer .verdict) (answerBytes (settingsAt s .n) (roundAt s D)) answer
+      (settleSpread s D answer .buffer)
   pub place :
-      (r : Refusal) → settle s answer .verdict ≡ refused r
+      (r : Refusal) → settleSpread s D answer .verdict ≡ refused r
       → Placed (markAt s) (bitsAt s (entryCount (settingsAt s))) (entryCount (settingsAt s)) r
 
 -- the reader: "refusing under 1 to 9 (7 when either array is shorter than E); entries past E keep what they had"
@@ -159,7 +162,7 @@ pub record OfTarget (c : Settings) (κ target : ℕ) : Type 0 where
 -- ---- The statement
 
 pub record Demand1 : Type 0 where
-  pub ofSettle : (s answer : List ℕ) → OfSettle s answer
+  pub ofSettle : (s : List ℕ) (D : ℕ) (answer : List ℕ) → OfSettle s D answer
   pub ofRead : (s marks : List ℕ) (readings : List ℤ) → OfRead s marks readings
   pub ofWrite : (c : Settings) (marks : List ℕ) (readings : List ℤ) (buffer : List ℕ) → OfWrite c marks readings buffer
   pub ofRow : (s : List ℕ) → OfRow s

@@ -1,11 +1,11 @@
 -- Demand 2: the steps of a round, the planner's windows and accuracies, "too many faults", and the round trips of a
 -- sheet. The theorem is `demand-2` of proofs/Demand2.antt.
 --
--- It speaks of `roundOf`, `readingsOf`, `settle`, `read`, `write`, `plan` and `step` of crates/model/specs, the same
+-- It speaks of `roundOf`, `readingsOf`, `settleSpread`, `read`, `write`, `plan` and `step` of crates/model/specs, the same
 -- definitions that the functions' promises are equations with, and says in the words of the paper and of document 01
 -- what they are: any span, and not only those that start at a reading; what an estimate is among the accepted readings;
--- what the mean is nearest to. What `settle` writes is `roundAt` of the sheet: `roundOf` its settings and its
--- `readingsOf`.
+-- what the mean is nearest to. What `settleSpread` writes is `roundAt` of the sheet and the spread: `roundOf` its
+-- settings and its `readingsOf`. `settle` is `settleSpread` with the spread 0.
 --
 -- What is not claimed: an estimate where no reading is accepted; a decision where N is below 3m+1. No call grants
 -- there.
@@ -42,32 +42,32 @@ use Rattle.model.specs.RoundSheet.{fca, cca, average, median, midpoint, byte, w
 use Rattle.model.specs.Steps.{same, readingsOf, inside, held, acceptedAt, roundOf, roundAt, spanWidth}
 use Rattle.model.specs.Planner.{Plan, planFrom, withWindow, maxRounds}
 use Rattle.model.specs.Refusals.{refusal, settleChecks, tooManyFaultsNumber}
-use Rattle.model.specs.Calls.{granted, refused, read, write, settle, plan, step}
+use Rattle.model.specs.Calls.{granted, refused, read, write, settleSpread, plan, step}
 use Rattle.model.specs.AnswerSheet.{answerHeaderSize}
 use Rattle.planner_laws.specs.Stepping.{steps}
 
 -- ---- Accepted readings
 
--- a span [s, f] with "f - s ≤ δ" that "holds at least N-m present readings, equal ones counted each"
-pub record FullSpan (c : Settings) (v : Readings) : Type 0 where
+-- a span [s, f] with "f - s ≤ δ", or δ + D with a spread (document 02, request 2), that "holds at least N-m present readings, equal ones counted each"
+pub record FullSpan (c : Settings) (D : ℕ) (v : Readings) : Type 0 where
   pub start : ℤ
   pub end : ℤ
-  pub narrow : end ≤ℤ (start +ℤ pos (spanWidth c))
+  pub narrow : end ≤ℤ (start +ℤ pos (spanWidth c D))
   pub enough : quorum c ≤ held start end v (c .n)
 
 -- one that holds r's reading too: "s ≤ v ≤ f"
-pub record SpanWith (c : Settings) (v : Readings) (r : ℕ) : Type 0 where
-  pub span : FullSpan c v
+pub record SpanWith (c : Settings) (D : ℕ) (v : Readings) (r : ℕ) : Type 0 where
+  pub span : FullSpan c D v
   pub within : inside (span .start) (span .end) (v r) ≡ true
 
 -- "A reading v is accepted if some span [s, f] with s ≤ v ≤ f and f - s ≤ δ holds at least N-m present readings". The
 -- marks: "0 missing or known faulty, 1 accepted, 2 present and not accepted"
-pub record Accepted (c : Settings) (v : Readings) : Type 0 where
-  pub someSpan : (r : ℕ) → r < c .n → (acceptedAt c v r ≡ true) ↔ SpanWith c v r
-  pub counted : roundOf c v .count ≡ count (acceptedAt c v) (c .n)
-  pub markMissing : (r : ℕ) → v r ≡ missing → roundOf c v .mark r ≡ 0
-  pub markAccepted : (r : ℕ) (z : ℤ) → v r ≡ present z → acceptedAt c v r ≡ true → roundOf c v .mark r ≡ 1
-  pub markNotAccepted : (r : ℕ) (z : ℤ) → v r ≡ present z → acceptedAt c v r ≡ false → roundOf c v .mark r ≡ 2
+pub record Accepted (c : Settings) (D : ℕ) (v : Readings) : Type 0 where
+  pub someSpan : (r : ℕ) → r < c .n → (acceptedAt c D v r ≡ true) ↔ SpanWith c D v r
+  pub counted : roundOf c D v .count ≡ count (acceptedAt c D v) (c .n)
+  pub markMissing : (r : ℕ) → v r ≡ missing → roundOf c D v .mark r ≡ 0
+  pub markAccepted : (r : ℕ) (z : ℤ) → v r ≡ present z → acceptedAt c D v r ≡ true → roundOf c D v .mark r ≡ 1
+  pub markNotAccepted : (r : ℕ) (z : ℤ) → v r ≡ present z → acceptedAt c D v r ≡ false → roundOf c D v .mark r ≡ 2
 
 -- ---- The estimate, "over accepted readings only"
 
@@ -77,45 +77,45 @@ pub record RoundedDown (a : ℤ) (n : ℕ) (q : ℤ) : Type 0 where
   pub next : a <ℤ (pos n *ℤ q +ℤ pos n)
 
 -- z is read of an accepted cabinet
-pub record AcceptedReading (c : Settings) (v : Readings) (z : ℤ) : Type 0 where
+pub record AcceptedReading (c : Settings) (D : ℕ) (v : Readings) (z : ℤ) : Type 0 where
   pub cabinet : ℕ
   pub inRange : cabinet < c .n
-  pub accepted : acceptedAt c v cabinet ≡ true
+  pub accepted : acceptedAt c D v cabinet ≡ true
   pub reads : v cabinet ≡ present z
 
 -- z is "the element numbered" h "from below, counting from 1": h accepted readings or more are at or below it, and
 -- fewer than h are below it
-pub record FromBelow (c : Settings) (v : Readings) (h : ℕ) (z : ℤ) : Type 0 where
-  pub reading : AcceptedReading c v z
-  pub atOrBelow : h ≤ count (λ r. acceptedAt c v r && leZ (ticks (v r)) z) (c .n)
-  pub below : count (λ r. acceptedAt c v r && ltZ (ticks (v r)) z) (c .n) < h
+pub record FromBelow (c : Settings) (D : ℕ) (v : Readings) (h : ℕ) (z : ℤ) : Type 0 where
+  pub reading : AcceptedReading c D v z
+  pub atOrBelow : h ≤ count (λ r. acceptedAt c D v r && leZ (ticks (v r)) z) (c .n)
+  pub below : count (λ r. acceptedAt c D v r && ltZ (ticks (v r)) z) (c .n) < h
 
-pub record LowestAccepted (c : Settings) (v : Readings) (z : ℤ) : Type 0 where
-  pub reading : AcceptedReading c v z
-  pub noneBelow : (r : ℕ) → r < c .n → acceptedAt c v r ≡ true → z ≤ℤ ticks (v r)
+pub record LowestAccepted (c : Settings) (D : ℕ) (v : Readings) (z : ℤ) : Type 0 where
+  pub reading : AcceptedReading c D v z
+  pub noneBelow : (r : ℕ) → r < c .n → acceptedAt c D v r ≡ true → z ≤ℤ ticks (v r)
 
-pub record HighestAccepted (c : Settings) (v : Readings) (z : ℤ) : Type 0 where
-  pub reading : AcceptedReading c v z
-  pub noneAbove : (r : ℕ) → r < c .n → acceptedAt c v r ≡ true → ticks (v r) ≤ℤ z
+pub record HighestAccepted (c : Settings) (D : ℕ) (v : Readings) (z : ℤ) : Type 0 where
+  pub reading : AcceptedReading c D v z
+  pub noneAbove : (r : ℕ) → r < c .n → acceptedAt c D v r ≡ true → ticks (v r) ≤ℤ z
 
 -- "midpoint, half of lowest plus highest rounded down"
-pub record Midpoint (c : Settings) (v : Readings) (z : ℤ) : Type 0 where
+pub record Midpoint (c : Settings) (D : ℕ) (v : Readings) (z : ℤ) : Type 0 where
   pub low : ℤ
   pub high : ℤ
-  pub isLowest : LowestAccepted c v low
-  pub isHighest : HighestAccepted c v high
+  pub isLowest : LowestAccepted c D v low
+  pub isHighest : HighestAccepted c D v high
   pub half : RoundedDown (low +ℤ high) 2 z
 
-pub record Estimate (c : Settings) (v : Readings) (z : ℤ) : Type 0 where
+pub record Estimate (c : Settings) (D : ℕ) (v : Readings) (z : ℤ) : Type 0 where
   -- "average, sum over count rounded down"
   pub byAverage :
       c .estimator ≡ average
-      → RoundedDown (sum (λ r. cond (acceptedAt c v r) (ticks (v r)) (pos 0)) (c .n)) (roundOf c v .count) z
+      → RoundedDown (sum (λ r. cond (acceptedAt c D v r) (ticks (v r)) (pos 0)) (c .n)) (roundOf c D v .count) z
   -- "median, the element numbered ⌈count/2⌉ from below, counting from 1": the count is 2h or 2h - 1
   pub byMedian :
       c .estimator ≡ median
-      → (h : ℕ) → roundOf c v .count ≤ 2 * h → 2 * h ≤ roundOf c v .count + 1 → FromBelow c v h z
-  pub byMidpoint : c .estimator ≡ midpoint → Midpoint c v z
+      → (h : ℕ) → roundOf c D v .count ≤ 2 * h → 2 * h ≤ roundOf c D v .count + 1 → FromBelow c D v h z
+  pub byMidpoint : c .estimator ≡ midpoint → Midpoint c D v z
 
 -- ---- The crusaders decision
 
@@ -139,10 +139,10 @@ pub record NearestWhole (s : ℤ) (n : ℕ) (q : ℤ) : Type 0 where
 
 -- "Missing or unaccepted readings are replaced by the estimate. The new value is the mean of N used values to the
 -- nearest whole number, a half going up"
-pub record Used (c : Settings) (v : Readings) : Type 0 where
-  pub accepted : (r : ℕ) → acceptedAt c v r ≡ true → roundOf c v .used r ≡ ticks (v r)
-  pub replaced : (r : ℕ) → acceptedAt c v r ≡ false → roundOf c v .used r ≡ roundOf c v .estimate
-  pub mean : 0 < c .n → NearestWhole (sum (roundOf c v .used) (c .n)) (c .n) (roundOf c v .value)
+pub record Used (c : Settings) (D : ℕ) (v : Readings) : Type 0 where
+  pub accepted : (r : ℕ) → acceptedAt c D v r ≡ true → roundOf c D v .used r ≡ ticks (v r)
+  pub replaced : (r : ℕ) → acceptedAt c D v r ≡ false → roundOf c D v .used r ≡ roundOf c D v .estimate
+  pub mean : 0 < c .n → NearestWhole (sum (roundOf c D v .used) (c .n)) (c .n) (roundOf c D v .value)
 
 -- ---- The answer sheet
 
@@ -151,14 +151,14 @@ Bytes s = (i : ℕ) → byte s i < 256
 
 -- the round of the sheet s, as an answer sheet shows it: "Byte 0 N; byte 1 the accepted count; bytes 2 to 5 the
 -- estimate; bytes 6 to 9 the new value; then N marks ..; then N used values". No value is cut to fit its four bytes
-pub record Shown (s answer : List ℕ) : Type 0 where
+pub record Shown (s : List ℕ) (D : ℕ) (answer : List ℕ) : Type 0 where
   pub cabinets : byte answer 0 ≡ settingsAt s .n
-  pub counted : byte answer 1 ≡ roundAt s .count
-  pub estimate : toZ w32 (word answer 2) ≡ roundAt s .estimate
-  pub value : toZ w32 (word answer 6) ≡ roundAt s .value
-  pub mark : (r : ℕ) → r < settingsAt s .n → byte answer (answerHeaderSize + r) ≡ roundAt s .mark r
+  pub counted : byte answer 1 ≡ roundAt s D .count
+  pub estimate : toZ w32 (word answer 2) ≡ roundAt s D .estimate
+  pub value : toZ w32 (word answer 6) ≡ roundAt s D .value
+  pub mark : (r : ℕ) → r < settingsAt s .n → byte answer (answerHeaderSize + r) ≡ roundAt s D .mark r
   pub used : (r : ℕ) → r < settingsAt s .n
-      → toZ w32 (word answer (answerHeaderSize + settingsAt s .n + 4 * r)) ≡ roundAt s .used r
+      → toZ w32 (word answer (answerHeaderSize + settingsAt s .n + 4 * r)) ≡ roundAt s D .used r
 
 -- ---- The planner
 
@@ -192,18 +192,20 @@ pub record PlannedRounds (c : Settings) (κ : ℕ) : Type 0 where
 
 -- ---- "Too many faults"
 
--- "Where no earlier check refuses": checks 1 to 9
-abbrev pub Passed : List ℕ → List ℕ → Type 0
-Passed s answer = (i : ℕ) → i < 9 → getD (settleChecks s (length answer)) i none ≡ none
+-- "Where no earlier check refuses": checks 1 to 5, 16, and 6 to 9
+abbrev pub Passed : List ℕ → ℕ → List ℕ → Type 0
+Passed s D answer = (i : ℕ) → i < 10 → getD (settleChecks s D (length answer)) i none ≡ none
 
--- "no span as wide as the window holds N-m readings"
-abbrev pub NoSpan : List ℕ → Type 0
-NoSpan s = FullSpan (settingsAt s) (readingsOf (settingsAt s) (entryAt s (entryCount (settingsAt s)))) → ⊥
+-- "no span as wide as the window holds N-m readings"; document 02, request 2: "the span is δ + D, also where demand 2
+-- says when there are too many faults"
+abbrev pub NoSpan : List ℕ → ℕ → Type 0
+NoSpan s D = FullSpan (settingsAt s) D (readingsOf (settingsAt s) (entryAt s (entryCount (settingsAt s)))) → ⊥
 
-pub record TooManyFaults (s answer : List ℕ) : Type 0 where
-  pub said : Passed s answer → NoSpan s → settle s answer .verdict ≡ refused (refusal tooManyFaultsNumber 0)
+pub record TooManyFaults (s : List ℕ) (D : ℕ) (answer : List ℕ) : Type 0 where
+  pub said : Passed s D answer → NoSpan s D → settleSpread s D answer .verdict ≡ refused (refusal tooManyFaultsNumber 0)
   -- "and never otherwise"
-  pub never : (r : Refusal) → settle s answer .verdict ≡ refused r → r .number ≡ 10 → Passed s answer × NoSpan s
+  pub never :
+      (r : Refusal) → settleSpread s D answer .verdict ≡ refused r → r .number ≡ 10 → Passed s D answer × NoSpan s D
 
 -- ---- Round trips
 
@@ -233,19 +235,19 @@ WrittenThenRead c marks readings buffer =
 pub record Demand2 : Type 0 where
   -- "Accepted readings, estimate, crusaders decision and rounded mean are those of the paper, with document 01 where it
   -- is silent"
-  pub accepted : (c : Settings) (v : Readings) → Accepted c v
-  pub estimate : (c : Settings) (v : Readings) → 0 < roundOf c v .count → Estimate c v (roundOf c v .estimate)
+  pub accepted : (c : Settings) (D : ℕ) (v : Readings) → Accepted c D v
+  pub estimate : (c : Settings) (D : ℕ) (v : Readings) → 0 < roundOf c D v .count → Estimate c D v (roundOf c D v .estimate)
   pub decision : (c : Settings) (entry : Readings) (r : ℕ) → 3 * c .m + 1 ≤ c .n → Decided c entry r
-  pub mean : (c : Settings) (v : Readings) → Used c v
+  pub mean : (c : Settings) (D : ℕ) (v : Readings) → Used c D v
   pub shown :
-      (s answer : List ℕ) → Bytes s
-      → (size : ℕ) → settle s answer .verdict ≡ granted size → Shown s (settle s answer .buffer)
+      (s : List ℕ) (D : ℕ) (answer : List ℕ) → Bytes s
+      → (size : ℕ) → settleSpread s D answer .verdict ≡ granted size → Shown s D (settleSpread s D answer .buffer)
   -- "The planner's windows and accuracies, after any number of rounds, are those that document 01 defines"
   pub planned : (c : Settings) (κ : ℕ) → PlannedRounds c κ
   pub forward : (p q : Plan) → step p ≡ granted q → Forward p q
   -- "Where no earlier check refuses, "too many faults" is said when no span as wide as the window holds N-m readings,
   -- and never otherwise"
-  pub tooManyFaults : (s answer : List ℕ) → TooManyFaults s answer
+  pub tooManyFaults : (s : List ℕ) (D : ℕ) (answer : List ℕ) → TooManyFaults s D answer
   -- "A sheet read and written again has the same bytes, and one written reads back the same"
   pub readThenWritten :
       (s marks : List ℕ) (readings : List ℤ) (buffer : List ℕ) → ReadThenWritten s marks readings buffer

@@ -8,7 +8,7 @@ use mathlib.Core.Bool.{Bool, true, false, not, cond, _&&_}
 use mathlib.Core.Logic.{⊎-elim}
 use mathlib.Core.Path.{_≡_, refl, ap, subst, subst⁻¹}
 use Prim.Native.Nat.{ℕ, suc, _+_, _*_, _-_, _≤_, _<_}
-use native.Mathlib.Nat.{le-trans, lt-of-lt-of-le, lt-of-le-of-lt, one-mul}
+use native.Mathlib.Nat.{le-trans, lt-of-lt-of-le, lt-of-le-of-lt, one-mul, add-zero}
 use native.Mathlib.Omega.{arith}
 use borrow.Author.Tests.{eqb-true}
 use lib.Dec.{eqb}
@@ -37,8 +37,8 @@ use Rattle.demand_3.specs.Guarantee.{newValue, Unrefused, apart, Good, b
 use Rattle.demand_3.proofs.Distances.{dist-above, dist-below, dist-of, fits-mag}
 use Rattle.run.proofs.Entries.{seen, seen-held, seen-held-or-not, seen-alike}
 use Rattle.run.proofs.Link.{found}
-use Rattle.run.proofs.Ready.{Ready, planned, reads, grants, accepts-some}
-use Rattle.demand_3.proofs.Orderly.{new-value}
+use Rattle.run.proofs.Ready.{Ready, planned, grants, accepts-some}
+use Rattle.demand_3.proofs.Orderly.{seen-fits, new-value}
 use Rattle.demand_3.proofs.Received.{received, received-count}
 
 abbrev pub stationAt : Station → State → Station
@@ -92,7 +92,7 @@ module _ (st : Station) (begins : Start st) (j : ℕ) (now : State) (ready : Rea
   truth-near = omega arith
 
   abbrev has : ℕ → Receiver
-  has p = received c (seen st now x w p) (reads st begins j now ready x allowed p) far
+  has p = received c (seen st now x w p) far
 
   -- p's new value
   abbrev value : ℕ → ℕ
@@ -137,7 +137,7 @@ module _ (st : Station) (begins : Start st) (j : ℕ) (now : State) (ready : Rea
   accepts-here : (p : ℕ) → (0 < found st now x w p .count) → 0 < count (accepts (N st) (m st) w (has p)) (N st)
   accepts-here p =
       subst (λ (a : ℕ). 0 < a)
-      (received-count c (seen st now x w p) (reads st begins j now ready x allowed p) far far-enough)
+      (received-count c 0 w (add-zero w) (seen st now x w p) (seen-fits st begins j now ready x allowed p) far far-enough)
 
   -- ---- from the naturals back
 
@@ -179,7 +179,7 @@ module _ (st : Station) (begins : Start st) (j : ℕ) (now : State) (ready : Rea
     some-accepted : (p : ℕ) → 0 < found st now x w p .count
     some-accepted p =
         subst⁻¹ (λ (a : ℕ). 0 < a)
-        (received-count c (seen st now x w p) (reads st begins j now ready x allowed p) far far-enough)
+        (received-count c 0 w (add-zero w) (seen st now x w p) (seen-fits st begins j now ready x allowed p) far far-enough)
         (unrefused (N st) (m st) w good g few-sheets (has p) (all-read p))
 
     pub round-unrefused : (p : ℕ) → settled st now x p .verdict ≡ granted (answerLength (N st))

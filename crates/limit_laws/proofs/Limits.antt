@@ -3,6 +3,8 @@
 -- limits hold, to the tick. By counting: each used value is bounded row by row, the bounds are summed, and the mean of
 -- n follows.
 --   unrefused                              every good reading is accepted
+--   accuracy-bad, precision-spread         any estimators, by how many are bad, where readings of a good one differ by
+--                                          at most D
 --   accuracy-few, precision-few            any estimators
 --   precision-median                       medians, where both read alike what both have
 --   accuracy-many, precision-many          any estimators
@@ -17,9 +19,11 @@ use Rattle.arithmetic.specs.Counting.{bit, count}
 use Rattle.arithmetic.proofs.Bools.{both-ways, clash, and-right, and-intro}
 use Rattle.arithmetic.proofs.Counting.{count-mono, count-not, share}
 use Rattle.arithmetic.specs.Naturals.{total}
-use Rattle.arithmetic.proofs.Sums.{total-const, total-scale, count-total}
+use Rattle.arithmetic.proofs.Sums.{total-add, total-const, total-scale, count-total}
 use Rattle.model.specs.Planner.{ceilDiv}
 use Rattle.model.specs.RoundSheet.{median}
+use Rattle.round_laws.specs.Naturals.{mean-nat}
+use Rattle.value_laws.proofs.Means.{mean-shift}
 use Rattle.value_laws.proofs.Extremes.{LeastOf, GreatestOf, least, greatest}
 use Rattle.limit_laws.proofs.Means.{rise, fall, mean-rise, mean-fall, fall-rise, rise-ceil}
 use Rattle.limit_laws.proofs.Means.{total-close, mean-stray}
@@ -172,143 +176,192 @@ module _ (n m w : ℕ) (good : ℕ → Bool) (g : ℕ → ℕ) where
       used-between =
           used-within (accepts n m w v) n (v .x) unrefused _ _ (lowest .first) (highest .first) (v .k) (v .kind)
 
-      few-astray : total (astray n m w good v) n ≤ m
+      few-astray : total (astray n m w good v) n ≤ badCount n good
       few-astray =
           let c = count-mono good (λ r. accepts n m w v r && good r) n (λ r l e. and-intro (good-accepted r l e) e) in
-          omega (arith, h .few, astray-count n m w good v, count-not good n)
+          omega (arith, astray-count n m w good v, count-not good n)
 
-      pub accuracy-few : (T κ : ℕ) → Truth n good g T κ → Accurate T (κ + ceilDiv (m * w) n) (valueBy n m w v)
-      accuracy-few T κ truth =
-          let a = accurate few-spread v few-reads m few-astray T κ truth in
-          let c = rise-ceil n (some-n few-spread) (m * w) in
+      -- most: as many as are bad, or more
+      pub accuracy-bad :
+          (most : ℕ) → badCount n good ≤ most → (T κ : ℕ) → Truth n good g T κ
+          → Accurate T (κ + ceilDiv (most * w) n) (valueBy n m w v)
+      accuracy-bad most few T κ truth =
+          let a = accurate few-spread v few-reads most (le-trans few-astray few) T κ truth in
+          let c = rise-ceil n (some-n few-spread) (most * w) in
           record { above = omega (arith, a .above); below = omega (arith, a .below) }
 
-    module _ (p q : Receiver) (sp : Reads n good g p) (sq : Reads n good g q) where
-      -- used values that differ by at most j windows, and at the bad ones only
-      apart-few :
-          (j : ℕ) → ((r : ℕ) → r < n → usedBy n m w p r ≤ usedBy n m w q r + j * w)
-          → valueBy n m w p ≤ valueBy n m w q + ceilDiv (j * (m * w)) n
-      apart-few j far =
-          rw (← mul-assoc j m w)
-          (mean-stray n (some-n few-spread) w apart (j * m) sums (usedBy n m w p) (usedBy n m w q) row)
-        where
-          apart : ℕ → ℕ
-          apart r = bit (not (good r)) * j
+      pub accuracy-few : (T κ : ℕ) → Truth n good g T κ → Accurate T (κ + ceilDiv (m * w) n) (valueBy n m w v)
+      accuracy-few = accuracy-bad m (h .few)
 
-          sums : total apart n ≤ j * m
-          sums =
-              let a = total-scale (λ r. bit (not (good r))) j n in
-              let b = ap (λ (y : ℕ). y * j) (count-total (λ r. not (good r)) n) in
-              let c = mul-le-mul-right j (h .few) in
-              let d = mul-comm j m in
-              omega arith
+-- ---- two receivers, at most m bad, whose readings of a good one differ by at most D
 
-          row : (r : ℕ) → r < n → usedBy n m w p r ≤ usedBy n m w q r + apart r * w
-          row r l =
-              ⊎-elim
-              (λ e. omega (arith, used-good p sp r l e, used-good q sq r l e))
-              (λ e. let d : apart r * w ≡ j * w = rw e (ap (λ (y : ℕ). y * w) (one-mul j)) in omega (arith, far r l))
-              (both-ways (good r))
+module _ (n m w D : ℕ) (good : ℕ → Bool) (g g′ : ℕ → ℕ) (h : Few n m w good g) (h′ : Few n m w good g′)
+    (near-by : (r : ℕ) → r < n → good r ≡ true → g r ≤ g′ r + D)
+    (p q : Receiver) (sp : Reads n good g p) (sq : Reads n good g′ q) (most : ℕ) (few : badCount n good ≤ most) where
+  -- used values that differ by at most D, and j windows more at the bad ones
+  apart-few :
+      (j : ℕ) → ((r : ℕ) → r < n → usedBy n m w p r ≤ usedBy n m w q r + (D + j * w))
+      → valueBy n m w p ≤ valueBy n m w q + (D + ceilDiv (j * (most * w)) n)
+  apart-few j far =
+      let s = mean-stray n some w apart (j * most) sums (usedBy n m w p) (λ r. usedBy n m w q r + D) row in
+      omega (arith, s, shifted, ap (λ (y : ℕ). ceilDiv y n) (mul-assoc j most w))
+    where
+      some : 0 < n
+      some = omega (arith, h .planned)
 
-      -- H2: an accepted reading at p and one at q lie within w of one good value
-      accepted-close : (r s : ℕ) → accepts n m w p r ≡ true → accepts n m w q s ≡ true → p .x r ≤ q .x s + 2 * w
-      accepted-close r s a b = omega (arith, near .above, near′ .below)
-        where
-          span : SpanOf n m w p r
-          span = span-of n m w p r a
+      apart : ℕ → ℕ
+      apart r = bit (not (good r)) * j
 
-          span′ : SpanOf n m w q s
-          span′ = span-of n m w q s b
+      sums : total apart n ≤ j * most
+      sums =
+          let a = total-scale (λ r. bit (not (good r))) j n in
+          let b = ap (λ (y : ℕ). y * j) (count-total (λ r. not (good r)) n) in
+          let c = mul-le-mul-right j few in
+          let d = mul-comm j most in
+          omega arith
 
-          many : n - m ≤ count (good-in n m w good p (span .start)) n + badCount n good
-          many = good-in-many n m w good p r span
-
-          many′ : n - m ≤ count (good-in n m w good q (span′ .start)) n + badCount n good
-          many′ = good-in-many n m w good q s span′
-
-          shared :
-              (t : ℕ) × (t < n)
-              × (good-in n m w good p (span .start) t ≡ true) × (good-in n m w good q (span′ .start) t ≡ true)
-          shared =
-              share (good-in n m w good p (span .start)) (good-in n m w good q (span′ .start)) good n
-              (λ t _ e. good-in-good n m w good p (span .start) t e)
-              (λ t _ e. good-in-good n m w good q (span′ .start) t e)
-              (omega (arith, h .planned, h .few, count-not good n, many, many′))
-
-          near : Near w g p r (shared .0)
-          near = good-near n m w good g p (sp .alike) r (shared .0) span (shared .1) (shared .2)
-
-          near′ : Near w g q s (shared .0)
-          near′ = good-near n m w good g q (sq .alike) s (shared .0) span′ (shared .1) (shared .3)
-
-      pub precision-few : valueBy n m w p ≤ valueBy n m w q + ceilDiv (2 * (m * w)) n
-      precision-few = apart-few 2 far
-        where
-          far : (r : ℕ) → r < n → usedBy n m w p r ≤ usedBy n m w q r + 2 * w
-          far r l =
-              let hi = highest p sp in
-              let lo = lowest q sq in
-              let c = accepted-close (hi .index) (lo .index) (hi .passes) (lo .passes) in
-              omega (arith, used-between p sp r l .high, used-between q sq r l .low)
-
-    -- where q settles by the median: an accepted reading at p lies within w of it
-    module _ (p q : Receiver) (sp : Reads n good g p) (sq : Reads n good g q) (agree : BothAlike n p q)
-        (kind : q .kind ≡ median) where
-      -- p alone accepts bad ones only
-      few-alone : count (alone (accepts n m w p) (accepts n m w q)) n ≤ m
-      few-alone =
-          le-trans
-          (count-mono
-          (alone (accepts n m w p) (accepts n m w q))
-          (λ t. not (good t))
-          n
-          (λ t l e.
+      row : (r : ℕ) → r < n → usedBy n m w p r ≤ usedBy n m w q r + D + apart r * w
+      row r l =
           ⊎-elim
-          (λ f. clash (and-right (accepts n m w p t) (not (accepts n m w q t)) e) (ap not (good-accepted q sq t l f)))
-          (ap not)
-          (both-ways (good t))))
-          (h .few)
+          (λ e.
+          omega (arith, used-good n m w good g h p sp r l e, used-good n m w good g′ h′ q sq r l e, near-by r l e))
+          (λ e. let d : apart r * w ≡ j * w = rw e (ap (λ (y : ℕ). y * w) (one-mul j)) in omega (arith, far r l))
+          (both-ways (good r))
 
-      same : (t : ℕ) → t < n → accepts n m w p t ≡ true → accepts n m w q t ≡ true → p .x t ≡ q .x t
-      same t l a b = agree t l (accepts-present n m w p t a) (accepts-present n m w q t b)
+      -- D more for each is D more for the mean
+      shifted : mean-nat n (total (λ r. usedBy n m w q r + D) n) ≡ valueBy n m w q + D
+      shifted =
+          ap (mean-nat n)
+          (total-add (usedBy n m w q) (λ _. D) n
+          ∙ ap (λ (y : ℕ). total (usedBy n m w q) n + y) (total-const D n ∙ mul-comm n D))
+          ∙ mean-shift n some (total (usedBy n m w q) n) D
 
-      the-median : Numbered (accepts n m w q) n (q .x) ((count (accepts n m w q) n + 1) / 2) (estimateBy n m w q)
-      the-median = rw kind (median-numbered (accepts n m w q) n (q .x) (unrefused q sq) (q .k))
+  -- H2: an accepted reading at p and one at q lie within w of the values of one good one
+  accepted-close :
+      (r s : ℕ) → accepts n m w p r ≡ true → accepts n m w q s ≡ true → p .x r ≤ q .x s + (D + 2 * w)
+  accepted-close r s a b = omega (arith, near .above, near′ .below, near-by (shared .0) (shared .1) its-good)
+    where
+      span : SpanOf n m w p r
+      span = span-of n m w p r a
 
-      median-high : (r : ℕ) → accepts n m w p r ≡ true → p .x r ≤ estimateBy n m w q + w
-      median-high r e =
-          median-above n m w (accepts n m w p) (accepts n m w q) (p .x) (q .x) same r (span-of n m w p r e)
-          (h .planned) few-alone _ the-median
+      span′ : SpanOf n m w q s
+      span′ = span-of n m w q s b
 
-      median-low : (r : ℕ) → accepts n m w p r ≡ true → estimateBy n m w q ≤ p .x r + w
-      median-low r e =
-          median-below n m w (accepts n m w p) (accepts n m w q) (p .x) (q .x) same r (span-of n m w p r e)
-          (h .planned) few-alone _ the-median
+      many : n - m ≤ count (good-in n m w good p (span .start)) n + badCount n good
+      many = good-in-many n m w good p r span
 
-    -- rows that neither accepts count too: the median at p is itself an accepted reading there
-    pub precision-median :
-        (p q : Receiver) → Reads n good g p → Reads n good g q → BothAlike n p q → p .kind ≡ median → q .kind ≡ median
-        → valueBy n m w p ≤ valueBy n m w q + ceilDiv (m * w) n
-    precision-median p q sp sq agree kp kq = rw one-mul at (apart-few p q sp sq 1 far)
-      where
-        agree′ : BothAlike n q p
-        agree′ r l a b = sym (agree r l b a)
+      many′ : n - m ≤ count (good-in n m w good q (span′ .start)) n + badCount n good
+      many′ = good-in-many n m w good q s span′
 
-        own : Numbered (accepts n m w p) n (p .x) ((count (accepts n m w p) n + 1) / 2) (estimateBy n m w p)
-        own = the-median q p sq sp agree′ kp
+      shared :
+          (t : ℕ) × (t < n)
+          × (good-in n m w good p (span .start) t ≡ true) × (good-in n m w good q (span′ .start) t ≡ true)
+      shared =
+          share (good-in n m w good p (span .start)) (good-in n m w good q (span′ .start)) good n
+          (λ t _ e. good-in-good n m w good p (span .start) t e)
+          (λ t _ e. good-in-good n m w good q (span′ .start) t e)
+          (omega (arith, h .planned, h .few, count-not good n, many, many′))
 
-        row :
-            (r : ℕ) → r < n → (a b : Bool) → accepts n m w p r ≡ a → accepts n m w q r ≡ b
-            → usedBy n m w p r ≤ usedBy n m w q r + w
-        row r l true true a b =
-            omega (arith, used-accepted n m w p r a, used-accepted n m w q r b, same p q sp sq agree kq r l a b)
-        row r l true false a b =
-            omega (arith, used-accepted n m w p r a, used-replaced n m w q r b, median-high p q sp sq agree kq r a)
-        row r l false true a b =
-            omega (arith, used-replaced n m w p r a, used-accepted n m w q r b, median-low q p sq sp agree′ kp r b)
-        row r l false false a b =
-            let high = median-high p q sp sq agree kq (own .index) (own .admitted) in
-            omega (arith, used-replaced n m w p r a, used-replaced n m w q r b, own .number)
+      its-good : good (shared .0) ≡ true
+      its-good = good-in-good n m w good p (span .start) (shared .0) (shared .2)
 
-        far : (r : ℕ) → r < n → usedBy n m w p r ≤ usedBy n m w q r + 1 * w
-        far r l = omega (arith, row r l (accepts n m w p r) (accepts n m w q r) refl refl)
+      near : Near w g p r (shared .0)
+      near = good-near n m w good g p (sp .alike) r (shared .0) span (shared .1) (shared .2)
+
+      near′ : Near w g′ q s (shared .0)
+      near′ = good-near n m w good g′ q (sq .alike) s (shared .0) span′ (shared .1) (shared .3)
+
+  pub precision-spread : valueBy n m w p ≤ valueBy n m w q + (D + ceilDiv (2 * (most * w)) n)
+  precision-spread = apart-few 2 far
+    where
+      far : (r : ℕ) → r < n → usedBy n m w p r ≤ usedBy n m w q r + (D + 2 * w)
+      far r l =
+          let hi = highest n m w good g h p sp in
+          let lo = lowest n m w good g′ h′ q sq in
+          let c = accepted-close (hi .index) (lo .index) (hi .passes) (lo .passes) in
+          omega (
+            arith,
+            used-between n m w good g h p sp r l .high,
+            used-between n m w good g′ h′ q sq r l .low,
+          )
+
+-- ---- receivers that read good ones alike
+
+module _ (n m w : ℕ) (good : ℕ → Bool) (g : ℕ → ℕ) (h : Few n m w good g) where
+  same-value : (r : ℕ) → r < n → good r ≡ true → g r ≤ g r + 0
+  same-value r l e = omega arith
+
+  pub precision-few :
+      (p q : Receiver) → Reads n good g p → Reads n good g q
+      → valueBy n m w p ≤ valueBy n m w q + ceilDiv (2 * (m * w)) n
+  precision-few p q sp sq =
+      omega (arith, precision-spread n m w 0 good g g h h same-value p q sp sq m (h .few))
+
+  -- where q settles by the median: an accepted reading at p lies within w of it
+  module _ (p q : Receiver) (sp : Reads n good g p) (sq : Reads n good g q) (agree : BothAlike n p q)
+      (kind : q .kind ≡ median) where
+    -- p alone accepts bad ones only
+    few-alone : count (alone (accepts n m w p) (accepts n m w q)) n ≤ m
+    few-alone =
+        le-trans
+        (count-mono
+        (alone (accepts n m w p) (accepts n m w q))
+        (λ t. not (good t))
+        n
+        (λ t l e.
+        ⊎-elim
+        (λ f.
+        clash (and-right (accepts n m w p t) (not (accepts n m w q t)) e)
+        (ap not (good-accepted n m w good g h q sq t l f)))
+        (ap not)
+        (both-ways (good t))))
+        (h .few)
+
+    same : (t : ℕ) → t < n → accepts n m w p t ≡ true → accepts n m w q t ≡ true → p .x t ≡ q .x t
+    same t l a b = agree t l (accepts-present n m w p t a) (accepts-present n m w q t b)
+
+    the-median : Numbered (accepts n m w q) n (q .x) ((count (accepts n m w q) n + 1) / 2) (estimateBy n m w q)
+    the-median = rw kind (median-numbered (accepts n m w q) n (q .x) (unrefused n m w good g h q sq) (q .k))
+
+    median-high : (r : ℕ) → accepts n m w p r ≡ true → p .x r ≤ estimateBy n m w q + w
+    median-high r e =
+        median-above n m w (accepts n m w p) (accepts n m w q) (p .x) (q .x) same r (span-of n m w p r e)
+        (h .planned) few-alone _ the-median
+
+    median-low : (r : ℕ) → accepts n m w p r ≡ true → estimateBy n m w q ≤ p .x r + w
+    median-low r e =
+        median-below n m w (accepts n m w p) (accepts n m w q) (p .x) (q .x) same r (span-of n m w p r e)
+        (h .planned) few-alone _ the-median
+
+  -- rows that neither accepts count too: the median at p is itself an accepted reading there
+  pub precision-median :
+      (p q : Receiver) → Reads n good g p → Reads n good g q → BothAlike n p q → p .kind ≡ median → q .kind ≡ median
+      → valueBy n m w p ≤ valueBy n m w q + ceilDiv (m * w) n
+  precision-median p q sp sq agree kp kq =
+      omega (
+        arith,
+        apart-few n m w 0 good g g h h same-value p q sp sq m (h .few) 1 far,
+        ap (λ (y : ℕ). ceilDiv y n) (one-mul (m * w)),
+      )
+    where
+      agree′ : BothAlike n q p
+      agree′ r l a b = sym (agree r l b a)
+
+      own : Numbered (accepts n m w p) n (p .x) ((count (accepts n m w p) n + 1) / 2) (estimateBy n m w p)
+      own = the-median q p sq sp agree′ kp
+
+      row :
+          (r : ℕ) → r < n → (a b : Bool) → accepts n m w p r ≡ a → accepts n m w q r ≡ b
+          → usedBy n m w p r ≤ usedBy n m w q r + w
+      row r l true true a b =
+          omega (arith, used-accepted n m w p r a, used-accepted n m w q r b, same p q sp sq agree kq r l a b)
+      row r l true false a b =
+          omega (arith, used-accepted n m w p r a, used-replaced n m w q r b, median-high p q sp sq agree kq r a)
+      row r l false true a b =
+          omega (arith, used-replaced n m w p r a, used-accepted n m w q r b, median-low q p sq sp agree′ kp r b)
+      row r l false false a b =
+          let high = median-high p q sp sq agree kq (own .index) (own .admitted) in
+          omega (arith, used-replaced n m w p r a, used-replaced n m w q r b, own .number)
+
+      far : (r : ℕ) → r < n → usedBy n m w p r ≤ usedBy n m w q r + (0 + 1 * w)
+      far r l = omega (arith, row r l (accepts n m w p r) (accepts n m w q r) refl refl)

@@ -15,7 +15,7 @@ use Rattle.model.specs.declared.Refusal.{Refusal}
 use Rattle.model.specs.RoundSheet.{byte, settingsAt}
 use Rattle.model.specs.AnswerSheet.{answerLength}
 use Rattle.model.specs.Refusals.{firstOf, settleChecks}
-use Rattle.model.specs.Calls.{Verdict, granted, refused, verdict, Outcome, settle}
+use Rattle.model.specs.Calls.{Verdict, granted, refused, verdict, Outcome, settleSpread, settle}
 use Rattle.model.specs.Listing.{maxInput, listingBuffer, listing}
 use Rattle.sheet_laws.proofs.Outcomes.{refused-some, granted-none}
 use Rattle.settling.specs.declared.Settled.the-variants.{Granted, Refused}
@@ -64,8 +64,8 @@ module _ (input buffer answer left : List ℕ) (end : ℕ) (size : end ≡ min (
   settled-here w e = e ∙ ap₂ settle (read-part input end size) zeros
 
   verdict-here : (v : Verdict ℕ) → record { verdict = v; buffer = left } ≡ settle (take end input) answer
-      → verdict (firstOf (settleChecks sheet (length listingBuffer))) (answerLength (settingsAt sheet .n)) ≡ v
-  unfolding settle
+      → verdict (firstOf (settleChecks sheet 0 (length listingBuffer))) (answerLength (settingsAt sheet .n)) ≡ v
+  unfolding settle settleSpread
   verdict-here v e = sym (ap (λ (w : Outcome). w .verdict) (settled-here (record { verdict = v; buffer = left }) e))
 
   -- a buffer that has room for a round's text has room for a refusal's
@@ -79,7 +79,7 @@ module _ (input buffer answer left : List ℕ) (end : ℕ) (size : end ≡ min (
   unfolding listingIn
   refusal-listed r e =
       listing-refused input buffer r
-      (refused-some (firstOf (settleChecks sheet (length listingBuffer))) (answerLength (settingsAt sheet .n)) r
+      (refused-some (firstOf (settleChecks sheet 0 (length listingBuffer))) (answerLength (settingsAt sheet .n)) r
       (verdict-here (refused r) e))
       ∙ refusal-room (listing input)
 
@@ -90,16 +90,16 @@ module _ (input buffer answer left : List ℕ) (end : ℕ) (size : end ≡ min (
   round-listed small n e =
       ap (λ (l : List ℕ). roundWritten l buffer) (ap (λ (w : Outcome). w .buffer) (settled-here _ e))
       ∙ listing-settled input buffer passed
-      (settled-estimate sheet bytes listingBuffer passed)
-      (settled-value sheet bytes listingBuffer passed)
-      (settled-used sheet bytes listingBuffer passed)
+      (settled-estimate sheet bytes 0 listingBuffer passed)
+      (settled-value sheet bytes 0 listingBuffer passed)
+      (settled-used sheet bytes 0 listingBuffer passed)
     where
       bytes : (j : ℕ) → byte sheet j < 256
       bytes = part-small maxInput input small
 
-      passed : firstOf (settleChecks sheet (length listingBuffer)) ≡ none
+      passed : firstOf (settleChecks sheet 0 (length listingBuffer)) ≡ none
       passed =
-          granted-none (firstOf (settleChecks sheet (length listingBuffer))) (answerLength (settingsAt sheet .n)) n
+          granted-none (firstOf (settleChecks sheet 0 (length listingBuffer))) (answerLength (settingsAt sheet .n)) n
           (verdict-here (granted n) e)
 
 -- the bytes up to the answered length are the listing

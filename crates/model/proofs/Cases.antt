@@ -7,10 +7,10 @@ use Rattle.arithmetic.specs.Writing.{table}
 use Rattle.model.specs.RoundSheet.{word, entryCount, entryAt, rowEntries, rowPart, bytes4, readingBytes, sizeBytes, sheetBytes}
 use Rattle.model.specs.Steps.{decideRow, readingsOf, accepted, acceptedAt, numbered, averageOf, medianOf, midpointOf, estimate, mean, roundOf, roundAt}
 use Rattle.model.specs.Planner.{ceilDiv, windowFactor, nextWindow, growth, advance, after}
-use Rattle.model.specs.Refusals.{firstOf, tooShort, badCabinets, badFaults, badMethod, badWindow, badLength, noRoom, badMark, badMissing, tooManyFaults, badPlan, targetMissed, settingsChecks, sheetChecks, entryChecks, rowChecks, settleChecks, targetChecks}
+use Rattle.model.specs.Refusals.{firstOf, tooShort, badCabinets, badFaults, badMethod, badWindow, badLength, noRoom, badMark, badMissing, tooManyFaults, badPlan, targetMissed, badSpread, settingsChecks, sheetChecks, spreadChecks, entryChecks, rowChecks, settleChecks, targetChecks}
 use Rattle.model.specs.Calls.{row}
 use Rattle.model.specs.Listing.{digitsUpTo, line, cabinetLines, roundText, refusalText, listing}
-use Rattle.model.specs.Cases.{Case, cases, ask, ofRound, sheet1, listing1, sheet10, rowsShown, rowsWanted}
+use Rattle.model.specs.Cases.{Case, cases, ask, ofRound, sheet1, listing1, sheet10, rowsShown, rowsWanted, spreadShown, spreadWanted}
 
 -- cases 1 to 12
 pub rounds-on-paper : map (λ (k : Case). ask (k .asks)) cases ≡ map (λ (k : Case). k .answer) cases
@@ -19,10 +19,15 @@ rounds-on-paper = refl
 
 -- the listing of case 1, from the bytes of its sheet
 pub listing-on-paper : listing sheet1 ≡ listing1
-unfolding count anyBelow lowest sum table word entryCount entryAt bytes4 readingBytes sizeBytes sheetBytes readingsOf accepted acceptedAt numbered medianOf estimate mean roundOf roundAt firstOf tooShort badCabinets badFaults badMethod badWindow badLength noRoom badMark badMissing tooManyFaults settingsChecks sheetChecks entryChecks settleChecks digitsUpTo line cabinetLines roundText refusalText listing sheet1 listing1
+unfolding count anyBelow lowest sum table word entryCount entryAt bytes4 readingBytes sizeBytes sheetBytes readingsOf accepted acceptedAt numbered medianOf estimate mean roundOf roundAt firstOf tooShort badCabinets badFaults badMethod badWindow badLength noRoom badMark badMissing tooManyFaults settingsChecks badSpread spreadChecks entryChecks settleChecks digitsUpTo line cabinetLines roundText refusalText listing sheet1 listing1
 listing-on-paper = refl
 
 -- the rows of cabinets 0 and N-1, and of no cabinet
 pub rows-on-paper : rowsShown ≡ rowsWanted
 unfolding lowest word entryCount rowEntries rowPart bytes4 readingBytes sizeBytes sheetBytes firstOf tooShort badCabinets badFaults badMethod badWindow badLength badMark badMissing settingsChecks sheetChecks entryChecks rowChecks row sheet1 sheet10 rowsShown rowsWanted
 rows-on-paper = refl
+
+-- what two cabinets find with a spread
+pub spread-on-paper : spreadShown ≡ spreadWanted
+unfolding count anyBelow lowest sum readingsOf accepted acceptedAt numbered medianOf estimate mean roundOf spreadShown spreadWanted
+spread-on-paper = refl

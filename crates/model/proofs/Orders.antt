@@ -8,18 +8,18 @@ use Prim.Native.Nat.{ℕ, _+_, _-_}
 use lib.IntN.{ℤ, pos}
 use Rattle.arithmetic.specs.Counting.{count, anyBelow, lowest}
 use Rattle.model.specs.declared.Settings.{Settings}
-use Rattle.model.specs.Ensemble.{maxWindow}
-use Rattle.model.specs.RoundSheet.{fca, median, word, entryCount, sheetLength, entryAt, bytes4, readingBytes}
+use Rattle.model.specs.Ensemble.{maxWindow, maxSpread}
+use Rattle.model.specs.RoundSheet.{fca, cca, median, word, entryCount, sheetLength, entryAt, bytes4, readingBytes}
 use Rattle.model.specs.RoundSheet.{sizeBytes, sheetBytes}
 use Rattle.model.specs.AnswerSheet.{answerLength}
 use Rattle.model.specs.Steps.{readingsOf, accepted, acceptedAt, roundOf, roundAt}
 use Rattle.model.specs.Planner.{maxAccuracy, maxRounds, ceilDiv, windowFactor, nextWindow, growth, advance, after}
 use Rattle.model.specs.Refusals.{Check, refusal, firstOf, tooShort, badCabinets, badFaults, badMethod, badWindow, badLength, noRoom, badMark}
-use Rattle.model.specs.Refusals.{badMissing, tooManyFaults, badPlan, targetMissed, settingsChecks, sheetChecks, entryChecks}
+use Rattle.model.specs.Refusals.{badMissing, tooManyFaults, badPlan, targetMissed, badSpread, settingsChecks, sheetChecks, spreadChecks, entryChecks}
 use Rattle.model.specs.Refusals.{readChecks, writeChecks, rowChecks, settleChecks, planChecks, stepChecks, targetChecks}
 use Rattle.model.specs.Refusals.{badCabinetsNumber, badFaultsNumber, badLengthNumber, badMarkNumber}
 use Rattle.model.specs.Refusals.{badMethodNumber, badMissingNumber, badPlanNumber, badWindowNumber}
-use Rattle.model.specs.Refusals.{noRoomNumber, tooManyFaultsNumber, tooShortNumber}
+use Rattle.model.specs.Refusals.{noRoomNumber, tooManyFaultsNumber, tooShortNumber, badSpreadNumber}
 
 -- N and m with FCA and median, a rule and a window
 abbrev with : ℕ → ℕ → ℕ → ℕ → Settings
@@ -36,19 +36,21 @@ two m0 m1 r0 r1 = sheetBytes (with 2 0 fca 0) (m0 ∷ m1 ∷ []) (pos r0 ∷ pos
 abbrev fourth : ℕ → Settings
 fourth window = with 4 1 fca window
 
--- settling: 1 before 2, and so on; with 8 and 9 entry 0 is missing and not zero, and entry 1 has the mark 2
+-- settling: 1 before 2, and so on, 16 between 5 and 6; with 8 and 9 entry 0 is missing and not zero, and entry 1 has the mark 2
 unfoldable pub settleFirsts : List Check
 settleFirsts =
-    firstOf (settleChecks [] 0)
-    ∷ firstOf (settleChecks (sheetBytes (with 0 1 255 0) [] []) 0)
-    ∷ firstOf (settleChecks (sheetBytes (with 3 1 255 0) [] []) 0)
-    ∷ firstOf (settleChecks (sheetBytes (with 4 1 255 (maxWindow + 1)) [] []) 0)
-    ∷ firstOf (settleChecks (sheetBytes (with 4 1 fca (maxWindow + 1)) [] []) 0)
-    ∷ firstOf (settleChecks (sheetBytes (with 4 1 fca 0) [] []) 0)
-    ∷ firstOf (settleChecks (one 2 0) (answerLength 1 - 1))
-    ∷ firstOf (settleChecks (two 0 2 5 0) (answerLength 2))
-    ∷ firstOf (settleChecks (two 0 0 0 5) (answerLength 2))
-    ∷ firstOf (settleChecks (one 0 0) (answerLength 1))
+    firstOf (settleChecks [] 0 0)
+    ∷ firstOf (settleChecks (sheetBytes (with 0 1 255 0) [] []) 0 0)
+    ∷ firstOf (settleChecks (sheetBytes (with 3 1 255 0) [] []) 0 0)
+    ∷ firstOf (settleChecks (sheetBytes (with 4 1 255 (maxWindow + 1)) [] []) 0 0)
+    ∷ firstOf (settleChecks (sheetBytes (with 4 1 fca (maxWindow + 1)) [] []) (maxSpread + 1) 0)
+    ∷ firstOf (settleChecks (sheetBytes (with 4 1 fca 0) [] []) (maxSpread + 1) 0)
+    ∷ firstOf (settleChecks (sheetBytes (with 4 1 cca 0) [] []) 1 0)
+    ∷ firstOf (settleChecks (sheetBytes (with 4 1 fca 0) [] []) maxSpread 0)
+    ∷ firstOf (settleChecks (one 2 0) 0 (answerLength 1 - 1))
+    ∷ firstOf (settleChecks (two 0 2 5 0) 0 (answerLength 2))
+    ∷ firstOf (settleChecks (two 0 0 0 5) 0 (answerLength 2))
+    ∷ firstOf (settleChecks (one 0 0) 0 (answerLength 1))
     ∷ []
 
 unfoldable pub settleWanted : List Check
@@ -58,6 +60,8 @@ settleWanted =
     ∷ some (refusal badFaultsNumber 0)
     ∷ some (refusal badMethodNumber 0)
     ∷ some (refusal badWindowNumber 0)
+    ∷ some (refusal badSpreadNumber 0)
+    ∷ some (refusal badSpreadNumber 0)
     ∷ some (refusal badLengthNumber 0)
     ∷ some (refusal noRoomNumber 0)
     ∷ some (refusal badMarkNumber 1)
@@ -66,7 +70,7 @@ settleWanted =
     ∷ []
 
 pub settle-order : settleFirsts ≡ settleWanted
-unfolding count anyBelow lowest word entryCount entryAt bytes4 readingBytes sizeBytes sheetBytes readingsOf accepted acceptedAt roundOf roundAt firstOf tooShort badCabinets badFaults badMethod badWindow badLength noRoom badMark badMissing tooManyFaults settingsChecks sheetChecks entryChecks settleChecks settleFirsts settleWanted
+unfolding count anyBelow lowest word entryCount entryAt bytes4 readingBytes sizeBytes sheetBytes readingsOf accepted acceptedAt roundOf roundAt firstOf tooShort badCabinets badFaults badMethod badWindow badLength noRoom badMark badMissing tooManyFaults badSpread settingsChecks spreadChecks entryChecks settleChecks settleFirsts settleWanted
 settle-order = refl
 
 -- the reader: 6 before 7, 7 before 8, 8 before 9; the row accessor: 8 before 9; the writer: 5 before 6, 6 before 7, and so on

@@ -1,6 +1,7 @@
 -- What each call of document 01 gives, and what it leaves in everything that it was lent (docs/FORMAT.md, 7 and 8).
 --   Verdict                    what is granted, or the refusal
---   read, write, row, settle   the reader, the writer, the row accessor, settling
+--   read, write, row           the reader, the writer, the row accessor
+--   settleSpread, settle       settling with a spread; settling without one
 --   plan, step, Target         the planner, its step, the count for a target
 use mathlib.Core.Bool.{cond}
 use mathlib.Core.List.{List, []}
@@ -90,12 +91,17 @@ row s r = lent (firstOf (rowChecks s)) (cond (ltb r (settingsAt s .n)) (rowPart 
 
 -- ---- Settling: "it leaves as one answer sheet or one numbered refusal". It grants the answer sheet's length
 
-abbrev pub settleAfter : Check → List ℕ → List ℕ → Outcome
-settleAfter check s answer =
-    writtenAfter check (answerLength (settingsAt s .n)) (answerBytes (settingsAt s .n) (roundAt s)) answer
+abbrev pub settleAfter : Check → List ℕ → ℕ → List ℕ → Outcome
+settleAfter check s D answer =
+    writtenAfter check (answerLength (settingsAt s .n)) (answerBytes (settingsAt s .n) (roundAt s D)) answer
 
+-- document 02, request 2: "The FCA caller now gives a spread D"
+unfoldable pub settleSpread : List ℕ → ℕ → List ℕ → Outcome
+settleSpread s D answer = settleAfter (firstOf (settleChecks s D (length answer))) s D answer
+
+-- settling without a spread is settling with D 0
 unfoldable pub settle : List ℕ → List ℕ → Outcome
-settle s answer = settleAfter (firstOf (settleChecks s (length answer))) s answer
+settle s answer = settleSpread s 0 answer
 
 -- ---- The planner: "From N, m, rule, estimator, δ, accuracy κ and 0 to 32 rounds it gives the window and the accuracy
 -- after them"

@@ -49,9 +49,12 @@ abbrev pub ofDecision : Decision → Answer
 ofDecision (decided z) = gives (z ∷ [])
 ofDecision knownFaulty = faulty
 
--- the round that a list of entries makes
+-- the round that a list of entries makes, with a spread; without one
+abbrev pub spreadFrom : Settings → ℕ → List Reading → Round
+spreadFrom c D entries = roundOf c D (readingsOf c (λ e. getD entries e missing))
+
 abbrev pub roundFrom : Settings → List Reading → Round
-roundFrom c entries = roundOf c (readingsOf c (λ e. getD entries e missing))
+roundFrom c entries = spreadFrom c 0 entries
 
 unfoldable pub ofRound : Round → List ℤ → Answer
 ofRound r shown = ofCheck (tooManyFaults (r .count)) (gives shown)
@@ -183,3 +186,15 @@ rowsWanted =
     ∷ (20 ∷ 0 ∷ 0 ∷ 0 ∷ 20 ∷ 0 ∷ 0 ∷ 0 ∷ 20 ∷ 0 ∷ 0 ∷ 0 ∷ 0 ∷ 0 ∷ 0 ∷ 0 ∷ [])
     ∷ []
     ∷ []
+
+-- ---- Document 02, request 2: N 4, m 1, a window of 1 and a spread of 2
+
+-- the count and the new value of the readings 0, 0, 0, -3, and of 2, 2, 2, 5
+unfoldable pub spreadShown : List ℤ
+spreadShown =
+    let low = spreadFrom (settings 4 1 fca median 1) 2 (at 0 ∷ at 0 ∷ at 0 ∷ minus 3 ∷ []) in
+    let high = spreadFrom (settings 4 1 fca median 1) 2 (at 2 ∷ at 2 ∷ at 2 ∷ at 5 ∷ []) in
+    pos (low .count) ∷ low .value ∷ pos (high .count) ∷ high .value ∷ []
+
+unfoldable pub spreadWanted : List ℤ
+spreadWanted = pos 4 ∷ negsuc 0 ∷ pos 4 ∷ pos 3 ∷ []

@@ -1,5 +1,6 @@
 -- Document 01, "The ensemble" (docs/FORMAT.md, 1 and 2).
 --   maxCabinets, maxWindow           the limits of N and of the window
+--   maxSpread                        the limit of a caller's spread (document 02, request 2)
 --   ticksPerSecond                   the tick: 1/16,777,216 second
 --   lowestReading, highestReading    the ends of a signed 32-bit number of ticks
 --   Reading, Readings                a reading, present or missing; one for each cabinet, numbered from 0
@@ -16,6 +17,10 @@ maxCabinets = 64
 -- "The window δ is 0 to 1,000,000 ticks"
 abbrev pub maxWindow : ℕ
 maxWindow = 1_000_000
+
+-- document 02, request 2: "The FCA caller now gives a spread D, 0 to 100,000 ticks"
+abbrev pub maxSpread : ℕ
+maxSpread = 100_000
 
 -- "The tick carries its own fixed figures: ticks per second, lowest and highest reading"
 abbrev pub ticksPerSecond : ℕ

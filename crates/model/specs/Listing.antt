@@ -76,4 +76,4 @@ listingBuffer = replicate (answerLength maxCabinets) 0
 unfoldable pub listing : List ℕ → List ℕ
 listing input =
     let s : List ℕ = take maxInput input in
-    textAfter (firstOf (settleChecks s (length listingBuffer))) (roundText (settingsAt s .n) (roundAt s))
+    textAfter (firstOf (settleChecks s 0 (length listingBuffer))) (roundText (settingsAt s .n) (roundAt s 0))

@@ -1,12 +1,14 @@
 -- Document 01, "Numbers of refusal" (docs/FORMAT.md, 7): the table, a definition for each check in its order, and the
 -- checks that apply to each call. Of what a call is lent to fill they ask the length.
---   tooShortNumber .. runStoppedNumber      the numbers, 1 to 15
+--   tooShortNumber .. badSpreadNumber      the numbers, 1 to 16
 --   Check                       what a check gives: its refusal, or nothing
 --   refuseIf, atEntry           a check whose place is 0; a check whose place is the lowest entry at fault
 --   firstOf                     "Checks run in this order, those that apply to the call": the first that refuses
 --   tooShort .. targetMissed    checks 1 to 12
+--   badSpread                   check 16
 --   settingsChecks              2 to 5, of settings
---   sheetChecks                 1 to 6, of a sheet
+--   sizeChecks, sheetChecks     1 to 5, of a sheet's sizes; 1 to 6, of a sheet
+--   spreadChecks                1 to 5, 16 and 6, of a sheet and a spread
 --   arrayChecks, entryChecks    8 and 9, of two parallel arrays; of a sheet's entries
 --   planningChecks              2 to 5 and 11, of settings and a start or a step that fails or not
 --   readChecks, writeChecks, rowChecks, settleChecks, planChecks, stepChecks, targetChecks    the checks of each call
@@ -20,7 +22,7 @@ use lib.IntN.{ℤ}
 use Rattle.arithmetic.specs.Counting.{lowest}
 use Rattle.model.specs.declared.Settings.{Settings}
 use Rattle.model.specs.declared.Refusal.{Refusal}
-use Rattle.model.specs.Ensemble.{maxCabinets, maxWindow}
+use Rattle.model.specs.Ensemble.{maxCabinets, maxWindow, maxSpread}
 use Rattle.model.specs.RoundSheet.{cca, midpoint, headerSize, byte, settingsAt, entryCount, sheetLength}
 use Rattle.model.specs.RoundSheet.{markAt, bitsAt, bitsIn}
 use Rattle.model.specs.AnswerSheet.{answerLength}
@@ -64,7 +66,7 @@ badPlanNumber = 11
 abbrev pub targetMissedNumber : ℕ
 targetMissedNumber = 12
 
--- document 02, request 1: 13 to 15 (crates/run/specs/Replay.antt)
+-- document 02, request 1: 13 to 15 (crates/trace/specs/Replay.antt)
 abbrev pub badTraceNumber : ℕ
 badTraceNumber = 13
 
@@ -73,6 +75,10 @@ badRolesNumber = 14
 
 abbrev pub runStoppedNumber : ℕ
 runStoppedNumber = 15
+
+-- document 02, request 2
+abbrev pub badSpreadNumber : ℕ
+badSpreadNumber = 16
 
 -- "A refusal gives its number and a place: for 8 and 9 the lowest entry at fault, else 0"
 abbrev pub refusal : ℕ → ℕ → Refusal
@@ -153,13 +159,28 @@ badPlan fails = refuseIf fails badPlanNumber
 unfoldable pub targetMissed : ℕ → ℕ → Check
 targetMissed last target = refuseIf (ltb target last) targetMissedNumber
 
+-- 16: "D above 100,000, or above 0 with CCA" (document 02, request 2)
+abbrev pub unfitSpread : ℕ → ℕ → Bool
+unfitSpread rule D = ltb maxSpread D || (ltb 0 D && eqb rule cca)
+
+unfoldable pub badSpread : Settings → ℕ → Check
+badSpread c D = refuseIf (unfitSpread (c .rule) D) badSpreadNumber
+
 -- checks 2 to 5, of any settings
 unfoldable pub settingsChecks : Settings → List Check
 settingsChecks c = badCabinets c ∷ badFaults c ∷ badMethod c ∷ badWindow c ∷ []
 
+-- checks 1 to 5, of a sheet's sizes
+abbrev pub sizeChecks : List ℕ → List Check
+sizeChecks s = tooShort s ∷ settingsChecks (settingsAt s)
+
 -- checks 1 to 6, of a sheet's sizes and length
 unfoldable pub sheetChecks : List ℕ → List Check
-sheetChecks s = (tooShort s ∷ settingsChecks (settingsAt s)) ++ (badLength (length s) (sheetLength (settingsAt s)) ∷ [])
+sheetChecks s = sizeChecks s ++ (badLength (length s) (sheetLength (settingsAt s)) ∷ [])
+
+-- with a caller's spread: document 02, request 2: 16 stands "after 5"
+unfoldable pub spreadChecks : List ℕ → ℕ → List Check
+spreadChecks s D = sizeChecks s ++ (badSpread (settingsAt s) D ∷ badLength (length s) (sheetLength (settingsAt s)) ∷ [])
 
 -- checks 8 and 9, of two parallel arrays of E entries: the mark of each, and the bits of its reading. "All marks are
 -- checked before any 9"
@@ -189,11 +210,11 @@ writeChecks c marks readings buffer =
 unfoldable pub rowChecks : List ℕ → List Check
 rowChecks s = sheetChecks s ++ entryChecks s
 
--- settling, lent an answer buffer of this length: checks 1 to 10
-unfoldable pub settleChecks : List ℕ → ℕ → List Check
-settleChecks s answer =
-    sheetChecks s
-    ++ (noRoom answer (answerLength (settingsAt s .n)) ∷ (entryChecks s ++ (tooManyFaults (roundAt s .count) ∷ [])))
+-- settling with a spread, lent an answer buffer of this length: checks 1 to 5, 16, and 6 to 10
+unfoldable pub settleChecks : List ℕ → ℕ → ℕ → List Check
+settleChecks s D answer =
+    spreadChecks s D
+    ++ (noRoom answer (answerLength (settingsAt s .n)) ∷ (entryChecks s ++ (tooManyFaults (roundAt s D .count) ∷ [])))
 
 -- checks 2 to 5, and then 11
 abbrev pub planningChecks : Settings → Bool → List Check

@@ -1,11 +1,14 @@
--- Document 01, "Steps of a round" (document 004, section 3; docs/FORMAT.md, 5).
+-- Document 01, "Steps of a round" (document 004, section 3; docs/FORMAT.md, 5), and document 02, "Paper 2. Cable runs
+-- differ": the caller's spread D is added to the window. Without one it is 0.
 --   Decision, decideRow       the crusaders decision of a row
 --   readingsOf                the reading of each cabinet: FCA as sent, CCA as decided
 --   inside, held              a reading lies in a span; how many readings a span holds
---   accepted, acceptedAt      some span as wide as the window holds the reading and N-m readings
+--   accepted                  some span of a width holds the reading and N-m readings
 --   numbered                  the accepted reading numbered h from below, counting from 1
 --   estimate                  average, median or midpoint of the accepted readings
 --   mean                      to the nearest whole number, a half going up
+--   spanWidth                 how wide a span may be: the window and the spread
+--   acceptedAt                accepted, by the settings and the spread
 --   Round, roundOf, roundAt   what a settled round has; the round of given readings; the round of a sheet
 use mathlib.Core.Bool.{Bool, false, cond, _&&_}
 use mathlib.Core.Option.{Option, none, some}
@@ -131,17 +134,17 @@ roundWith n v acc e =
       used = usedValue acc v e;
     }
 
--- how wide a span may be: "f - s ≤ δ"
-abbrev pub spanWidth : Settings → ℕ
-spanWidth c = c .window
+-- how wide a span may be: "f - s ≤ δ"; document 02, request 2: "the span is δ + D"
+abbrev pub spanWidth : Settings → ℕ → ℕ
+spanWidth c D = c .window + D
 
--- the cabinets whose readings are accepted under the settings
-unfoldable pub acceptedAt : Settings → Readings → ℕ → Bool
-acceptedAt c v r = accepted (spanWidth c) (quorum c) (c .n) v r
+-- the cabinets whose readings are accepted under the settings, with the spread D
+unfoldable pub acceptedAt : Settings → ℕ → Readings → ℕ → Bool
+acceptedAt c D v r = accepted (spanWidth c D) (quorum c) (c .n) v r
 
-unfoldable pub roundOf : Settings → Readings → Round
-roundOf c v = roundWith (c .n) v (acceptedAt c v) (estimate (c .estimator) (acceptedAt c v) (c .n) v)
+unfoldable pub roundOf : Settings → ℕ → Readings → Round
+roundOf c D v = roundWith (c .n) v (acceptedAt c D v) (estimate (c .estimator) (acceptedAt c D v) (c .n) v)
 
 -- the round that a sheet's entries make
-unfoldable pub roundAt : List ℕ → Round
-roundAt s = roundOf (settingsAt s) (readingsOf (settingsAt s) (entryAt s (entryCount (settingsAt s))))
+unfoldable pub roundAt : List ℕ → ℕ → Round
+roundAt s D = roundOf (settingsAt s) D (readingsOf (settingsAt s) (entryAt s (entryCount (settingsAt s))))

@@ -136,9 +136,9 @@ module _ (s : List ℕ) (small : (j : ℕ) → byte s j < 256) (ok : Playable s)
         round-is : (p : ℕ) → p < n → EqualRounds n (heardRound c roles held sent readings p) (run-round p)
         round-is p lp =
             subst
-            (λ (d : Settings). EqualRounds n (roundOf d (heardFrom roles held sent readings p)) (run-round p))
+            (λ (d : Settings). EqualRounds n (roundOf d 0 (heardFrom roles held sent readings p)) (run-round p))
             (sym (own ∙ planned))
-            (round-local (withWindow (settingsAt s) (windowIn s recorded 0 (lit≤ tt) k))
+            (round-local (withWindow (settingsAt s) (windowIn s recorded 0 (lit≤ tt) k)) 0
             (heardFrom roles held sent readings p)
             (seen st (stateTo s k) (tracedSends s k) (windowIn s recorded 0 (lit≤ tt) k) p)
             (λ r lr. heard-is p r lp lr ∙ sym (traced-seen s recorded 0 (lit≤ tt) k p r)))

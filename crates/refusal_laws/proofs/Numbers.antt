@@ -19,10 +19,10 @@ use Rattle.model.specs.Ensemble.{maxCabinets, maxWindow}
 use Rattle.model.specs.RoundSheet.{headerSize, settingsAt, sheetLength}
 use Rattle.model.specs.Refusals.{refusal, Check, refuseIf, atEntry, orNext, firstOf, tooShort, badCabinets, badFaults}
 use Rattle.model.specs.Refusals.{badMethod, badWindow, badLength, noRoom, badMark, badMissing, tooManyFaults, badPlan}
-use Rattle.model.specs.Refusals.{targetMissed, settingsChecks, sheetChecks, unknownMethod}
+use Rattle.model.specs.Refusals.{targetMissed, badSpread, settingsChecks, sizeChecks, sheetChecks, spreadChecks, unknownMethod, unfitSpread}
 use Rattle.model.specs.Refusals.{tooShortNumber, badCabinetsNumber, badFaultsNumber, badMethodNumber, badWindowNumber}
 use Rattle.model.specs.Refusals.{badLengthNumber, noRoomNumber, badMarkNumber, badMissingNumber, tooManyFaultsNumber}
-use Rattle.model.specs.Refusals.{badPlanNumber, targetMissedNumber}
+use Rattle.model.specs.Refusals.{badPlanNumber, targetMissedNumber, badSpreadNumber}
 
 pub no-refusal {ℓ} : {X : Type ℓ} {r : Refusal} → _≡_ {A = Check} none (some r) → X
 no-refusal e = let z : _≡_ {A = ℕ} 0 1 = cc in absurd (omega arith)
@@ -117,6 +117,10 @@ pub cabinets-say : (c : Settings) → Says badCabinetsNumber (badCabinets c)
 unfolding badCabinets
 cabinets-say c = says-if (eqb (c .n) 0 || ltb maxCabinets (c .n)) badCabinetsNumber
 
+pub spread-says : (c : Settings) (D : ℕ) → Says badSpreadNumber (badSpread c D)
+unfolding badSpread
+spread-says c D = says-if (unfitSpread (c .rule) D) badSpreadNumber
+
 pub plain-settings : (c : Settings) → Plain (2 ∷ 3 ∷ 4 ∷ 5 ∷ []) (settingsChecks c)
 unfolding settingsChecks badFaults badMethod badWindow
 plain-settings c =
@@ -128,11 +132,18 @@ plain-settings c =
 pub plain-one : {number : ℕ} {x : Check} → Says number x → Plain (number ∷ []) (x ∷ [])
 plain-one f = check-more f no-checks
 
+plain-sizes : (s : List ℕ) → Plain (1 ∷ 2 ∷ 3 ∷ 4 ∷ 5 ∷ []) (sizeChecks s)
+plain-sizes s = check-more (short-says s) (plain-settings (settingsAt s))
+
 pub plain-sheet : (s : List ℕ) → Plain (1 ∷ 2 ∷ 3 ∷ 4 ∷ 5 ∷ 6 ∷ []) (sheetChecks s)
 unfolding sheetChecks
-plain-sheet s =
-    plain-append (check-more (short-says s) (plain-settings (settingsAt s)))
-    (plain-one (length-says (length s) (sheetLength (settingsAt s))))
+plain-sheet s = plain-append (plain-sizes s) (plain-one (length-says (length s) (sheetLength (settingsAt s))))
+
+pub plain-spread : (s : List ℕ) (D : ℕ) → Plain (1 ∷ 2 ∷ 3 ∷ 4 ∷ 5 ∷ 16 ∷ 6 ∷ []) (spreadChecks s D)
+unfolding spreadChecks
+plain-spread s D =
+    plain-append (plain-sizes s)
+    (check-more (spread-says (settingsAt s) D) (plain-one (length-says (length s) (sheetLength (settingsAt s)))))
 
 -- ---- checks 8 and 9
 

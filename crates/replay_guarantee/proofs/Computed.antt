@@ -17,21 +17,11 @@ use Rattle.trace.specs.Trace.{soundAt, tracedStation}
 use Rattle.run.specs.Rounds.{below}
 use Rattle.trace.specs.Traces.{onceTrace, directTraceWith, directTrace, toldTrace, silentTrace, firstTraceWith, farTrace}
 use Rattle.trace.proofs.ComputedTraces.{replayed, traces-computed}
+use Rattle.sheet_laws.proofs.Words.{bytes-tested}
 use Rattle.demand_3.proofs.Computed.Tested.{good-tested}
 use Rattle.replay_guarantee.specs.Replayed.{Bytes, AlikeForSound, FewBad}
 use Rattle.replay_guarantee.specs.Witnesses.{Meets, OnceReached, DirectReached, FarStays, SilentRefused}
 use Rattle.replay_guarantee.specs.Witnesses.{ToldHeard}
-
--- ---- bytes
-
-abbrev pub all-bytes : List ℕ → Bool
-all-bytes [] = true
-all-bytes (b ∷ bs) = ltb b 256 && all-bytes bs
-
-pub bytes-tested : (s : List ℕ) → all-bytes s ≡ true → Bytes s
-bytes-tested [] e i = lit< tt
-bytes-tested (b ∷ bs) e zero = ltb-true b 256 (and-left (ltb b 256) (all-bytes bs) e)
-bytes-tested (b ∷ bs) e (suc i) = bytes-tested bs (and-right (ltb b 256) (all-bytes bs) e) i
 
 -- ---- the limits
 

@@ -25,7 +25,8 @@ use Rattle.trace.proofs.ComputedTraces.{replayed}
 use Rattle.demand_3.proofs.Computed.Tested.{tested}
 use Rattle.replay_guarantee.specs.Replayed.{Bytes, AlikeForSound, Passes, FewBad, Replays}
 use Rattle.replay_guarantee.specs.Witnesses.{Meets, OtherIgnored}
-use Rattle.replay_guarantee.proofs.Computed.{bytes-tested, once-reached, direct-reached}
+use Rattle.sheet_laws.proofs.Words.{bytes-tested}
+use Rattle.replay_guarantee.proofs.Computed.{once-reached, direct-reached}
 use Rattle.replay_guarantee.proofs.Replayed.{faulty-ignored, replay-guaranteed}
 
 -- ---- two traces alike, by tests that compute

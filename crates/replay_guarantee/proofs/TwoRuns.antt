@@ -35,17 +35,17 @@ plan-alone (suc k) c a b = ap (λ (d : Settings). withWindow d (nextWindow d)) (
 -- what settling gives, by the readings of the cabinets below N
 outcomeOf : Settings → Readings → Outcome
 outcomeOf c v =
-    writtenAfter (tooManyFaults (roundOf c v .count)) (answerLength (c .n)) (answerBytes (c .n) (roundOf c v))
+    writtenAfter (tooManyFaults (roundOf c 0 v .count)) (answerLength (c .n)) (answerBytes (c .n) (roundOf c 0 v))
     (replicate (answerLength (c .n)) 0)
 
 outcome-local : (c : Settings) (v u : Readings) → EqualBelow (c .n) v u → outcomeOf c v ≡ outcomeOf c u
 unfolding outcomeOf
 outcome-local c v u same =
-    let both : EqualRounds (c .n) (roundOf c v) (roundOf c u) = round-local c v u same in
+    let both : EqualRounds (c .n) (roundOf c 0 v) (roundOf c 0 u) = round-local c 0 v u same in
     ap₂
     (λ (count : ℕ) (bytes : List ℕ).
     writtenAfter (tooManyFaults count) (answerLength (c .n)) bytes (replicate (answerLength (c .n)) 0))
-    (both .count) (answer-local (c .n) (roundOf c v) (roundOf c u) both)
+    (both .count) (answer-local (c .n) (roundOf c 0 v) (roundOf c 0 u) both)
 
 -- of the run that starts with accuracy κ: its state after k rounds, the settings of the next, what p reads in that and
 -- what settling gives it

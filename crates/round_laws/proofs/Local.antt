@@ -110,10 +110,12 @@ rounds-trans p q =
       used = λ r l. p .used r l ∙ q .used r l;
     }
 
-pub round-local : (c : Settings) (v u : Readings) → EqualBelow (c .n) v u → EqualRounds (c .n) (roundOf c v) (roundOf c u)
+pub round-local :
+    (c : Settings) (D : ℕ) (v u : Readings) → EqualBelow (c .n) v u
+    → EqualRounds (c .n) (roundOf c D v) (roundOf c D u)
 unfolding roundOf acceptedAt
-round-local c v u same =
-    let both : EqualBelow (c .n) (λ r. accepted (spanWidth c) (quorum c) (c .n) v r) (λ r. accepted (spanWidth c) (quorum c) (c .n) u r) = λ r l. accepted-local (c .n) v u same (spanWidth c) (quorum c) r l in
+round-local c D v u same =
+    let both : EqualBelow (c .n) (λ r. accepted (spanWidth c D) (quorum c) (c .n) v r) (λ r. accepted (spanWidth c D) (quorum c) (c .n) u r) = λ r l. accepted-local (c .n) v u same (spanWidth c D) (quorum c) r l in
     let e = estimate-local (c .n) v u _ _ both (λ r l _. same r l) (c .estimator) in
     let used = used-local (c .n) v u _ _ both (λ r l _. same r l) e in
     record {

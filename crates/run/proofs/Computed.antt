@@ -14,9 +14,9 @@ use Rattle.model.specs.Steps.{decideRow, readingsOf, accepted, acceptedAt, numb
 use Rattle.model.specs.Steps.{estimate, mean, roundOf, roundAt}
 use Rattle.model.specs.Planner.{ceilDiv, windowFactor, nextWindow, growth, advance}
 use Rattle.model.specs.Refusals.{firstOf, tooShort, badCabinets, badFaults, badMethod, badWindow, badLength, noRoom}
-use Rattle.model.specs.Refusals.{badMark, badMissing, tooManyFaults, badPlan, settingsChecks, sheetChecks, entryChecks}
-use Rattle.model.specs.Refusals.{writeChecks, settleChecks, planChecks, stepChecks}
-use Rattle.model.specs.Calls.{write, settle, step}
+use Rattle.model.specs.Refusals.{badMark, badMissing, tooManyFaults, badPlan, badSpread, settingsChecks, spreadChecks}
+use Rattle.model.specs.Refusals.{entryChecks, writeChecks, settleChecks, planChecks, stepChecks}
+use Rattle.model.specs.Calls.{write, settleSpread, settle, step}
 use Rattle.run.specs.Run.{Station, State, Sends, heard, entryOf, sheetOf, settled, next, start, stateAfter}
 use Rattle.model.specs.Cases.{at, minus}
 use Rattle.run.specs.Rounds.{heldAfter, unstepped, listed, wideStation, wideSends, exactStation, exactSends, halfStation, halfSends}
@@ -32,8 +32,8 @@ unfolding count anyBelow lowest sum table overwrite
     decideRow readingsOf accepted acceptedAt numbered averageOf medianOf midpointOf estimate mean roundOf roundAt
     ceilDiv windowFactor nextWindow growth advance
     firstOf tooShort badCabinets badFaults badMethod badWindow badLength noRoom badMark badMissing tooManyFaults badPlan
-    settingsChecks sheetChecks entryChecks writeChecks settleChecks planChecks stepChecks
-    write settle step heard entryOf sheetOf settled next listed
+    badSpread settingsChecks spreadChecks entryChecks writeChecks settleChecks planChecks stepChecks
+    write settleSpread settle step heard entryOf sheetOf settled next listed
 computed = next
 
 -- A second round is computed from what the first gave, written out, and not from the first round once more for each

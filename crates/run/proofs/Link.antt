@@ -24,14 +24,14 @@ use Rattle.model.specs.Ensemble.{present, Readings, ticks, quorum}
 use Rattle.model.specs.RoundSheet.{cca, settingsAt, entryCount, entryAt, sheetLength, sheetBytes}
 use Rattle.model.specs.AnswerSheet.{answerLength, answerBytes}
 use Rattle.model.specs.Refusals.{refusal, firstOf, settingsChecks, settleChecks, tooManyFaults, tooManyFaultsNumber}
-use Rattle.model.specs.Calls.{granted, refused, Outcome, writtenAfter, write, settle}
+use Rattle.model.specs.Calls.{granted, refused, Outcome, writtenAfter, write, settleSpread, settle}
 use Rattle.model.specs.Planner.{withWindow}
 use Rattle.model.specs.Steps.{Round, decidedReading, readingsOf, roundOf, roundAt}
 use Rattle.round_laws.proofs.Local.{EqualBelow, EqualRounds, round-local, answer-local}
 use Rattle.sheet_laws.proofs.Answer.{answer-value}
 use Rattle.sheet_laws.proofs.Checks.{room-pass}
 use Rattle.run.proofs.Filled.{marksFrom, ticksFrom, filled-well-formed, filled-entry, filled-write}
-use Rattle.sheet_laws.proofs.Orders.{settle-checks}
+use Rattle.sheet_laws.proofs.Orders.{settle-checks, no-spread}
 use Rattle.sheet_laws.proofs.Written.{WellFormed, settings-back, sheet-passes, entries-pass}
 use Rattle.run.specs.Run.{Station, N, Sends, Allowed, State, entryOf, sheetOf, settled, holds}
 use Rattle.run.proofs.Entries.{seen}
@@ -64,7 +64,7 @@ module _ (st : Station) (now : State) (x : Sends) (w p : ℕ) where
   c = withWindow (st .settings) w
 
   abbrev pub found : Round
-  found = roundOf c (seen st now x w p)
+  found = roundOf c 0 (seen st now x w p)
 
   -- p's entries, and the marks, the readings and the bytes of its sheet
   abbrev entries : Readings
@@ -111,21 +111,22 @@ module _ (st : Station) (now : State) (x : Sends) (w p : ℕ) where
         blank = replicate (sheetLength (st .settings)) 0
 
     -- the round that settling finds is the round of what p reads
-    round-is : EqualRounds (N st) (roundAt bytes) found
+    round-is : EqualRounds (N st) (roundAt bytes 0) found
     unfolding roundAt bytes seen
     round-is =
         rw settings-is
-        (round-local c
+        (round-local c 0
         (readingsOf c (entryAt bytes (entryCount c)))
         (readingsOf c entries)
         (readings-local c (entryAt bytes (entryCount c)) entries (filled-entry c entries pass fits-here)))
 
     -- of the checks only 10 can refuse
-    checks : firstOf (settleChecks bytes (length (x .buffer p))) ≡ tooManyFaults (found .count)
+    checks : firstOf (settleChecks bytes 0 (length (x .buffer p))) ≡ tooManyFaults (found .count)
     unfolding bytes
     checks =
-        settle-checks bytes (length (x .buffer p))
+        settle-checks bytes 0 (length (x .buffer p))
         ∙ rw (
+          no-spread bytes,
           sheet-passes c marks readings formed,
           size-is,
           room-pass (length (x .buffer p)) (answerLength (N st)) (allowed .room p),
@@ -137,10 +138,10 @@ module _ (st : Station) (now : State) (x : Sends) (w p : ℕ) where
     pub settled-is :
         settled st now x p
         ≡ writtenAfter (tooManyFaults (found .count)) (answerLength (N st)) (answerBytes (N st) found) (x .buffer p)
-    unfolding settled settle
+    unfolding settled settle settleSpread
     settled-is =
         ap (λ (s : List ℕ). settle s (x .buffer p)) sheet-is
-        ∙ rw (checks, size-is, answer-local (N st) (roundAt bytes) found round-is)
+        ∙ rw (checks, size-is, answer-local (N st) (roundAt bytes 0) found round-is)
 
     none-check : (count : ℕ) → 0 < count → tooManyFaults count ≡ none
     unfolding tooManyFaults

@@ -105,7 +105,7 @@ module _ (st : Station) (begins : Start st) (j : ℕ) (now : State) (ready : Rea
       module _ (some-acc : 0 < found st now x w p .count) where
         value-fits : SFits w32 (found st now x w p .value)
         value-fits =
-            values.value-fits c (seen st now x w p) (λ r l. reading-fits (seen st now x w p r) (reads p r l))
+            values.value-fits c 0 (seen st now x w p) (λ r l. reading-fits (seen st now x w p r) (reads p r l))
             some-acc some-n
 
         pub holds-value : next st now x .held p ≡ present (found st now x w p .value)

@@ -3,7 +3,7 @@ ghost use mathlib.Core.Path.{_≡_};
 ghost use mathlib.Core.Bool.{_||_};
 ghost use Prim.Native.Nat.{_+_, _*_};
 ghost use lib.Dec.{eqb, ltb};
-ghost use Rattle.model.specs.Refusals.{firstOf, settingsChecks, unknownMethod};
+ghost use Rattle.model.specs.Refusals.{firstOf, settingsChecks, unknownMethod, unfitSpread};
 ghost use Rattle.model.specs.Ensemble.{maxCabinets, maxWindow};
 ghost use Rattle.refusals.specs.Answers.{checkOf};
 use model::BAD_CABINETS;
@@ -12,6 +12,7 @@ use model::BAD_METHOD;
 use model::BAD_WINDOW;
 use model::CCA;
 use model::MAX_CABINETS;
+use model::MAX_SPREAD;
 use model::MAX_WINDOW;
 use model::MIDPOINT;
 use model::Settings;
@@ -40,6 +41,13 @@ fn bad_window(window: u32) -> bool
     ensures { λ r. ⌜ r ≡ ltb maxWindow window ⌝ }
 {
     MAX_WINDOW < window
+}
+
+// Whether no caller may give that spread.
+pub fn bad_spread(rule: u8, spread: u32) -> bool
+    ensures { λ r. ⌜ r ≡ unfitSpread rule spread ⌝ }
+{
+    (MAX_SPREAD < spread) | ((0 < spread) & (rule == CCA))
 }
 
 // Checks 2 to 5, of any settings.

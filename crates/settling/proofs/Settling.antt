@@ -22,8 +22,8 @@ use Rattle.model.specs.Ensemble.{Readings, ticks, quorum, maxCabinets}
 use Rattle.model.specs.RoundSheet.{byte, settingsAt, sheetLength}
 use Rattle.model.specs.AnswerSheet.{answerBytes, answerLength}
 use Rattle.model.specs.Steps.{spanWidth, accepted, estimate, Round, roundOf, roundAt}
-use Rattle.model.specs.Refusals.{refusal, firstOf, rowChecks, tooManyFaults, tooManyFaultsNumber}
-use Rattle.model.specs.Calls.{Outcome, granted, refused, settleAfter, settle}
+use Rattle.model.specs.Refusals.{Check, refusal, firstOf, rowChecks, tooManyFaults, badSpread, tooManyFaultsNumber}
+use Rattle.model.specs.Calls.{Outcome, granted, refused, verdict, settleAfter, settleSpread}
 use Rattle.refusal_laws.proofs.Limits.{Limits, limits}
 use Rattle.sheet_laws.proofs.Checks.{settings-passed, sheet-length-passed}
 use Rattle.round_laws.specs.Naturals.{shift}
@@ -57,10 +57,10 @@ used-held :
 used-held here true x e z f p = sym (ap (λ (b : Bool). ticks (shift twoTo31 b x)) (f refl))
 used-held here false x e z f p = p
 
-module _ (c : Settings) (v : Readings) (marks values : List ℕ) (long : length marks ≡ c .n)
+module _ (c : Settings) (D : ℕ) (v : Readings) (marks values : List ℕ) (long : length marks ≡ c .n)
     (same : EqualBelow (c .n) v (readingsIn marks values)) where
   abbrev width : ℕ
-  width = spanWidth c
+  width = spanWidth c D
 
   abbrev need : ℕ
   need = quorum c
@@ -88,7 +88,7 @@ module _ (c : Settings) (v : Readings) (marks values : List ℕ) (long : length 
     pub settled-alike :
         EqualRounds (c .n)
         (roundHeld (agreed .count) (up twoTo31 (agreed .estimate)) (up twoTo31 (agreed .value)) kept values)
-        (roundOf c v)
+        (roundOf c D v)
     settled-alike =
         let e = estimate-back width need (c .estimator) marks values some-acc in
         rounds-trans
@@ -99,7 +99,7 @@ module _ (c : Settings) (v : Readings) (marks values : List ℕ) (long : length 
           mark = settled-mark;
           used = settled-used (up twoTo31 (agreed .estimate)) e;
         })
-        (agreed-is c v marks values long same)
+        (agreed-is c D v marks values long same)
 
 -- ---- what the calls of settling leave, on plain values
 
@@ -110,17 +110,17 @@ wrote size buffer = record { verdict = granted size; buffer = buffer }
 abbrev too-many : List ℕ → Outcome
 too-many buffer = record { verdict = refused (refusal tooManyFaultsNumber 0); buffer = buffer }
 
-pub record CallsLeave (s : List ℕ) (c : Settings) (marks₀ values₀ marks values kept : List ℕ) (a : Estimated)
+pub record CallsLeave (s : List ℕ) (c : Settings) (D : ℕ) (marks₀ values₀ marks values kept : List ℕ) (a : Estimated)
     : Type 0 where
   pub small : (j : ℕ) → byte s j < 256
   pub markRoom : length marks₀ ≡ c .n
   pub valueRoom : length values₀ ≡ c .n
   pub marked : marks ≡ marksReceived s c marks₀ values₀
   pub valued : values ≡ valuesReceived s c marks₀ values₀
-  pub agrees : a ≡ agreedOf (spanWidth c) (quorum c) (c .estimator) marks values
-  pub keeps : kept ≡ agreedMarks (spanWidth c) (quorum c) marks values
+  pub agrees : a ≡ agreedOf (spanWidth c D) (quorum c) (c .estimator) marks values
+  pub keeps : kept ≡ agreedMarks (spanWidth c D) (quorum c) marks values
 
-module _ (s : List ℕ) (pass : firstOf (rowChecks s) ≡ none) where
+module _ (s : List ℕ) (D : ℕ) (pass : firstOf (rowChecks s) ≡ none) (spread : badSpread (settingsAt s) D ≡ none) where
   abbrev own : Settings
   own = settingsAt s
 
@@ -128,7 +128,7 @@ module _ (s : List ℕ) (pass : firstOf (rowChecks s) ≡ none) where
   within = limits own (settings-passed s (sheet-passed s pass))
 
   module _ (marks₀ values₀ marks values kept : List ℕ) (a : Estimated)
-      (h : CallsLeave s own marks₀ values₀ marks values kept a) where
+      (h : CallsLeave s own D marks₀ values₀ marks values kept a) where
     fitting-here : fitting own (length s) (length marks₀) (length values₀) ≡ true
     unfolding fitting
     fitting-here =
@@ -165,15 +165,15 @@ module _ (s : List ℕ) (pass : firstOf (rowChecks s) ≡ none) where
 
     -- the readings that are accepted
     abbrev counted : ℕ
-    counted = acceptedCount (spanWidth own) (quorum own) marks values
+    counted = acceptedCount (spanWidth own D) (quorum own) marks values
 
     -- the round that is agreed on
     abbrev here : Round
-    here = agreedRound (spanWidth own) (quorum own) (own .estimator) marks values
+    here = agreedRound (spanWidth own D) (quorum own) (own .estimator) marks values
 
-    counted-here : counted ≡ roundAt s .count
+    counted-here : counted ≡ roundAt s D .count
     unfolding roundAt
-    counted-here = counted-is own (readingAt s own) kept-here marks values marks-here values-here
+    counted-here = counted-is own (readingAt s own) kept-here marks values marks-here values-here D
 
     abbrev answer : Estimated
     answer = record { count = counted; estimate = up twoTo31 (here .estimate); value = up twoTo31 (here .value) }
@@ -195,20 +195,20 @@ module _ (s : List ℕ) (pass : firstOf (rowChecks s) ≡ none) where
     count-some : (a .count ≡ 0 → ⊥) → counted ≡ 0 → ⊥
     count-some d e = d (agreed-none e)
 
-    marks-kept : (a .count ≡ 0 → ⊥) → kept ≡ table (markAt (spanWidth own) (quorum own) marks values) (length marks)
+    marks-kept : (a .count ≡ 0 → ⊥) → kept ≡ table (markAt (spanWidth own D) (quorum own) marks values) (length marks)
     unfolding agreedMarks
     marks-kept d = h .keeps ∙ rw (fit-here, ne-eqb counted 0 (count-some d))
 
     kept-long : (a .count ≡ 0 → ⊥) → length kept ≡ own .n
     kept-long d =
         ap length (marks-kept d)
-        ∙ length-table (markAt (spanWidth own) (quorum own) marks values) (length marks)
+        ∙ length-table (markAt (spanWidth own D) (quorum own) marks values) (length marks)
         ∙ long-here
 
-    count-none : a .count ≡ 0 → roundAt s .count ≡ 0
+    count-none : a .count ≡ 0 → roundAt s D .count ≡ 0
     count-none z = go counted refl
       where
-        go : (k : ℕ) → counted ≡ k → roundAt s .count ≡ 0
+        go : (k : ℕ) → counted ≡ k → roundAt s D .count ≡ 0
         go zero e = sym counted-here ∙ e
         go (suc k) e =
             let d : counted ≡ 0 → ⊥ = λ q. absurd (apart k (sym e ∙ q)) in
@@ -221,21 +221,21 @@ module _ (s : List ℕ) (pass : firstOf (rowChecks s) ≡ none) where
     abbrev round : Round
     round = roundHeld (a .count) (a .estimate) (a .value) kept values
 
-    alike-here : (a .count ≡ 0 → ⊥) → EqualRounds (own .n) round (roundAt s)
+    alike-here : (a .count ≡ 0 → ⊥) → EqualRounds (own .n) round (roundAt s D)
     unfolding roundAt acceptedCount
     alike-here d =
         rw (agreed-some (count-some d))
-        (settled-alike own (readingAt s own) marks values long-here same-here (pos-of-ne-zero (count-some d)) kept
+        (settled-alike own D (readingAt s own) marks values long-here same-here (pos-of-ne-zero (count-some d)) kept
         (marks-kept d))
 
     module _ (old : List ℕ) (large : answerLength (own .n) ≤ length old) where
-      pub none-settled : a .count ≡ 0 → too-many old ≡ settle s old
+      pub none-settled : a .count ≡ 0 → too-many old ≡ settleSpread s D old
       unfolding tooManyFaults
-      none-settled z = after ∙ passes-settle s old pass large
+      none-settled z = after ∙ passes-settle s D old pass spread large
         where
           after :
-              too-many old ≡ settleAfter (tooManyFaults (roundAt s .count)) s old
-          after = rw (eq-eqb (roundAt s .count) 0 (count-none z))
+              too-many old ≡ settleAfter (tooManyFaults (roundAt s D .count)) s D old
+          after = rw (eq-eqb (roundAt s D .count) 0 (count-none z))
 
       room-here : (a .count ≡ 0 → ⊥) → roomy (length kept) (length values) (length old) ≡ true
       unfolding roomy
@@ -248,35 +248,35 @@ module _ (s : List ℕ) (pass : firstOf (rowChecks s) ≡ none) where
       answer-here :
           (a .count ≡ 0 → ⊥)
           → writtenOf (a .count) (a .estimate) (a .value) kept values old
-          ≡ overwrite (answerBytes (own .n) (roundAt s)) old
+          ≡ overwrite (answerBytes (own .n) (roundAt s D)) old
       answer-here d =
           sym (written (a .count) (a .estimate) (a .value) kept values old (room-here d))
           ∙ ap (λ (l : List ℕ). overwrite l old)
-          (ap (λ (n : ℕ). answerBytes n round) (kept-long d) ∙ answer-local (own .n) round (roundAt s) (alike-here d))
+          (ap (λ (n : ℕ). answerBytes n round) (kept-long d) ∙ answer-local (own .n) round (roundAt s D) (alike-here d))
 
       pub some-settled :
           (a .count ≡ 0 → ⊥)
           → wrote (answerLength (own .n)) (writtenOf (a .count) (a .estimate) (a .value) kept values old)
-          ≡ settle s old
+          ≡ settleSpread s D old
       unfolding tooManyFaults
       some-settled d =
           ap (wrote (answerLength (own .n))) (answer-here d)
           ∙ after
-          ∙ passes-settle s old pass large
+          ∙ passes-settle s D old pass spread large
         where
-          some-count : roundAt s .count ≡ 0 → ⊥
+          some-count : roundAt s D .count ≡ 0 → ⊥
           some-count z = d (ap (λ (x : Estimated). x .count) (agreed-some (count-some d)) ∙ counted-here ∙ z)
 
           after :
-              wrote (answerLength (own .n)) (overwrite (answerBytes (own .n) (roundAt s)) old)
-              ≡ settleAfter (tooManyFaults (roundAt s .count)) s old
-          after = rw (ne-eqb (roundAt s .count) 0 some-count)
+              wrote (answerLength (own .n)) (overwrite (answerBytes (own .n) (roundAt s D)) old)
+              ≡ settleAfter (tooManyFaults (roundAt s D .count)) s D old
+          after = rw (ne-eqb (roundAt s D .count) 0 some-count)
 
 -- the same for settings that are known to be the sheet's
-module _ (s : List ℕ) (c : Settings) (old : List ℕ) (ready : Ready s c old) (marks₀ values₀ marks values kept : List ℕ)
-    (a : Estimated) (h : CallsLeave s c marks₀ values₀ marks values kept a) where
-  moved : CallsLeave s (settingsAt s) marks₀ values₀ marks values kept a
-  moved = subst (λ (d : Settings). CallsLeave s d marks₀ values₀ marks values kept a) (ready .own) h
+module _ (s : List ℕ) (c : Settings) (D : ℕ) (old : List ℕ) (ready : Ready s c D old)
+    (marks₀ values₀ marks values kept : List ℕ) (a : Estimated) (h : CallsLeave s c D marks₀ values₀ marks values kept a) where
+  moved : CallsLeave s (settingsAt s) D marks₀ values₀ marks values kept a
+  moved = subst (λ (d : Settings). CallsLeave s d D marks₀ values₀ marks values kept a) (ready .own) h
 
   room : answerLength (settingsAt s .n) ≤ length old
   room = subst (λ (d : Settings). answerLength (d .n) ≤ length old) (ready .own) (ready .room)
@@ -284,24 +284,32 @@ module _ (s : List ℕ) (c : Settings) (old : List ℕ) (ready : Ready s c old) 
   -- what `conclude` leaves
   module _ (left : List ℕ)
       (is-left : left ≡ concluded (a .count) (a .estimate) (a .value) kept values old) where
-    pub refuses :
+    refuses :
         (r : Refusal)
         → some r ≡ tooManyFaults (a .count)
-        → _≡_ {A = Outcome} (record { verdict = refused r; buffer = left }) (settle s old)
+        → _≡_ {A = Outcome} (record { verdict = refused r; buffer = left }) (settleSpread s D old)
     refuses r told =
         let n = none-left (a .count) (a .estimate) (a .value) kept values old left is-left r told in
         ap₂ (λ (f : Refusal) (l : List ℕ). record { verdict = refused f; buffer = l }) (n .number) (n .kept)
-        ∙ none-settled s (ready .passes) marks₀ values₀ marks values kept a moved old room (n .count-none)
+        ∙ none-settled s D (ready .passes) (ready .spread) marks₀ values₀ marks values kept a moved old room (n .count-none)
 
-    pub settles : none ≡ tooManyFaults (a .count) → wrote (answerLength (c .n)) left ≡ settle s old
+    settles : none ≡ tooManyFaults (a .count) → wrote (answerLength (c .n)) left ≡ settleSpread s D old
     settles told =
         let n = some-left (a .count) (a .estimate) (a .value) kept values old left is-left told in
         ap (wrote (answerLength (c .n))) (n .put)
         ∙ rw (ready .own)
-        (some-settled s (ready .passes) marks₀ values₀ marks values kept a moved old room (n .count-some))
+        (some-settled s D (ready .passes) (ready .spread) marks₀ values₀ marks values kept a moved old room (n .count-some))
+
+    -- what check 10 says of it
+    pub concludes :
+        (last : Check) → last ≡ tooManyFaults (a .count)
+        → _≡_ {A = Outcome} (record { verdict = verdict last (answerLength (c .n)); buffer = left }) (settleSpread s D old)
+    concludes none told = settles told
+    concludes (some r) told = refuses r told
 
 -- settings that pass checks 2 to 5
-pub few-faults : (s : List ℕ) (c : Settings) (old : List ℕ) → Ready s c old → (c .m ≤ c .n) × (c .n ≤ maxCabinets)
-few-faults s c old ready =
-    rw (ready .own)
-    (let f = within s (ready .passes) .faults in (omega arith, within s (ready .passes) .cabinets))
+pub few-faults :
+    (s : List ℕ) (c : Settings) (D : ℕ) (old : List ℕ) → Ready s c D old → (c .m ≤ c .n) × (c .n ≤ maxCabinets)
+few-faults s c D old ready =
+    let l = within s D (ready .passes) (ready .spread) in
+    rw (ready .own) (let f = l .faults in (omega arith, l .cabinets))

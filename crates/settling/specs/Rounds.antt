@@ -1,16 +1,28 @@
 -- INNER: no reader needs this page to believe a public promise.
---   Ready    a sheet with these settings passes checks 1 to 9, so that only check 10 is left
+--   spreadOf    the spread that makes a span so wide
+--   settlingBy  settling, by what its last check says
+--   Ready       a sheet with these settings, and a spread, pass checks 1 to 9 and 16, so that only check 10 is left
 use mathlib.Core.List.{List}
 use mathlib.Core.Option.{none}
 use mathlib.Core.Path.{_≡_}
-use Prim.Native.Nat.{ℕ, _≤_}
+use Prim.Native.Nat.{ℕ, _-_, _≤_}
 use lib.ListN.{length}
 use Rattle.model.specs.declared.Settings.{Settings}
 use Rattle.model.specs.RoundSheet.{settingsAt}
 use Rattle.model.specs.AnswerSheet.{answerLength}
-use Rattle.model.specs.Refusals.{firstOf, rowChecks}
+use Rattle.model.specs.Calls.{Outcome, verdict}
+use Rattle.refusals.specs.Answers.{checkOf}
+use Rattle.refusals.specs.declared.Screened.{Screened}
+use Rattle.model.specs.Refusals.{firstOf, badSpread, rowChecks}
 
-pub record Ready (s : List ℕ) (c : Settings) (answer : List ℕ) : Type 0 where
+abbrev pub spreadOf : Settings → ℕ → ℕ
+spreadOf c span = span - c .window
+
+pub record Ready (s : List ℕ) (c : Settings) (D : ℕ) (answer : List ℕ) : Type 0 where
   pub passes : firstOf (rowChecks s) ≡ none
+  pub spread : badSpread (settingsAt s) D ≡ none
   pub own : c ≡ settingsAt s
   pub room : answerLength (c .n) ≤ length answer
+
+abbrev pub settlingBy : Screened → ℕ → List ℕ → Outcome
+settlingBy last size buffer = record { verdict = verdict (checkOf last) size; buffer = buffer }

@@ -1,10 +1,14 @@
-// Settling: from a round sheet to its answer sheet, or one numbered refusal.
+// Settling: from a round sheet to its answer sheet, or one numbered refusal. Document 02, "Paper 2. Cable runs differ":
+// with a spread, which a caller without one has as 0.
 ghost use mathlib.Core.Path.{_≡_};
 ghost use lib.ListN.{length};
-ghost use Rattle.model.specs.Calls.{settle};
+ghost use Prim.Native.Nat.{_≤_};
+ghost use Rattle.model.specs.Ensemble.{maxWindow, maxSpread};
+ghost use Rattle.model.specs.AnswerSheet.{answerLength};
+ghost use Rattle.model.specs.Calls.{settleSpread, settle};
 ghost use Rattle.model.specs.Steps.{spanWidth};
 ghost use Rattle.settling.specs.Answers.{settlingOf};
-ghost use Rattle.settling.specs.Rounds.{Ready};
+ghost use Rattle.settling.specs.Rounds.{Ready, spreadOf, settlingBy};
 use model::NO_ROOM;
 use model::Refusal;
 use model::Settings;
@@ -18,74 +22,90 @@ pub enum Settled {
 }
 
 // The width of a span.
-fn span_width(settings: Settings) -> u32
-    ensures { λ r. ⌜ r ≡ spanWidth settings ⌝ }
+fn span_width(settings: Settings, spread: u32) -> u32
+    requires { ⌜ (settings .window ≤ maxWindow) × (spread ≤ maxSpread) ⌝ }
+    ensures { λ r. ⌜ r ≡ spanWidth settings spread ⌝ }
 {
-    settings.window
+    settings.window + spread
 }
 
-// Settles a sheet that passes checks 1 to 9, with lent places for each cabinet's mark and value.
+// Settles a sheet that passes checks 1 to 9 and 16 by spans of a width, with lent places for each cabinet's mark and
+// value: what check 10 says.
 fn settle_in(
     sheet: &[u8],
     settings: Settings,
+    span: u32,
     marks: &mut [u8],
     values: &mut [u32],
     answer: &mut [u8],
-) -> Settled
-    requires { ⌜ Ready (now sheet) settings (now answer) ⌝ }
+) -> Screened
+    requires { ⌜ Ready (now sheet) settings (spreadOf settings span) (now answer) × (settings .window ≤ span) ⌝ }
     requires { ⌜ (length (now marks) ≡ settings .n) × (length (now values) ≡ settings .n) ⌝ }
-    ensures { λ r. ⌜ settlingOf r (now (answer .exit)) ≡ settle (now (sheet .entry)) (now (answer .entry)) ⌝ }
+    ensures { λ r.
+        ⌜ settlingBy r (answerLength (settings .n)) (now (answer .exit))
+        ≡ settleSpread (now (sheet .entry)) (spreadOf settings span) (now (answer .entry)) ⌝ }
 {
     reception::receive(sheet, settings, &mut *marks, &mut *values);
     let need = settings.n - settings.m;
-    let settled = agreement::agree(
-        &mut *marks,
-        &*values,
-        span_width(settings),
-        need as u32,
-        settings.estimator,
-    );
-    let outcome = outcomes::conclude(
+    let settled = agreement::agree(&mut *marks, &*values, span, need as u32, settings.estimator);
+    outcomes::conclude(
         settled.count as u8,
         settled.estimate,
         settled.value,
         &*marks,
         &*values,
         answer,
-    );
-    match outcome {
-        Screened::Refused(r) => Settled::Refused(r),
-        Screened::Passed => Settled::Granted(sheet_sizes::answer_length(settings.n)),
-    }
+    )
 }
 
-// Settles a sheet that passes checks 1 to 9.
-fn settle_valid(sheet: &[u8], settings: Settings, answer: &mut [u8]) -> Settled
-    requires { ⌜ Ready (now sheet) settings (now answer) ⌝ }
-    ensures { λ r. ⌜ settlingOf r (now (answer .exit)) ≡ settle (now (sheet .entry)) (now (answer .entry)) ⌝ }
+// The same, with places of its own.
+fn settle_valid(sheet: &[u8], settings: Settings, span: u32, answer: &mut [u8]) -> Screened
+    requires { ⌜ Ready (now sheet) settings (spreadOf settings span) (now answer) × (settings .window ≤ span) ⌝ }
+    ensures { λ r.
+        ⌜ settlingBy r (answerLength (settings .n)) (now (answer .exit))
+        ≡ settleSpread (now (sheet .entry)) (spreadOf settings span) (now (answer .entry)) ⌝ }
 {
     let n = settings.n as usize;
     let mut marks = [0u8; 64];
     let mut values = [0u32; 64];
-    settle_in(sheet, settings, &mut marks[..n], &mut values[..n], answer)
+    settle_in(
+        sheet,
+        settings,
+        span,
+        &mut marks[..n],
+        &mut values[..n],
+        answer,
+    )
 }
 
-// Settles a round sheet: the answer sheet in the lent buffer, or the first refusal of checks 1 to 10, which changes
-// nothing.
-pub fn settle(sheet: &[u8], answer: &mut [u8]) -> Settled
-    ensures { λ r. ⌜ settlingOf r (now (answer .exit)) ≡ settle (now (sheet .entry)) (now (answer .entry)) ⌝ }
+// Settles a round sheet whose cabinets read a third alike up to a spread: the answer sheet in the lent buffer, or the
+// first refusal of checks 1 to 5, 16, and 6 to 10, which changes nothing.
+pub fn settle_spread(sheet: &[u8], spread: u32, answer: &mut [u8]) -> Settled
+    ensures { λ r.
+        ⌜ settlingOf r (now (answer .exit)) ≡ settleSpread (now (sheet .entry)) spread (now (answer .entry)) ⌝ }
 {
-    match sheet_checks::inspect(sheet) {
+    match sheet_checks::inspect_spread(sheet, spread) {
         Opened::Refused(r) => Settled::Refused(r),
         Opened::Granted(settings) => {
+            let span = span_width(settings, spread);
             let size = sheet_sizes::answer_length(settings.n);
             if answer.len() < size {
                 return Settled::Refused(refusals::refuse(NO_ROOM));
             }
             match entry_checks::check_entries(sheet, settings) {
                 Screened::Refused(r) => Settled::Refused(r),
-                Screened::Passed => settle_valid(sheet, settings, answer),
+                Screened::Passed => match settle_valid(sheet, settings, span, answer) {
+                    Screened::Refused(r) => Settled::Refused(r),
+                    Screened::Passed => Settled::Granted(size),
+                },
             }
         }
     }
+}
+
+// The same without a spread.
+pub fn settle(sheet: &[u8], answer: &mut [u8]) -> Settled
+    ensures { λ r. ⌜ settlingOf r (now (answer .exit)) ≡ settle (now (sheet .entry)) (now (answer .entry)) ⌝ }
+{
+    settle_spread(sheet, 0, answer)
 }

@@ -13,9 +13,9 @@ use Rattle.model.specs.Steps.{decideRow, readingsOf, accepted, acceptedAt, numb
 use Rattle.model.specs.Steps.{estimate, mean, roundOf, roundAt}
 use Rattle.model.specs.Planner.{ceilDiv, windowFactor, nextWindow, growth, advance}
 use Rattle.model.specs.Refusals.{firstOf, tooShort, badCabinets, badFaults, badMethod, badWindow, badLength, noRoom}
-use Rattle.model.specs.Refusals.{badMark, badMissing, tooManyFaults, badPlan, settingsChecks, sheetChecks, entryChecks}
-use Rattle.model.specs.Refusals.{writeChecks, settleChecks, planChecks, stepChecks}
-use Rattle.model.specs.Calls.{write, settle, step}
+use Rattle.model.specs.Refusals.{badMark, badMissing, tooManyFaults, badPlan, badSpread, settingsChecks, spreadChecks}
+use Rattle.model.specs.Refusals.{entryChecks, writeChecks, settleChecks, planChecks, stepChecks}
+use Rattle.model.specs.Calls.{write, settleSpread, settle, step}
 use Rattle.run.specs.Run.{Station, State, Sends, heard, entryOf, sheetOf, settled, next}
 use Rattle.run.specs.Rounds.{below, listed}
 use Rattle.sharpness.specs.Sharpness.{Covered, Reached}
@@ -29,8 +29,8 @@ unfolding count anyBelow lowest sum table overwrite
     decideRow readingsOf accepted acceptedAt numbered averageOf medianOf midpointOf estimate mean roundOf roundAt
     ceilDiv windowFactor nextWindow growth advance
     firstOf tooShort badCabinets badFaults badMethod badWindow badLength noRoom badMark badMissing tooManyFaults badPlan
-    settingsChecks sheetChecks entryChecks writeChecks settleChecks planChecks stepChecks
-    write settle step heard entryOf sheetOf settled next listed spread firstReading worstStation worstSends
+    badSpread settingsChecks spreadChecks entryChecks writeChecks settleChecks planChecks stepChecks
+    write settleSpread settle step heard entryOf sheetOf settled next listed spread firstReading worstStation worstSends
 computed = next
 
 -- three of seven bad: two good ones at 0 and two at 7

@@ -4,7 +4,7 @@
 use mathlib.Core.Logic.{⊎-elim}
 use mathlib.Core.Path.{_≡_, refl, sym, ap, _∙_, subst⁻¹}
 use Prim.Native.Nat.{ℕ, _+_, _*_, _-_, _≤_, _<_}
-use native.Mathlib.Nat.{le-refl}
+use native.Mathlib.Nat.{le-refl, add-zero}
 use native.Mathlib.Omega.{arith}
 use borrow.Author.Tests.{lt-ltb, eqb-true, eq-eqb}
 use lib.Dec.{eqb}
@@ -34,7 +34,7 @@ use Rattle.sharpness.proofs.Gains.{low-sum, high-mean, high-mean-one}
 use Rattle.sharpness.proofs.Run.{spread-whole, spread-one, sees, may-start, planned, some-n, parts, joins}
 use Rattle.sharpness.proofs.Run.{starts, allowed, meets, t-bad}
 use Rattle.sharpness.proofs.Swayed.{Swayed, swayed-some, swayed-total}
-use Rattle.sharpness.proofs.Told.{reads, has, low-swayed, high-swayed, high-swayed-one}
+use Rattle.sharpness.proofs.Told.{fits, has, low-swayed, high-swayed, high-swayed-one}
 
 module _ (n m t δ κ : ℕ) (h : Covered n m t δ κ) where
   abbrev st : Station
@@ -58,7 +58,7 @@ module _ (n m t δ κ : ℕ) (h : Covered n m t δ κ) where
     holds p some-acc =
         orderly.new-value st (starts n m t δ κ h) 0 now (ready-start st (starts n m t δ κ h)) x (allowed n m t δ κ h) p
         (subst⁻¹ (λ (a : ℕ). 0 < a)
-        (received-count (settings n m fca median δ) (sees n m t δ κ p) (reads n m t δ κ h p) K far)
+        (received-count (settings n m fca median δ) 0 δ (add-zero δ) (sees n m t δ κ p) (fits n m t δ κ h p) K far)
         some-acc)
         K
         far

@@ -11,6 +11,8 @@ use native.Mathlib.Omega.{arith}
 use borrow.Author.Tests.{ltb-true, ltb-false}
 use lib.Dec.{ltb}
 use lib.IntN.{ℤ, pos, _-ℤ_}
+use mir.Syntax.{w32}
+use mir.Val.{SFits}
 use Rattle.arithmetic.proofs.Bools.{both-ways}
 use Rattle.arithmetic.specs.Words.{twoTo31}
 use Rattle.arithmetic.specs.Naturals.{up}
@@ -18,10 +20,10 @@ use Rattle.model.specs.Ensemble.{Reading, present, isPresent, ticks}
 use Rattle.model.specs.RoundSheet.{fca, median}
 use Rattle.model.specs.Cases.{settings}
 use Rattle.limit_laws.proofs.Settled.{Receiver}
-use Rattle.run.specs.Run.{IsReading, start}
+use Rattle.run.specs.Run.{start}
 use Rattle.run.specs.Rounds.{listed}
-use Rattle.run.proofs.Ready as ready
 use Rattle.run.proofs.Ready.{ready-start}
+use Rattle.demand_3.proofs.Orderly.{seen-fits}
 use Rattle.demand_3.proofs.Received.{received}
 use Rattle.sharpness.specs.Sharpness.{Covered}
 use Rattle.sharpness.proofs.Worst.{needed, spread, firstReading, worstStation, worstSends}
@@ -32,10 +34,10 @@ use Rattle.sharpness.proofs.Run.{may-start, joins, starts, allowed, see
 use Rattle.sharpness.proofs.Swayed.{Far, Swayed}
 
 module _ (n m t δ κ : ℕ) (h : Covered n m t δ κ) where
-  pub reads : (p r : ℕ) → r < n → IsReading (sees n m t δ κ p r)
+  pub fits : (p r : ℕ) → r < n → SFits w32 (ticks (sees n m t δ κ p r))
   unfolding worstStation
-  reads =
-      ready.reads (worstStation n m t δ κ) (starts n m t δ κ h) 0 (start (worstStation n m t δ κ))
+  fits =
+      seen-fits (worstStation n m t δ κ) (starts n m t δ κ h) 0 (start (worstStation n m t δ κ))
       (ready-start (worstStation n m t δ κ) (starts n m t δ κ h))
       (worstSends n m t δ κ)
       (allowed n m t δ κ h)
@@ -50,7 +52,7 @@ module _ (n m t δ κ : ℕ) (h : Covered n m t δ κ) where
 
   module _ (K : ℕ) where
     unfoldable pub has : ℕ → Receiver
-    has p = received (settings n m fca median δ) (sees n m t δ κ p) (reads p) K
+    has p = received (settings n m fca median δ) (sees n m t δ κ p) K
 
     here : (p r : ℕ) (z : ℤ) → told n m t δ κ p ≡ present z → has p .pres r ≡ true
     unfolding has

@@ -2,10 +2,11 @@
 ghost use mathlib.Core.Path.{_≡_};
 ghost use Rattle.refusals.specs.Answers.{checkOf};
 ghost use Rattle.model.specs.RoundSheet.{settingsAt};
-ghost use Rattle.model.specs.Refusals.{firstOf, sheetChecks, rowChecks};
+ghost use Rattle.model.specs.Refusals.{firstOf, sheetChecks, spreadChecks, rowChecks};
 ghost use Rattle.model.specs.Calls.{verdict};
 ghost use Rattle.sheet_checks.specs.Answers.{openedOf};
 use model::BAD_LENGTH;
+use model::BAD_SPREAD;
 use model::HEADER_SIZE;
 use model::Refusal;
 use model::Settings;
@@ -28,22 +29,34 @@ pub fn unless_refused(screened: Screened, settings: Settings) -> Opened
     }
 }
 
+// Checks 1 to 5, 16 and 6, for a caller that gives a spread.
+pub fn inspect_spread(sheet: &[u8], spread: u32) -> Opened
+    ensures { λ r.
+        ⌜ openedOf r
+        ≡ verdict (firstOf (spreadChecks (now (sheet .entry)) spread)) (settingsAt (now (sheet .entry))) ⌝ }
+{
+    if sheet.len() < HEADER_SIZE {
+        return Opened::Refused(refusals::refuse(TOO_SHORT));
+    }
+    let settings = sheet_sizes::settings_at(sheet);
+    let unfit = settings_checks::bad_spread(settings.rule, spread);
+    let width = refusals::refuse_if(unfit, BAD_SPREAD);
+    let wanted = sheet_sizes::sheet_length(settings);
+    let length = refusals::refuse_if(sheet.len() != wanted, BAD_LENGTH);
+    let later = refusals::first_of(width, length);
+    unless_refused(
+        refusals::first_of(settings_checks::screen(settings), later),
+        settings,
+    )
+}
+
 // Checks 1 to 6.
 pub fn inspect(sheet: &[u8]) -> Opened
     ensures { λ r.
         ⌜ openedOf r
         ≡ verdict (firstOf (sheetChecks (now (sheet .entry)))) (settingsAt (now (sheet .entry))) ⌝ }
 {
-    if sheet.len() < HEADER_SIZE {
-        return Opened::Refused(refusals::refuse(TOO_SHORT));
-    }
-    let settings = sheet_sizes::settings_at(sheet);
-    let wanted = sheet_sizes::sheet_length(settings);
-    let length = refusals::refuse_if(sheet.len() != wanted, BAD_LENGTH);
-    unless_refused(
-        refusals::first_of(settings_checks::screen(settings), length),
-        settings,
-    )
+    inspect_spread(sheet, 0)
 }
 
 // Checks 1 to 6, 8 and 9.

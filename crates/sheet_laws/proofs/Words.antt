@@ -1,16 +1,19 @@
 -- Numbers of four bytes: read back from where they were written, and written back from where they were read.
 -- Assumes nothing.
+use mathlib.Core.Bool.{Bool, true, _&&_}
 use mathlib.Core.List.{List, [], _∷_, _++_}
 use mathlib.Core.Path.{_≡_, sym, ap, _∙_}
-use Prim.Native.Nat.{ℕ, suc, _+_, _*_, _/_, _%_, _≤_, _<_}
+use Prim.Native.Nat.{ℕ, zero, suc, _+_, _*_, _/_, _%_, _≤_, _<_}
 use native.Mathlib.Nat.{add-zero, add-assoc, mod-eq-of-lt}
 use native.Mathlib.Numerals.{add-one, add-two, add-three}
 use native.Mathlib.Omega.{arith}
+use borrow.Author.Tests.{ltb-true}
 use lib.Arith.{mod-mul}
-use lib.Dec.{lit<}
+use lib.Dec.{ltb, lit<}
 use lib.ListN.{length, take, drop, List·getD-append}
 use lib.Seq.{getD-append-add, drop-cons}
 use Rattle.arithmetic.specs.Words.{twoTo32}
+use Rattle.arithmetic.proofs.Bools.{and-left, and-right}
 use Rattle.model.specs.RoundSheet.{byte, word, bytes4}
 
 -- ---- a number's own bytes
@@ -114,3 +117,13 @@ bytes4-word s i small h =
     bytes4-digits (byte s i) (byte s (i + 1)) (byte s (i + 2)) (byte s (i + 3))
     (small i) (small (i + 1)) (small (i + 2)) (small (i + 3))
     ∙ sym (take4 s i h)
+
+-- a list that is written out has bytes alone
+abbrev pub all-bytes : List ℕ → Bool
+all-bytes [] = true
+all-bytes (b ∷ bs) = ltb b 256 && all-bytes bs
+
+pub bytes-tested : (s : List ℕ) → all-bytes s ≡ true → (j : ℕ) → byte s j < 256
+bytes-tested [] e j = lit< tt
+bytes-tested (b ∷ bs) e zero = ltb-true b 256 (and-left (ltb b 256) (all-bytes bs) e)
+bytes-tested (b ∷ bs) e (suc j) = bytes-tested bs (and-right (ltb b 256) (all-bytes bs) e) j

@@ -5,6 +5,7 @@ use mathlib.Core.Bool.{Bool, true, false, cond}
 use mathlib.Core.List.{List}
 use mathlib.Core.Path.{_≡_, sym, ap, _∙_}
 use Prim.Native.Nat.{ℕ, _+_, _*_, _-_, _≤_, _<_}
+use native.Mathlib.Nat.{add-zero}
 use native.Mathlib.Omega.{arith}
 use borrow.Author.Tests.{eq-eqb, ne-eqb, le-leb, lt-ltb}
 use lib.Dec.{eqb}
@@ -15,7 +16,8 @@ use Rattle.arithmetic.specs.Writing.{table}
 use Rattle.arithmetic.proofs.Bools.{and-intro, clash}
 use Rattle.arithmetic.proofs.Counting.{lowest-none, lowest-some}
 use Rattle.model.specs.declared.Settings.{Settings}
-use Rattle.model.specs.Ensemble.{present, Readings, maxCabinets}
+use Rattle.model.specs.Ensemble.{present, Readings, maxCabinets, quorum}
+use Rattle.model.specs.Steps.{spanWidth}
 use Rattle.model.specs.RoundSheet.{byte, word}
 use Rattle.sheet_laws.proofs.Words.{word-fits}
 use Rattle.held.specs.Held.{entryReading, heldMark, heldValue}
@@ -92,11 +94,17 @@ module _ (c : Settings) (roles held sent readings : List ℕ) (p : ℕ) where
     few : c .n ≤ maxCabinets
     few = rw (fits .cabinets) (fits .few)
 
+    -- without a spread the span is as wide as the window
+    agrees-wide : a ≡ agreedOf (spanWidth c 0) (quorum c) (c .estimator) marks values
+    agrees-wide =
+        agrees
+        ∙ ap (λ (w : ℕ). agreedOf w (quorum c) (c .estimator) marks values) (sym (add-zero (c .window)))
+
     count-is : a .count ≡ heardRound c roles held sent readings p .count
     count-is =
-        ap (λ (x : Estimated). x .count) agrees
+        ap (λ (x : Estimated). x .count) agrees-wide
         ∙ agreed-count c (heardFrom roles held sent readings p)
-        (λ r l. heard-kept roles held sent readings small p r) marks values marks-are values-are few
+        (λ r l. heard-kept roles held sent readings small p r) marks values marks-are values-are 0 few
 
     pub sound-meets : eqb (a .count) 0 ≡ meetsTooMany c roles held sent readings p
     unfolding meetsTooMany
@@ -106,9 +114,9 @@ module _ (c : Settings) (roles held sent readings : List ℕ) (p : ℕ) where
     unfolding nextValue
     sound-value h =
         rw (eq-eqb (getD roles p 0) 1 sound)
-        (ap (λ (x : Estimated). x .value) agrees
+        (ap (λ (x : Estimated). x .value) agrees-wide
         ∙ agreed-value c (heardFrom roles held sent readings p)
-        (λ r l. heard-kept roles held sent readings small p r) marks values marks-are values-are few
+        (λ r l. heard-kept roles held sent readings small p r) marks values marks-are values-are 0 few
         (λ z. clash (eq-eqb (a .count) 0 (count-is ∙ z)) h))
 
 -- ---- the first that meets too many faults

@@ -22,7 +22,7 @@ use Rattle.hearing.specs.Heard.{heardFrom, audible}
 
 module _ (c : Settings) (roles held sent readings : List ℕ) where
   abbrev pub heardRound : ℕ → Round
-  heardRound p = roundOf c (heardFrom roles held sent readings p)
+  heardRound p = roundOf c 0 (heardFrom roles held sent readings p)
 
   unfoldable pub meetsTooMany : ℕ → Bool
   meetsTooMany p = eqb (getD roles p 0) 1 && eqb (heardRound p .count) 0

@@ -1,6 +1,6 @@
 // The calls for C and for Rust. An answer below 2^32 is a grant, any other is number × 2^32 + place of a refusal.
 ghost use mathlib.Core.Path.{_≡_};
-ghost use Rattle.model.specs.Calls.{settle, read, write, plan, step};
+ghost use Rattle.model.specs.Calls.{settleSpread, settle, read, write, plan, step};
 ghost use Rattle.planner.specs.Answers.{planOf};
 ghost use Rattle.packed_refusals.specs.Answers.{packed, TargetPacked};
 ghost use Rattle.packed_records.specs.Answers.{openingOf, planningOf};
@@ -13,13 +13,22 @@ use planner::Plan;
 mod answers;
 mod replays;
 
-// Settles a round sheet. The answer is the answer sheet's length.
+// Settles a round sheet with a spread. The answer is the answer sheet's length.
+#[no_mangle]
+pub extern "C" fn tohiranga_settle_spread(sheet: &[u8], spread: u32, answer: &mut [u8]) -> u64
+    ensures { λ r. ⌜ r ≡ packed (settleSpread (now (sheet .entry)) spread (now (answer .entry)) .verdict) ⌝ }
+    ensures { λ _. ⌜ now (answer .exit) ≡ settleSpread (now (sheet .entry)) spread (now (answer .entry)) .buffer ⌝ }
+{
+    packing::pack_settled(settling::settle_spread(&*sheet, spread, answer))
+}
+
+// The same without a spread.
 #[no_mangle]
 pub extern "C" fn tohiranga_settle(sheet: &[u8], answer: &mut [u8]) -> u64
     ensures { λ r. ⌜ r ≡ packed (settle (now (sheet .entry)) (now (answer .entry)) .verdict) ⌝ }
     ensures { λ _. ⌜ now (answer .exit) ≡ settle (now (sheet .entry)) (now (answer .entry)) .buffer ⌝ }
 {
-    packing::pack_settled(settling::settle(sheet, answer))
+    tohiranga_settle_spread(sheet, 0, answer)
 }
 
 // Reads a round sheet into marks and readings. The answer is the number of entries.

@@ -32,39 +32,39 @@ unfolding up
 up-fits (pos a) i = let h = i .sfits in omega arith
 up-fits (negsuc a) i = omega arith
 
-module _ (c : Settings) (v : Readings) (fits : (r : ℕ) → r < c .n → SFits w32 (ticks (v r)))
-    (some-acc : 0 < roundOf c v .count) where
+module _ (c : Settings) (D : ℕ) (v : Readings) (fits : (r : ℕ) → r < c .n → SFits w32 (ticks (v r)))
+    (some-acc : 0 < roundOf c D v .count) where
   abbrev here : ℕ → Bool
   here r = isPresent (v r)
 
   same32 : EqualBelow (c .n) v (shifted twoTo31 (λ r. isPresent (v r)) (raise twoTo31 v))
   same32 r l = sym (shift-raise twoTo31 (v r) (fits r l .sfits))
 
-  counted32 : 0 < count (acc-of c here (raise twoTo31 v)) (c .n)
-  counted32 = subst (λ (a : ℕ). 0 < a) (round-count c here (raise twoTo31 v) v twoTo31 same32) some-acc
+  counted32 : 0 < count (acc-of c D here (raise twoTo31 v)) (c .n)
+  counted32 = subst (λ (a : ℕ). 0 < a) (round-count c D here (raise twoTo31 v) v twoTo31 same32) some-acc
 
   small : (r : ℕ) → r < c .n → raise twoTo31 v r ≤ 4_294_967_295
   small r l = up-fits (ticks (v r)) (fits r l)
 
-  used-small : (r : ℕ) → r < c .n → used-of c here (raise twoTo31 v) twoTo31 r ≤ 4_294_967_295
+  used-small : (r : ℕ) → r < c .n → used-of c D here (raise twoTo31 v) twoTo31 r ≤ 4_294_967_295
   used-small r l =
-      used-within (acc-of c here (raise twoTo31 v)) (c .n) (raise twoTo31 v) counted32 0 4_294_967_295
+      used-within (acc-of c D here (raise twoTo31 v)) (c .n) (raise twoTo31 v) counted32 0 4_294_967_295
       (λ i k e. zero-le) (λ i k e. small i k) twoTo31 (c .estimator) r l .high
 
-  pub estimate-fits : SFits w32 (roundOf c v .estimate)
+  pub estimate-fits : SFits w32 (roundOf c D v .estimate)
   estimate-fits =
-      subst⁻¹ (SFits w32) (round-estimate c here (raise twoTo31 v) v twoTo31 same32 counted32)
-      (down-fits (estimate-of c here (raise twoTo31 v) twoTo31)
-      (estimate-within (acc-of c here (raise twoTo31 v)) (c .n) (raise twoTo31 v) counted32 0 4_294_967_295
+      subst⁻¹ (SFits w32) (round-estimate c D here (raise twoTo31 v) v twoTo31 same32 counted32)
+      (down-fits (estimate-of c D here (raise twoTo31 v) twoTo31)
+      (estimate-within (acc-of c D here (raise twoTo31 v)) (c .n) (raise twoTo31 v) counted32 0 4_294_967_295
       (λ i k e. zero-le) (λ i k e. small i k) twoTo31 (c .estimator) .high))
 
-  pub used-fits : (r : ℕ) → r < c .n → SFits w32 (roundOf c v .used r)
+  pub used-fits : (r : ℕ) → r < c .n → SFits w32 (roundOf c D v .used r)
   used-fits r l =
-      subst⁻¹ (SFits w32) (round-used c here (raise twoTo31 v) v twoTo31 same32 counted32 r l)
-      (down-fits (used-of c here (raise twoTo31 v) twoTo31 r) (used-small r l))
+      subst⁻¹ (SFits w32) (round-used c D here (raise twoTo31 v) v twoTo31 same32 counted32 r l)
+      (down-fits (used-of c D here (raise twoTo31 v) twoTo31 r) (used-small r l))
 
-  pub value-fits : 0 < c .n → SFits w32 (roundOf c v .value)
+  pub value-fits : 0 < c .n → SFits w32 (roundOf c D v .value)
   value-fits some-n =
-      subst⁻¹ (SFits w32) (round-value c here (raise twoTo31 v) v twoTo31 same32 some-n counted32)
-      (down-fits (value-of c here (raise twoTo31 v) twoTo31)
-      (mean-below (c .n) some-n (used-of c here (raise twoTo31 v) twoTo31) 4_294_967_295 used-small))
+      subst⁻¹ (SFits w32) (round-value c D here (raise twoTo31 v) v twoTo31 same32 some-n counted32)
+      (down-fits (value-of c D here (raise twoTo31 v) twoTo31)
+      (mean-below (c .n) some-n (used-of c D here (raise twoTo31 v) twoTo31) 4_294_967_295 used-small))

@@ -22,11 +22,11 @@ use Rattle.model.specs.Ensemble.{Reading, missing, present, Readings, ticks, qu
 use Rattle.model.specs.RoundSheet.{cca, byte, settingsAt, entryCount, markAt, bitsAt, entryAt, headerSize}
 use Rattle.model.specs.Steps.{same, decisionAt, decidedReading, decideRow, readingsOf, roundAt}
 use Rattle.model.specs.AnswerSheet.{answerLength}
-use Rattle.model.specs.Refusals.{Check, orNext, firstOf, sheetChecks, entryChecks, settleChecks, noRoom, tooManyFaults}
+use Rattle.model.specs.Refusals.{Check, orNext, firstOf, spreadChecks, entryChecks, settleChecks, noRoom, tooManyFaults}
 use Rattle.model.specs.Refusals.{tooManyFaultsNumber}
 use Rattle.sheet_laws.proofs.Words.{word-fits}
 use Rattle.refusal_laws.proofs.Checks.{next-none-left, next-none-right, when-none}
-use Rattle.sheet_laws.proofs.Orders.{settle-checks}
+use Rattle.sheet_laws.proofs.Orders.{settle-checks, spread-passed}
 use Rattle.refusal_laws.proofs.Limits.{limits}
 use Rattle.sheet_laws.proofs.Checks.{settings-passed}
 use Rattle.value_laws.proofs.Fits.{estimate-fits, used-fits, value-fits}
@@ -66,50 +66,52 @@ module _ (s : List ℕ) (small : (j : ℕ) → byte s j < 256) where
       (sfits-toZ {w = w32} (fits-of-lt (word-fits s (headerSize + E + 4 * e) small)))
       none-fits
 
-  abbrev readings : Readings
+  abbrev pub readings : Readings
   readings = readingsOf (settingsAt s) (entryAt s (entryCount (settingsAt s)))
 
-  readings-fit : (r : ℕ) → r < settingsAt s .n → Holds (readings r)
+  pub readings-fit : (r : ℕ) → r < settingsAt s .n → Holds (readings r)
   readings-fit r h =
       reading-fits (settingsAt s) (entryAt s (entryCount (settingsAt s))) (entry-fits (entryCount (settingsAt s))) r
 
-  module _ (answer : List ℕ) (granted : firstOf (settleChecks s (length answer)) ≡ none) where
+  module _ (D : ℕ) (answer : List ℕ) (granted : firstOf (settleChecks s D (length answer)) ≡ none) where
     abbrev room : Check
     room = noRoom (length answer) (answerLength (settingsAt s .n))
 
     abbrev faults : Check
-    faults = tooManyFaults (roundAt s .count)
+    faults = tooManyFaults (roundAt s D .count)
 
-    checks : orNext (firstOf (sheetChecks s)) (orNext room (orNext (firstOf (entryChecks s)) faults)) ≡ none
-    checks = sym (settle-checks s (length answer)) ∙ granted
+    checks : orNext (firstOf (spreadChecks s D)) (orNext room (orNext (firstOf (entryChecks s)) faults)) ≡ none
+    checks = sym (settle-checks s D (length answer)) ∙ granted
 
     some-cabinet : 0 < settingsAt s .n
     some-cabinet =
         limits (settingsAt s)
         (settings-passed s
-        (next-none-left (firstOf (sheetChecks s)) (orNext room (orNext (firstOf (entryChecks s)) faults)) checks))
+        (spread-passed s D
+        (next-none-left (firstOf (spreadChecks s D)) (orNext room (orNext (firstOf (entryChecks s)) faults)) checks)
+        .1))
         .someCabinet
 
     few-faults : faults ≡ none
     few-faults =
         next-none-right (firstOf (entryChecks s)) faults
         (next-none-right room (orNext (firstOf (entryChecks s)) faults)
-        (next-none-right (firstOf (sheetChecks s)) (orNext room (orNext (firstOf (entryChecks s)) faults)) checks))
+        (next-none-right (firstOf (spreadChecks s D)) (orNext room (orNext (firstOf (entryChecks s)) faults)) checks))
 
-    some-accepted : 0 < roundAt s .count
+    some-accepted : 0 < roundAt s D .count
     unfolding tooManyFaults
     some-accepted =
-        let count = roundAt s .count in
+        let count = roundAt s D .count in
         pos-of-ne-zero (λ z. clash (eq-eqb count 0 z) (when-none (eqb count 0) tooManyFaultsNumber few-faults))
 
-    pub settled-estimate : SFits w32 (roundAt s .estimate)
+    pub settled-estimate : SFits w32 (roundAt s D .estimate)
     unfolding roundAt
-    settled-estimate = estimate-fits (settingsAt s) readings readings-fit some-accepted
+    settled-estimate = estimate-fits (settingsAt s) D readings readings-fit some-accepted
 
-    pub settled-value : SFits w32 (roundAt s .value)
+    pub settled-value : SFits w32 (roundAt s D .value)
     unfolding roundAt
-    settled-value = value-fits (settingsAt s) readings readings-fit some-accepted some-cabinet
+    settled-value = value-fits (settingsAt s) D readings readings-fit some-accepted some-cabinet
 
-    pub settled-used : (r : ℕ) → r < settingsAt s .n → SFits w32 (roundAt s .used r)
+    pub settled-used : (r : ℕ) → r < settingsAt s .n → SFits w32 (roundAt s D .used r)
     unfolding roundAt
-    settled-used = used-fits (settingsAt s) readings readings-fit some-accepted
+    settled-used = used-fits (settingsAt s) D readings readings-fit some-accepted

@@ -7,7 +7,7 @@ mod replays;
 mod sheets;
 
 use engine::{Engine, Settings};
-use sheets::{Kind, KINDS, RULES, SIZES};
+use sheets::{Kind, KINDS, RULES, SIZES, SPREAD};
 use std::hint::black_box;
 use std::process::ExitCode;
 use std::time::{Duration, Instant};
@@ -92,6 +92,8 @@ fn engines(names: &str) -> Option<Vec<Box<dyn Engine>>> {
 #[derive(Clone, Copy)]
 enum Call {
     Settle,
+    /// Settling with `SPREAD`.
+    Spread,
     Read,
     Replay,
 }
@@ -107,6 +109,9 @@ fn time(engine: &dyn Engine, call: Call, sheets: &[Vec<u8>], times: u32) -> Dura
             let sheet = black_box(sheet);
             black_box(match call {
                 Call::Settle => engine.settle(sheet, black_box(&mut answer)),
+                Call::Spread => {
+                    engine.settle_spread(sheet, black_box(SPREAD), black_box(&mut answer))
+                }
                 Call::Read => engine.read(
                     sheet,
                     &mut settings,
@@ -147,10 +152,14 @@ fn side_by_side(engines: &Engines, call: Call, sheets: &[Vec<u8>], slices: usize
 }
 
 /// All engines give the same answers, and sheets of refusal are refused under 10.
-fn agree(engines: &Engines, sheets: &[Vec<u8>], kind: Kind) -> bool {
-    let settled = |engine: &dyn Engine, sheet| {
+fn agree(engines: &Engines, call: Call, sheets: &[Vec<u8>], kind: Kind) -> bool {
+    let settled = |engine: &dyn Engine, sheet: &[u8]| {
         let mut tray = [0; 330];
-        (engine.settle(sheet, &mut tray), tray)
+        let answer = match call {
+            Call::Spread => engine.settle_spread(sheet, SPREAD, &mut tray),
+            _ => engine.settle(sheet, &mut tray),
+        };
+        (answer, tray)
     };
     sheets.iter().all(|sheet| {
         let (answer, tray) = settled(&*engines[0], sheet);
@@ -179,7 +188,7 @@ fn show_settling(engines: &Engines, slices: usize) -> Option<Vec<Cell>> {
         for kind in KINDS {
             for n in SIZES {
                 let sheets = sheets::sheets(n, rule, kind);
-                if !agree(engines, &sheets, kind) {
+                if !agree(engines, Call::Settle, &sheets, kind) {
                     let kind = kind.name();
                     println!(
                         "FAILED: {rule_name}, {kind}, N {n}: the answers are not as they should be"
@@ -213,6 +222,35 @@ fn show_means(engines: &Engines, cells: &[Cell]) {
             other.name()
         );
     }
+}
+
+/// Settling with a spread; false where the engines do not agree.
+fn show_spreads(engines: &Engines, slices: usize) -> bool {
+    println!();
+    if let Some(without) = engines.iter().find(|engine| !engine.has_spread()) {
+        println!("Settling with a spread is not timed: {} has no such call.", without.name());
+        return true;
+    }
+    println!(
+        "Settling the same FCA sheets with a spread of {SPREAD} and a window that is less by it:"
+    );
+    let mut cells = Vec::new();
+    for kind in KINDS {
+        for n in SIZES {
+            let sheets = sheets::sheets_with_spread(n, kind);
+            let name = kind.name_with_spread();
+            if !agree(engines, Call::Spread, &sheets, kind) {
+                println!("FAILED: {name}, N {n}: the answers are not as they should be");
+                return false;
+            }
+            let ns = side_by_side(engines, Call::Spread, &sheets, slices);
+            let cell = Cell { rule: reference::FCA, kind, n, ns };
+            println!("{}", cell.start_of_line(name));
+            cells.push(cell);
+        }
+    }
+    show_means(engines, &cells);
+    true
 }
 
 /// Reading sheets whose readings are all present.
@@ -290,6 +328,9 @@ fn main() -> ExitCode {
         return ExitCode::FAILURE;
     };
     show_means(&engines, &cells);
+    if !show_spreads(&engines, options.slices) {
+        return ExitCode::FAILURE;
+    }
     show_reading(&engines, options.slices);
     if options.sheets {
         return ExitCode::SUCCESS;

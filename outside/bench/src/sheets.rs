@@ -10,6 +10,9 @@ pub const KINDS: [Kind; 3] = [Kind::AllAccepted, Kind::SomeLiars, Kind::WorstRef
 
 const WINDOW: i64 = 1000;
 
+/// The spread of sheets that are settled with one.
+pub const SPREAD: u32 = 100;
+
 #[derive(Clone, Copy, PartialEq, Eq)]
 pub enum Kind {
     AllAccepted,
@@ -25,12 +28,30 @@ impl Kind {
             Kind::WorstRefusal => "worst refusal",
         }
     }
+
+    /// The same of sheets that are settled with a spread.
+    pub fn name_with_spread(self) -> &'static str {
+        match self {
+            Kind::AllAccepted => "spread, all",
+            Kind::SomeLiars => "spread, liars",
+            Kind::WorstRefusal => "spread, worst",
+        }
+    }
 }
 
 /// Sheets of one size, rule and kind, over all estimators.
 pub fn sheets(n: u8, rule: u8, kind: Kind) -> Vec<Vec<u8>> {
     let random = Random::new(n as u64);
     (0..6).map(|i| sheet(&random, n, rule, kind, i % 3)).collect()
+}
+
+/// The same FCA sheets with a window that is less by the spread.
+pub fn sheets_with_spread(n: u8, kind: Kind) -> Vec<Vec<u8>> {
+    let mut sheets = sheets(n, FCA, kind);
+    for sheet in &mut sheets {
+        sheet[4..8].copy_from_slice(&(WINDOW as u32 - SPREAD).to_le_bytes());
+    }
+    sheets
 }
 
 fn sheet(random: &Random, n: u8, rule: u8, kind: Kind, estimator: u8) -> Vec<u8> {

@@ -7,10 +7,28 @@ use engine::{number, replay_by_hand, words, Engine, Plan, Settings};
 use random::Random;
 use reference::Trace;
 
-pub const CALLS: [&str; 8] = ["settle", "read", "write", "row", "plan", "step", "target", "replay"];
+pub const CALLS: [&str; 9] =
+    ["settle", "read", "write", "row", "plan", "step", "target", "replay", "spread"];
 
-/// A trace is replayed for every so many sheets.
+/// A trace is replayed for every so many sheets. For the others a sheet is settled with a spread.
 pub const SHEETS_FOR_A_TRACE: u64 = 2;
+
+/// What was settled with a spread.
+pub struct Spreads {
+    pub several_faults: u64,
+    /// How often the spread was each of `ENDS`.
+    pub at_end: [u64; ENDS.len()],
+    /// How often a sheet settled with a spread above 0, for each estimator and N.
+    pub settled: [[u64; 65]; 3],
+    /// How often a span that starts at an accepted reading ends past 32 bits.
+    pub past_32_bits: u64,
+    /// How often the outcome would be another with a spread a tick less, and a tick more.
+    pub tick_less: u64,
+    pub tick_more: u64,
+}
+
+/// Both sides of the limits of a spread.
+pub const ENDS: [u32; 6] = [0, 1, 99_999, 100_000, 100_001, u32::MAX];
 
 /// What was replayed.
 pub struct Replays {
@@ -27,7 +45,7 @@ pub struct Comparison<'a> {
     pub a: &'a dyn Engine,
     pub b: &'a dyn Engine,
     /// How often each call was granted, or refused under each number.
-    pub outcomes: [[u64; 16]; 8],
+    pub outcomes: [[u64; 17]; 9],
     /// How often a sheet settled, for each rule, estimator and N.
     pub settled: [[[u64; 65]; 3]; 2],
     pub all_accepted: u64,
@@ -35,6 +53,7 @@ pub struct Comparison<'a> {
     pub rows_shown: u64,
     pub rows_empty: u64,
     pub replays: Replays,
+    pub spreads: Spreads,
     pub differences: u64,
     /// The sheet that is compared now.
     pub now: u64,
@@ -45,7 +64,7 @@ impl<'a> Comparison<'a> {
         Comparison {
             a,
             b,
-            outcomes: [[0; 16]; 8],
+            outcomes: [[0; 17]; 9],
             settled: [[[0; 65]; 3]; 2],
             all_accepted: 0,
             several_faults: 0,
@@ -57,6 +76,14 @@ impl<'a> Comparison<'a> {
                 stopped_in: [0; 33],
                 several_faults: 0,
                 other_for_faulty: 0,
+            },
+            spreads: Spreads {
+                several_faults: 0,
+                at_end: [0; ENDS.len()],
+                settled: [[0; 65]; 3],
+                past_32_bits: 0,
+                tick_less: 0,
+                tick_more: 0,
             },
             differences: 0,
             now: 0,
@@ -79,6 +106,8 @@ impl<'a> Comparison<'a> {
         self.target(random);
         if now.is_multiple_of(SHEETS_FOR_A_TRACE) {
             self.replay(random);
+        } else {
+            self.settle_spread(random);
         }
     }
 
@@ -91,7 +120,7 @@ impl<'a> Comparison<'a> {
     }
 
     fn answers(&mut self, call: usize, a: u64, b: u64, input: impl FnOnce() -> String) {
-        self.outcomes[call][number(a).min(15)] += 1;
+        self.outcomes[call][number(a).min(16)] += 1;
         self.demand(a == b, CALLS[call], || format!("{} / {}; {}", words(a), words(b), input()));
     }
 
@@ -106,7 +135,7 @@ impl<'a> Comparison<'a> {
         call: usize,
         bytes: &[u8],
         old: &[u8],
-        make: fn(&dyn Engine, &[u8], &mut [u8]) -> u64,
+        make: impl Fn(&dyn Engine, &[u8], &mut [u8]) -> u64,
     ) -> (u64, Vec<u8>) {
         let (mut tray_a, mut tray_b) = (old.to_vec(), old.to_vec());
         let a = make(self.a, bytes, &mut tray_a);
@@ -124,13 +153,56 @@ impl<'a> Comparison<'a> {
     }
 
     fn settle(&mut self, random: &Random, sheet: &[u8]) {
-        let n = sheet.first().map_or(4, |&n| n as usize % 65);
-        let old = random.bytes(draw::length(random, 10 + 5 * n));
+        let n = cabinets(sheet);
+        let old = answer_tray(random, n);
         let settle = |who: &dyn Engine, sheet: &[u8], tray: &mut [u8]| who.settle(sheet, tray);
         let (answer, tray) = self.fill(0, sheet, &old, settle);
         if number(answer) == 0 {
             self.settled[sheet[2] as usize][sheet[3] as usize][n] += 1;
             self.all_accepted += (tray[0] == tray[1]) as u64;
+        }
+    }
+
+    /// With a spread of 0 it is settling.
+    fn settle_spread(&mut self, random: &Random) {
+        let spread = draw::spread(random);
+        let mut paper = draw::paper_with_spread(random, spread);
+        self.spreads.several_faults += (draw::damage_paper(random, &mut paper) > 1) as u64;
+        let sheet = draw::sheet(random, &paper);
+        let old = answer_tray(random, cabinets(&sheet));
+        let settle = |who: &dyn Engine, sheet: &[u8], tray: &mut [u8]| {
+            who.settle_spread(sheet, spread, tray)
+        };
+        let (answer, tray) = self.fill(8, &sheet, &old, settle);
+        for who in [self.a, self.b] {
+            let (mut with, mut without) = (old.clone(), old.clone());
+            let answers =
+                (who.settle_spread(&sheet, 0, &mut with), who.settle(&sheet, &mut without));
+            self.demand(answers.0 == answers.1 && with == without, "spread", || {
+                format!("{}: a spread of 0 is not none; {}", who.name(), in_words(&sheet))
+            });
+        }
+        self.count_spread(spread, &sheet, answer, &tray);
+    }
+
+    fn count_spread(&mut self, spread: u32, sheet: &[u8], answer: u64, tray: &[u8]) {
+        for (end, times) in ENDS.iter().zip(&mut self.spreads.at_end) {
+            *times += (spread == *end) as u64;
+        }
+        let known = |spread: u32| {
+            let mut tray = [0; 330];
+            (reference::settle_spread(sheet, spread, &mut tray), tray)
+        };
+        if [0, 10].contains(&number(answer)) && (1..100_000).contains(&spread) {
+            self.spreads.tick_less += (known(spread) != known(spread - 1)) as u64;
+            self.spreads.tick_more += (known(spread) != known(spread + 1)) as u64;
+        }
+        if let (0, Ok(settings), 1..) = (number(answer), reference::settings_of(sheet), spread) {
+            let (n, span) = (settings.n as usize, settings.window as i64 + spread as i64);
+            let used = tray.get(10 + n..10 + 5 * n).map_or(vec![], reference::numbers_in);
+            let past = |v: i32| v as i64 + span > i32::MAX as i64;
+            self.spreads.past_32_bits += used.into_iter().any(past) as u64;
+            self.spreads.settled[settings.estimator as usize][n] += 1;
         }
     }
 
@@ -140,8 +212,7 @@ impl<'a> Comparison<'a> {
         let mut trace = traces::trace(random);
         self.replays.several_faults += (traces::damage(random, &mut trace) > 1) as u64;
         let bytes = traces::bytes(random, &trace);
-        let n = bytes.first().map_or(4, |&n| n as usize % 65);
-        let old = random.bytes(draw::length(random, 4 * n));
+        let old = random.bytes(draw::length(random, 4 * cabinets(&bytes)));
         let replay = |who: &dyn Engine, trace: &[u8], tray: &mut [u8]| who.replay(trace, tray);
         let given = self.fill(7, &bytes, &old, replay);
 
@@ -344,6 +415,16 @@ impl<'a> Comparison<'a> {
             }
         }
     }
+}
+
+/// N, as the first byte of a sheet or a trace has it, or one that could be.
+fn cabinets(bytes: &[u8]) -> usize {
+    bytes.first().map_or(4, |&n| n as usize % 65)
+}
+
+/// A tray for the answer of so many cabinets, with old contents.
+fn answer_tray(random: &Random, n: usize) -> Vec<u8> {
+    random.bytes(draw::length(random, 10 + 5 * n))
 }
 
 /// The first bytes of a sheet and its length.

@@ -135,6 +135,22 @@ fn copies(random: &Random, settings: &Settings, value: Option<i32>) -> Vec<Optio
 pub fn paper(random: &Random) -> Paper {
     let settings = settings(random);
     let readings = readings(random, &settings);
+    written(random, settings, readings)
+}
+
+/// A paper to settle with a spread, most often by FCA, whose readings are most of them around one span.
+pub fn paper_with_spread(random: &Random, spread: u32) -> Paper {
+    let mut settings = settings(random);
+    if spread > 0 && random.percent(80) {
+        settings.rule = FCA;
+    }
+    let span = settings.window + spread.min(100_000);
+    let readings = readings(random, &Settings { window: span, ..settings });
+    written(random, settings, readings)
+}
+
+/// A paper with these readings: for CCA, with copies of them.
+fn written(random: &Random, settings: Settings, readings: Vec<Option<i32>>) -> Paper {
     let entries: Vec<Option<i32>> = if settings.rule == CCA {
         readings.iter().flat_map(|&value| copies(random, &settings, value)).collect()
     } else {
@@ -184,6 +200,21 @@ pub fn damage_paper(random: &Random, paper: &mut Paper) -> u64 {
         }
     }
     faults
+}
+
+/// A spread, often at a limit of check 16.
+pub fn spread(random: &Random) -> u32 {
+    match random.below(20) {
+        0..=1 => 0,
+        2..=3 => 1,
+        4..=5 => 100_000,
+        6 => 99_999,
+        7 => 100_001,
+        8 => random.pick(&[u32::MAX, 1 << 31, random.draw() as u32]),
+        9..=11 => random.between(2, 12) as u32,
+        12..=14 => random.between(0, 1000) as u32,
+        _ => random.between(0, 100_000) as u32,
+    }
 }
 
 /// A sheet, often damaged, sometimes of wrong length, sometimes of any bytes at all.

@@ -6,7 +6,7 @@ mod draw;
 mod program;
 mod traces;
 
-use calls::{Comparison, CALLS, SHEETS_FOR_A_TRACE};
+use calls::{Comparison, CALLS, ENDS, SHEETS_FOR_A_TRACE};
 use engine::sabotage::{Sabotaged, SABOTAGES};
 use engine::Engine;
 use random::Random;
@@ -25,7 +25,7 @@ compare --sabotages
   --replay     the same for a program `replay`, on so many traces";
 
 /// The numbers under which each call can refuse. Rows refuse nothing.
-const REFUSALS: [&[usize]; 8] = [
+const REFUSALS: [&[usize]; 9] = [
     &[1, 2, 3, 4, 5, 6, 7, 8, 9, 10],
     &[1, 2, 3, 4, 5, 6, 7, 8, 9],
     &[2, 3, 4, 5, 6, 7, 8, 9],
@@ -34,6 +34,7 @@ const REFUSALS: [&[usize]; 8] = [
     &[2, 3, 4, 5, 11],
     &[2, 3, 4, 5, 11, 12],
     &[1, 2, 3, 4, 5, 7, 8, 9, 13, 14, 15],
+    &[1, 2, 3, 4, 5, 6, 7, 8, 9, 10, 16],
 ];
 
 struct Options {
@@ -85,7 +86,7 @@ fn engines(options: &Options) -> Option<(Box<dyn Engine>, Box<dyn Engine>)> {
 fn main() -> ExitCode {
     if std::env::args().nth(1).as_deref() == Some("--sabotages") {
         for (name, what) in SABOTAGES {
-            println!("{name:13} {what}");
+            println!("{name:16} {what}");
         }
         return ExitCode::SUCCESS;
     }
@@ -140,7 +141,7 @@ fn main() -> ExitCode {
 fn report(comparison: &Comparison, sheets: u64) -> usize {
     let mut unmet = 0;
     print!("call     granted");
-    for number in 1..=15 {
+    for number in 1..=16 {
         print!("{:>8}", format!("no. {number}"));
     }
     println!();
@@ -172,10 +173,11 @@ fn report(comparison: &Comparison, sheets: u64) -> usize {
     let least = by_kind.clone().min().unwrap();
     println!("Each N from 1 to 64 settled with each rule and estimator at least {least} times.");
     let replayed = report_replays(comparison, sheets);
+    let spreads = report_spreads(comparison, sheets);
     if sheets < 100_000 {
         println!("Each of these is asked of 100,000 sheets and more.");
     } else {
-        unmet += by_kind.chain(replayed).filter(|&&count| count == 0).count();
+        unmet += by_kind.chain(replayed).chain(spreads).filter(|&&count| count == 0).count();
     }
     unmet
 }
@@ -198,4 +200,36 @@ fn report_replays<'a>(
     println!("{} were replayed with other readings for faulty cabinets.", replays.other_for_faulty);
     let stopped = &replays.stopped_in[1..4];
     replays.by_n[1..].iter().chain(&replays.by_rounds).chain(stopped)
+}
+
+/// Prints what was settled with a spread; answers the counts that must not be 0.
+fn report_spreads<'a>(
+    comparison: &'a Comparison,
+    sheets: u64,
+) -> impl Iterator<Item = &'a u64> + 'a {
+    let spreads = &comparison.spreads;
+    println!(
+        "{} sheets with a spread, {} with several faults at once:",
+        sheets / SHEETS_FOR_A_TRACE,
+        spreads.several_faults
+    );
+    let listed =
+        ENDS.iter().zip(&spreads.at_end).map(|(end, times)| format!("{end} {times} times"));
+    println!("it was {};", listed.collect::<Vec<_>>().join(", "));
+    let settled = spreads.settled.iter().flat_map(|by_n| &by_n[1..]);
+    println!(
+        "each N from 1 to 64 settled with one above 0 and each estimator at least {} times,",
+        settled.clone().min().unwrap()
+    );
+    println!(
+        "{} in all, and in {} of these a span ends past 32 bits;",
+        settled.clone().sum::<u64>(),
+        spreads.past_32_bits
+    );
+    println!(
+        "{} have another outcome with a tick less, {} with a tick more.",
+        spreads.tick_less, spreads.tick_more
+    );
+    let edges = [&spreads.past_32_bits, &spreads.tick_less, &spreads.tick_more];
+    spreads.at_end.iter().chain(settled).chain(edges)
 }

@@ -24,15 +24,27 @@ fn plain_and_tuned_are_the_reference() {
     }
 }
 
-/// Those of replay at a replay, the others at another call too.
+/// The call at which a line shows a difference.
+fn call(line: &str) -> Option<&str> {
+    line.strip_prefix("DIFFERENCE at sheet ")?
+        .split_once(", ")?
+        .1
+        .split_once(": ")
+        .map(|(call, _)| call)
+}
+
+/// Those of replay at a replay, those of the spread at settling with one and nowhere else, the others at another call too.
 #[test]
 fn sabotages_are_found() {
     for (name, _) in SABOTAGES {
         let (status, text) = compare(&["--sheets", "3000", "--sabotage", name]);
         assert_eq!(status, Some(1), "{name} was not found\n{text}");
-        let mut differences = text.lines().filter(|line| line.starts_with("DIFFERENCE"));
-        let of_replay = name.starts_with("replay-");
-        let found = differences.any(|line| line.contains(", replay: ") == of_replay);
+        let calls: Vec<&str> = text.lines().filter_map(call).collect();
+        let found = match name.split('-').next() {
+            Some("replay") => calls.contains(&"replay"),
+            Some("spread") => !calls.is_empty() && calls.iter().all(|call| *call == "spread"),
+            _ => calls.iter().any(|call| *call != "replay"),
+        };
         assert!(found, "{name} was not found\n{text}");
     }
 }
@@ -44,6 +56,12 @@ fn replays_are_compared_with_a_loop_over_the_other_calls() {
         let (_, text) = compare(&["--sheets", "3000", "--sabotage", name]);
         assert!(text.contains(", replay: ") && text.contains(" / by hand "), "{name}\n{text}");
     }
+}
+
+#[test]
+fn a_spread_of_0_is_compared_with_settling() {
+    let (_, text) = compare(&["--sheets", "3000", "--sabotage", "spread-one"]);
+    assert!(text.contains("a spread of 0 is not none"), "{text}");
 }
 
 #[test]

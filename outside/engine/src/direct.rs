@@ -1,17 +1,33 @@
 //! Settling and reading by direct calls of the library, and of that of an earlier commit beside it in the same
-//! program, both in the same way, so that their times can be compared. The earlier archive has `tohiranga_settle` and
-//! `tohiranga_read` under the names `before_settle` and `before_read` and exports no other; tests/bench_before builds
-//! both.
+//! program, both in the same way, so that their times can be compared. The earlier archive has `tohiranga_settle`,
+//! `tohiranga_read` and, with the feature `before_spread`, `tohiranga_settle_spread` under names with `before` for
+//! `tohiranga`, and exports no other; tests/bench_before builds both.
 
 use crate::whole::{tohiranga_read, Opening};
 use crate::{Engine, Plan, Settings};
 
 type Settle = unsafe extern "C" fn(*const u8, usize, *mut u8, usize) -> u64;
+type SettleSpread = unsafe extern "C" fn(*const u8, usize, u32, *mut u8, usize) -> u64;
 type Read = unsafe extern "C" fn(*const u8, usize, *mut u8, usize, *mut i32, usize) -> Opening;
 
 extern "C" {
     fn tohiranga_settle(sheet: *const u8, len: usize, answer: *mut u8, room: usize) -> u64;
+    fn tohiranga_settle_spread(
+        sheet: *const u8,
+        len: usize,
+        spread: u32,
+        answer: *mut u8,
+        room: usize,
+    ) -> u64;
     fn before_settle(sheet: *const u8, len: usize, answer: *mut u8, room: usize) -> u64;
+    #[cfg(feature = "before_spread")]
+    fn before_settle_spread(
+        sheet: *const u8,
+        len: usize,
+        spread: u32,
+        answer: *mut u8,
+        room: usize,
+    ) -> u64;
     fn before_read(
         sheet: *const u8,
         len: usize,
@@ -25,14 +41,28 @@ extern "C" {
 pub struct Direct {
     name: &'static str,
     settle: Settle,
+    settle_spread: Option<SettleSpread>,
     read: Read,
 }
 
 /// The library of this tree.
-pub const NOW: Direct = Direct { name: "now", settle: tohiranga_settle, read: tohiranga_read };
+pub const NOW: Direct = Direct {
+    name: "now",
+    settle: tohiranga_settle,
+    settle_spread: Some(tohiranga_settle_spread),
+    read: tohiranga_read,
+};
 
 /// The library of the earlier commit.
-pub const BEFORE: Direct = Direct { name: "before", settle: before_settle, read: before_read };
+pub const BEFORE: Direct = Direct {
+    name: "before",
+    settle: before_settle,
+    #[cfg(feature = "before_spread")]
+    settle_spread: Some(before_settle_spread),
+    #[cfg(not(feature = "before_spread"))]
+    settle_spread: None,
+    read: before_read,
+};
 
 impl Engine for Direct {
     fn name(&self) -> String {
@@ -43,6 +73,19 @@ impl Engine for Direct {
         let (answer, room) = (answer.as_mut_ptr(), answer.len());
         // SAFETY: each pointer goes with its slice's length, and the borrows keep the slices apart.
         unsafe { (self.settle)(sheet.as_ptr(), sheet.len(), answer, room) }
+    }
+
+    fn settle_spread(&self, sheet: &[u8], spread: u32, answer: &mut [u8]) -> u64 {
+        let Some(call) = self.settle_spread else {
+            return crate::Reference.settle_spread(sheet, spread, answer);
+        };
+        let (answer, room) = (answer.as_mut_ptr(), answer.len());
+        // SAFETY: each pointer goes with its slice's length, and the borrows keep the slices apart.
+        unsafe { call(sheet.as_ptr(), sheet.len(), spread, answer, room) }
+    }
+
+    fn has_spread(&self) -> bool {
+        self.settle_spread.is_some()
     }
 
     fn read(

@@ -47,6 +47,7 @@ pub mod traces;
 #[allow(unsafe_code)]
 mod whole;
 mod wrong_replay;
+mod wrong_spread;
 
 pub use by_hand::replay_by_hand;
 use plain::{Plain, Steps, Tuned};
@@ -57,6 +58,9 @@ pub trait Engine {
 
     /// The length of the answer sheet.
     fn settle(&self, sheet: &[u8], answer: &mut [u8]) -> u64;
+
+    /// The same with a spread.
+    fn settle_spread(&self, sheet: &[u8], spread: u32, answer: &mut [u8]) -> u64;
 
     /// E, the number of entries filled.
     fn read(
@@ -84,6 +88,11 @@ pub trait Engine {
 
     /// The length of the final values of a recorded run, 4N.
     fn replay(&self, trace: &[u8], values: &mut [u8]) -> u64;
+
+    /// Whether the engine has settling with a spread, as the library of an earlier commit may not.
+    fn has_spread(&self) -> bool {
+        true
+    }
 
     /// A digest of all answers so far, where the engine keeps one.
     fn digest(&self) -> Option<u64> {
@@ -118,6 +127,10 @@ impl Engine for Reference {
 
     fn settle(&self, sheet: &[u8], answer: &mut [u8]) -> u64 {
         reference::settle(sheet, answer).map_or_else(packed, |length| length as u64)
+    }
+
+    fn settle_spread(&self, sheet: &[u8], spread: u32, answer: &mut [u8]) -> u64 {
+        reference::settle_spread(sheet, spread, answer).map_or_else(packed, |length| length as u64)
     }
 
     fn read(
@@ -182,6 +195,10 @@ impl<S: Steps> Engine for Own<S> {
 
     fn settle(&self, sheet: &[u8], answer: &mut [u8]) -> u64 {
         plain::settle::<S>(sheet, answer)
+    }
+
+    fn settle_spread(&self, sheet: &[u8], spread: u32, answer: &mut [u8]) -> u64 {
+        plain::settle_spread::<S>(sheet, spread, answer)
     }
 
     fn read(

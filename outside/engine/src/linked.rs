@@ -1,5 +1,5 @@
 //! The proved library behind its C interface, through the wrapper of bindings/rust, compiled with
-//! the feature `linked`. So the checks hold the wrapper to document 01 too.
+//! the feature `linked`. So the checks hold the wrapper to the documents too.
 
 use crate::{Engine, Plan, Settings};
 
@@ -43,6 +43,10 @@ impl Engine for Linked {
 
     fn settle(&self, sheet: &[u8], answer: &mut [u8]) -> u64 {
         packed(tohiranga::settle(sheet, answer), |length| length as u64)
+    }
+
+    fn settle_spread(&self, sheet: &[u8], spread: u32, answer: &mut [u8]) -> u64 {
+        packed(tohiranga::settle_spread(sheet, spread, answer), |length| length as u64)
     }
 
     fn read(

@@ -41,6 +41,14 @@ impl Recorded {
         }
     }
 
+    fn settled(&self, given: u64, answer: &[u8]) -> u64 {
+        self.number(given);
+        self.bytes(answer.iter().copied());
+        let length = if number(given) == 0 { given as usize } else { answer.len() };
+        self.fields(answer.get(..length).unwrap_or(answer));
+        given
+    }
+
     fn planning(&self, given: whole::Planning, plan: &mut Plan) -> u64 {
         let handed = plan_from(given.plan);
         self.number(given.answer);
@@ -60,12 +68,11 @@ impl Engine for Recorded {
     }
 
     fn settle(&self, sheet: &[u8], answer: &mut [u8]) -> u64 {
-        let given = Linked.settle(sheet, answer);
-        self.number(given);
-        self.bytes(answer.iter().copied());
-        let length = if number(given) == 0 { given as usize } else { answer.len() };
-        self.fields(answer.get(..length).unwrap_or(answer));
-        given
+        self.settled(Linked.settle(sheet, answer), answer)
+    }
+
+    fn settle_spread(&self, sheet: &[u8], spread: u32, answer: &mut [u8]) -> u64 {
+        self.settled(Linked.settle_spread(sheet, spread, answer), answer)
     }
 
     fn read(

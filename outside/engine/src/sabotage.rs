@@ -1,6 +1,7 @@
 //! Engines that are wrong in a named way, to show that the checks can fail.
 
 use crate::wrong_replay::wrong_replay;
+use crate::wrong_spread::wrong_spread;
 use crate::{number, packed, Engine, Plan, Refusal, Settings};
 use reference::Round;
 
@@ -20,6 +21,17 @@ pub const SABOTAGES: &[(&str, &str)] = &[
     ("span-wide", "a span may be a tick wider than the window"),
     ("highest", "the estimate is the highest accepted reading"),
     ("refuse-need", "a sheet with just N-m accepted readings is refused as too many faults"),
+    ("spread-ignored", "the spread plays no part in the round"),
+    (
+        "spread-start",
+        "a reading is held against the window alone, other readings against window and spread",
+    ),
+    ("spread-count", "readings in a span are counted by the window alone"),
+    ("spread-10", "too many faults is said where no span as wide as the window alone holds N-m"),
+    ("spread-tick", "a span with a spread is a tick narrower"),
+    ("spread-twice", "the spread counts on both sides"),
+    ("spread-bits", "the lower 16 bits of a spread are taken for it"),
+    ("spread-wraps", "the end of a span with a spread wraps at 32 bits"),
     ("order", "marks are checked before the tray"),
     ("ghost-first", "a ghost before the first bad mark is refused as 9"),
     ("place", "the highest entry at fault is given as the place"),
@@ -32,6 +44,16 @@ pub const SABOTAGES: &[(&str, &str)] = &[
     ("step-late", "a step after 32 rounds is granted"),
     ("step-wide", "a step does not narrow the window"),
     ("target-short", "the target's count is one round too few"),
+    ("spread-early", "16 is asked before 5"),
+    ("spread-late", "16 is asked after 6"),
+    ("spread-last", "16 is asked after 9"),
+    ("spread-crusaders", "a spread is let through with CCA, and plays no part"),
+    ("spread-direct", "CCA is refused under 16 with a spread of 0 too"),
+    ("spread-under", "a spread of 100,000 is refused"),
+    ("spread-over", "a spread of 100,001 is let through"),
+    ("spread-one", "a spread of 0 is taken for 1"),
+    ("spread-place", "the spread is the place of 16"),
+    ("spread-writes", "a refusal under 16 touches the tray"),
     ("replay-swapped", "a replay takes senders for receivers"),
     ("replay-at-once", "a replay uses new values within the same round"),
     ("replay-wide", "a replay has the first window in every round"),
@@ -59,7 +81,7 @@ pub const SABOTAGES: &[(&str, &str)] = &[
     ("replay-first", "a replay has the first readings of faulty cabinets in their places"),
 ];
 
-const OF_THE_ROUND: usize = 14;
+const OF_THE_ROUND: usize = 22;
 
 pub struct Sabotaged {
     engine: Box<dyn Engine>,
@@ -72,19 +94,20 @@ impl Sabotaged {
         let (how, _) = SABOTAGES.iter().find(|(name, _)| *name == how)?;
         Some(Sabotaged { engine, how })
     }
-}
 
-impl Engine for Sabotaged {
-    fn name(&self) -> String {
-        format!("{} with sabotage {}", self.engine.name(), self.how)
-    }
-
-    fn settle(&self, sheet: &[u8], answer: &mut [u8]) -> u64 {
+    /// A settling, with a spread or 0, which `right` does for the engine.
+    fn wrong_settle(
+        &self,
+        sheet: &[u8],
+        spread: u32,
+        answer: &mut [u8],
+        right: impl Fn(&mut [u8]) -> u64,
+    ) -> u64 {
         let mut tray = answer.to_vec();
-        let given = self.engine.settle(sheet, &mut tray);
+        let given = right(&mut tray);
         match (self.how, number(given)) {
             ("order", 7) => {
-                let again = self.engine.settle(sheet, &mut [0; 330]);
+                let again = right(&mut [0; 330]);
                 return if number(again) == 8 { again } else { given };
             }
             ("ghost-first", 8) => {
@@ -101,7 +124,7 @@ impl Engine for Sabotaged {
             ("place", 9) => return packed(Refusal::at(9, ghosts(sheet).last().unwrap())),
             ("refused-tray", 1..) if !tray.is_empty() => tray[0] ^= 1,
             ("past", 0) if tray.len() > given as usize => tray[given as usize] ^= 1,
-            (_, 0 | 10) => match wrong_round(self.how, sheet) {
+            (_, 0 | 10) => match wrong_round(self.how, sheet, spread) {
                 None => {}
                 Some(Err(refusal)) => return packed(refusal),
                 Some(Ok(round)) => {
@@ -113,6 +136,24 @@ impl Engine for Sabotaged {
         }
         answer.copy_from_slice(&tray);
         given
+    }
+}
+
+impl Engine for Sabotaged {
+    fn name(&self) -> String {
+        format!("{} with sabotage {}", self.engine.name(), self.how)
+    }
+
+    fn settle(&self, sheet: &[u8], answer: &mut [u8]) -> u64 {
+        self.wrong_settle(sheet, 0, answer, |tray| self.engine.settle(sheet, tray))
+    }
+
+    fn settle_spread(&self, sheet: &[u8], spread: u32, answer: &mut [u8]) -> u64 {
+        let right = |tray: &mut [u8]| self.engine.settle_spread(sheet, spread, tray);
+        match wrong_spread(&*self.engine, self.how, sheet, spread, answer) {
+            Some(given) => given,
+            None => self.wrong_settle(sheet, spread, answer, right),
+        }
     }
 
     fn read(
@@ -195,8 +236,9 @@ fn ghosts(sheet: &[u8]) -> impl Iterator<Item = usize> + '_ {
 
 /// The round of a sheet that passed checks 1 to 9, wrong in the named way; None when the way
 /// is not about the round.
-fn wrong_round(how: &str, sheet: &[u8]) -> Option<Result<Vec<u8>, Refusal>> {
-    if !SABOTAGES[..OF_THE_ROUND].iter().any(|(name, _)| *name == how) {
+fn wrong_round(how: &str, sheet: &[u8], spread: u32) -> Option<Result<Vec<u8>, Refusal>> {
+    let of_the_round = SABOTAGES[..OF_THE_ROUND].iter().any(|(name, _)| *name == how);
+    if !of_the_round || (how.starts_with("spread-") && spread == 0) {
         return None;
     }
     let settings = reference::settings_of(sheet).ok()?;
@@ -209,14 +251,19 @@ fn wrong_round(how: &str, sheet: &[u8]) -> Option<Result<Vec<u8>, Refusal>> {
         entries
     };
     let present: Vec<i64> = readings.iter().flatten().map(|&v| v as i64).collect();
-    let is_accepted = |v: i32| wrong_acceptance(how, &settings, &present, v as i64);
-    let accepted: Vec<bool> = readings.iter().map(|v| v.is_some_and(is_accepted)).collect();
+    let is_accepted = |v: i64| wrong_acceptance(how, &settings, spread, &present, v);
+    let accepted: Vec<bool> =
+        readings.iter().map(|v| v.is_some_and(|v| is_accepted(v as i64))).collect();
     let values: Vec<i64> = readings
         .iter()
         .zip(&accepted)
         .filter_map(|(v, &accepted)| if accepted { v.map(i64::from) } else { None })
         .collect();
-    if values.is_empty() || (how == "refuse-need" && values.len() == settings.need()) {
+    let without_spread = |&v: &i64| wrong_acceptance("", &settings, 0, &present, v);
+    if values.is_empty()
+        || (how == "refuse-need" && values.len() == settings.need())
+        || (how == "spread-10" && !present.iter().any(without_spread))
+    {
         return Some(Err(Refusal::new(10)));
     }
     let estimate = match how {
@@ -249,25 +296,50 @@ fn wrong_round(how: &str, sheet: &[u8]) -> Option<Result<Vec<u8>, Refusal>> {
     Some(Ok(Round { count: values.len(), estimate, new, marks, used }.bytes()))
 }
 
-fn wrong_acceptance(how: &str, settings: &Settings, present: &[i64], v: i64) -> bool {
-    let window = settings.window as i64 + (how == "span-wide") as i64 - (how == "strict") as i64;
+fn wrong_acceptance(how: &str, settings: &Settings, spread: u32, present: &[i64], v: i64) -> bool {
+    let (tried, counted) = widths(how, settings.window as i64, spread as i64);
     let need = match how {
         "need-low" => settings.need() - 1,
         "need-high" => settings.need() + 1,
         _ => settings.need(),
     };
     if how == "pairwise" {
-        return present.iter().filter(|&&other| (v - other).abs() <= window).count() >= need;
+        return present.iter().filter(|&&other| (v - other).abs() <= counted).count() >= need;
     }
     present.iter().any(|&start| {
-        let holds = |v: i64| start <= v && v <= start + window;
-        let mut held: Vec<i64> = present.iter().copied().filter(|&other| holds(other)).collect();
+        let end = |width: i64| match how {
+            "spread-wraps" => (start + width) as i32 as i64,
+            _ => start + width,
+        };
+        let holds = |v: i64, width: i64| start <= v && v <= end(width);
+        let in_span = |other: &i64| holds(*other, counted);
+        let mut held: Vec<i64> = present.iter().copied().filter(in_span).collect();
         if how == "distinct" {
             held.sort();
             held.dedup();
         }
-        holds(v) && held.len() >= need
+        holds(v, tried) && held.len() >= need
     })
+}
+
+/// How wide a span is for the reading that is tried, and for those that are counted.
+fn widths(how: &str, window: i64, spread: i64) -> (i64, i64) {
+    let span = window + spread;
+    let (tried, counted) = match how {
+        "spread-start" => (window, span),
+        "spread-count" => (span, window),
+        _ => (span, span),
+    };
+    let wider = match how {
+        "span-wide" => 1,
+        "strict" => -1,
+        "spread-ignored" => -spread,
+        "spread-tick" => -1,
+        "spread-twice" => spread,
+        "spread-bits" => spread % (1 << 16) - spread,
+        _ => 0,
+    };
+    (tried + wider, counted + wider)
 }
 
 fn middle_two(values: &[i64]) -> i64 {

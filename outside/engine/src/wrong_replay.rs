@@ -119,7 +119,7 @@ fn wrong_round(
     let mut refused = Vec::new();
     for cabinet in trace.of_role(SOUND) {
         let sent = if how == "replay-at-once" { &*held } else { &before };
-        match settle_readings(settings, &trace.heard(round, cabinet, sent)) {
+        match settle_readings(settings, 0, &trace.heard(round, cabinet, sent)) {
             Ok(settled) => held[cabinet] = settled.new as i32,
             Err(_) => refused.push(cabinet),
         }

@@ -41,27 +41,50 @@ pub fn good_sets(run: &Run) -> Vec<GoodSets> {
 }
 
 /// How far two new values can be apart after the first round, and one from true time past κ,
-/// where t are bad, m < t < N-m.
+/// where t are bad.
 #[derive(Clone, Copy, Debug, PartialEq, Eq)]
-pub struct Wide {
+pub struct Most {
     pub gap: i64,
     pub error: i64,
 }
 
-impl Wide {
-    /// Document 01's limits.
-    pub fn document(settings: &Settings, t: usize) -> Wide {
+impl Most {
+    /// Document 01's limits for m < t < N-m.
+    pub fn document(settings: &Settings, t: usize) -> Most {
         let (n, m, w) = (settings.n as i64, settings.m as i64, settings.window as i64);
         let t = t as i64;
-        Wide { gap: ceiling((n + 2 * t + 2 * m) * w, n), error: ceiling((m + t) * w, n) }
+        Most { gap: ceiling((n + 2 * t + 2 * m) * w, n), error: ceiling((m + t) * w, n) }
     }
 
-    /// The exact ones. The used values of a cabinet add up to at most N times the highest good
+    /// The exact ones for m < t < N-m. The used values of a cabinet add up to at most N times the highest good
     /// reading plus (m+t)δ, and to at least N times the lowest less (m+t)δ.
-    pub fn exact(settings: &Settings, t: usize) -> Wide {
+    pub fn exact(settings: &Settings, t: usize) -> Most {
         let (n, w) = (settings.n as i64, settings.window as i64);
         let excess = (settings.m as i64 + t as i64) * w;
-        Wide { gap: w + near(excess, n) - near(-excess, n), error: near(excess, n) }
+        Most { gap: w + near(excess, n) - near(-excess, n), error: near(excess, n) }
+    }
+
+    /// Document 02's limits for t ≤ m with a spread: bad readings lie within 2δ + 3D of each other.
+    pub fn with_cables(settings: &Settings, spread: u32, t: usize) -> Most {
+        let hull = 2 * settings.window as i64 + 3 * spread as i64;
+        Most::with_hull(settings, spread, t, hull)
+    }
+
+    /// What the paper's Lemma 16 would give, too tight: within 2δ + 2D.
+    pub fn by_lemma_16(settings: &Settings, spread: u32, t: usize) -> Most {
+        let hull = 2 * settings.window as i64 + 2 * spread as i64;
+        Most::with_hull(settings, spread, t, hull)
+    }
+
+    /// The greater of each.
+    pub fn or_greater(self, gap: i64, error: i64) -> Most {
+        Most { gap: self.gap.max(gap), error: self.error.max(error) }
+    }
+
+    fn with_hull(settings: &Settings, spread: u32, t: usize, hull: i64) -> Most {
+        let (n, w, d) = (settings.n as i64, settings.window as i64, spread as i64);
+        let t = t as i64;
+        Most { gap: ceiling((n - t) * d + t * hull, n), error: ceiling(t * (w + d), n) }
     }
 }
 
@@ -125,12 +148,27 @@ mod tests {
     fn three_of_seven() {
         let wide = |window| {
             let settings = Settings { n: 7, m: 2, rule: 0, estimator: 1, window };
-            (Wide::document(&settings, 3), Wide::exact(&settings, 3))
+            (Most::document(&settings, 3), Most::exact(&settings, 3))
         };
-        assert_eq!(wide(7), (Wide { gap: 17, error: 5 }, Wide { gap: 17, error: 5 }));
-        assert_eq!(wide(2), (Wide { gap: 5, error: 2 }, Wide { gap: 4, error: 1 }));
+        assert_eq!(wide(7), (Most { gap: 17, error: 5 }, Most { gap: 17, error: 5 }));
+        assert_eq!(wide(2), (Most { gap: 5, error: 2 }, Most { gap: 4, error: 1 }));
         let (document, exact) = wide(167_772);
         assert_eq!((document.gap, exact.gap), (407_447, 407_446));
+    }
+
+    /// N 4, m 1, δ 1, D 2: 14/4 and 3/4, and by Lemma 16 12/4.
+    #[test]
+    fn cables() {
+        let settings = Settings { n: 4, m: 1, rule: 0, estimator: 1, window: 1 };
+        assert_eq!(Most::with_cables(&settings, 2, 1), Most { gap: 4, error: 1 });
+        assert_eq!(Most::by_lemma_16(&settings, 2, 1), Most { gap: 3, error: 1 });
+        assert_eq!(Most::with_cables(&settings, 2, 0), Most { gap: 2, error: 0 });
+        let without = Most::with_cables(&Settings { window: 10, ..settings }, 0, 1);
+        assert_eq!(
+            without,
+            Most { gap: 5, error: 3 },
+            "the next window, and the accuracy's growth"
+        );
     }
 
     fn run(accuracy: u32, held: &[Option<i32>]) -> Run {

@@ -1,15 +1,20 @@
 //! A hostile station: runs of up to 32 rounds with lying and two-faced cabinets, against the
-//! limits for sound cabinets of document 01. Its FCA runs are replayed too, as paper 1 of document 02 says.
+//! limits for sound cabinets of document 01. Its FCA runs are replayed too, as paper 1 of document 02 says,
+//! and after each run comes a round with cables that differ, as paper 2 says.
 #![forbid(unsafe_code)]
 
+mod cables;
 mod liars;
 mod limits;
 mod run;
+#[cfg(test)]
+mod small_rounds;
 mod tape;
 
+use cables::{example, Cables, EXAMPLES};
 use engine::sabotage::Sabotaged;
 use engine::Engine;
-use limits::{Met, Wide};
+use limits::{Met, Most};
 use random::Random;
 use run::{question, Run, Tally, LIMITS, QUESTION, WINDOWS};
 use std::process::ExitCode;
@@ -64,6 +69,7 @@ fn engine(options: &Options) -> Option<Box<dyn Engine>> {
 fn run(seed: u64, engine: &dyn Engine, tally: &mut Tally, show: bool) {
     let random = Random::new(seed);
     Run::draw(&random).run(&random, engine, tally, show);
+    Cables::draw(&random).round(&random, engine, Most::with_cables, tally, show);
 }
 
 fn main() -> ExitCode {
@@ -131,6 +137,10 @@ fn report(tally: &Tally) {
         tally.few_replays, tally.few_refused_replays
     );
     println!(
+        "{} sheets settled with cables that differ, {} refused; {} gaps past Lemma 16's limit",
+        tally.settled_with_cables, tally.refused_with_cables, tally.past_lemma_16
+    );
+    println!(
         "{:38} {:>8} {:>8} {:>8} {:>8} {:>8} {:>8}",
         "limit", "held", "share", "large", "reached", "largest", "broken"
     );
@@ -150,6 +160,35 @@ fn report(tally: &Tally) {
         "An error counts by its growth past the starting κ. Limits of 0 are held, not counted."
     );
     answer(tally);
+    with_cables(tally);
+}
+
+/// What was met with cables that differ, beside document 02's limits and what Lemma 16 would give.
+fn with_cables(tally: &Tally) {
+    println!("Cables that differ by D, m bad, one round, in ticks; the error is past κ");
+    println!(
+        "{:>3} {:>3} {:>9} {:>9} {:>9} {:>9} {:>9} {:>9} {:>9}",
+        "N", "m", "window", "D", "gap met", "limit", "Lemma 16", "error met", "limit"
+    );
+    for (row, met) in EXAMPLES.into_iter().zip(&tally.examples) {
+        let (n, m, window, spread) = row;
+        let (settings, t) = (example(row).0, m as usize);
+        let limit = Most::with_cables(&settings, spread, t);
+        let paper = Most::by_lemma_16(&settings, spread, t);
+        let [gap, error] = in_figures(met);
+        println!(
+            "{n:>3} {m:>3} {window:>9} {spread:>9} {gap:>9} {:>9} {:>9} {error:>9} {:>9}",
+            limit.gap, paper.gap, limit.error
+        );
+    }
+}
+
+/// The greatest gap and error that were met, if any were.
+fn in_figures(met: &Option<Most>) -> [String; 2] {
+    match met {
+        None => ["-".into(), "-".into()],
+        Some(met) => [met.gap.to_string(), met.error.to_string()],
+    }
 }
 
 /// The regulator's question: what was met beside the exact limits and document 01's.
@@ -162,11 +201,8 @@ fn answer(tally: &Tally) {
     );
     for (&window, met) in WINDOWS.iter().zip(&tally.answer) {
         let (exact, document) =
-            (Wide::exact(&question(window), t), Wide::document(&question(window), t));
-        let [gap, error] = match met {
-            None => ["-".into(), "-".into()],
-            Some(met) => [met.gap.to_string(), met.error.to_string()],
-        };
+            (Most::exact(&question(window), t), Most::document(&question(window), t));
+        let [gap, error] = in_figures(met);
         println!(
             "{window:>9} {gap:>9} {:>9} {:>9} {error:>9} {:>9} {:>9}",
             exact.gap, document.gap, exact.error, document.error

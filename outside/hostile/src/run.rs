@@ -1,14 +1,15 @@
 //! One run, as document 01 writes it out: a start, then rounds of sending, sheets and settling.
 
+use crate::cables::{example, EXAMPLES};
 use crate::liars::{clamp, outermost, Aim, Liars, Reading};
-use crate::limits::{gap, good_sets, GoodSets, Met, Wide};
+use crate::limits::{gap, good_sets, GoodSets, Met, Most};
 use crate::tape::{End, Heard, Tape};
 use engine::{number, words, Engine, Plan, Settings};
 use random::Random;
 use reference::{AVERAGE, CCA, FCA, MEDIAN};
 
 /// The limits, by name. Each is counted apart.
-pub const LIMITS: [&str; 20] = [
+pub const LIMITS: [&str; 22] = [
     "t ≤ m    gap   round 1  FCA",
     "t ≤ m    gap   round 1  CCA, median",
     "t ≤ m    gap   round 1  CCA, others",
@@ -29,6 +30,8 @@ pub const LIMITS: [&str; 20] = [
     "m < t    error exact    CCA",
     "t ≤ m    gap   replay   FCA",
     "t ≤ m    error replay   FCA",
+    "t ≤ m    gap   cables   FCA",
+    "t ≤ m    error cables   FCA",
 ];
 
 /// The regulator's question: three of seven bad, planned for two, at these windows.
@@ -37,9 +40,11 @@ pub const WINDOWS: [u32; 6] = [2, 7, 1_677, 16_777, 167_772, 1_000_000];
 
 #[derive(Default)]
 pub struct Tally {
-    pub met: [Met; 20],
+    pub met: [Met; 22],
     /// The greatest gap, and the greatest error past κ, that were met at each of `WINDOWS`.
-    pub answer: [Option<Wide>; 6],
+    pub answer: [Option<Most>; 6],
+    /// The same for each of `EXAMPLES`, whose cables differ.
+    pub examples: [Option<Most>; 5],
     pub few_bad: u64,
     pub many_bad: u64,
     pub rounds: u64,
@@ -61,6 +66,11 @@ pub struct Tally {
     /// Replays, and refused ones, where t ≤ m.
     pub few_replays: u64,
     pub few_refused_replays: u64,
+    /// Sheets settled, and refused, where cables differ.
+    pub settled_with_cables: u64,
+    pub refused_with_cables: u64,
+    /// How often a gap passed the limit that Lemma 16 would give.
+    pub past_lemma_16: u64,
     /// What was broken first.
     pub first: Option<String>,
 }
@@ -90,6 +100,12 @@ impl Tally {
             (self.replays, self.wrong_replays, "a replay ends as the station did"),
             (self.stopped_replays, 0, "a replay of a run that stopped"),
             (self.settled, self.misrefused, "every sheet and tray passes checks 1 to 9"),
+            (
+                self.settled_with_cables,
+                self.refused_with_cables,
+                "t ≤ m    no cabinet refuses, cables",
+            ),
+            (self.past_lemma_16, 0, "a gap past Lemma 16, cables"),
         ];
         for (times, broken, name) in counted {
             match (times, broken) {
@@ -99,8 +115,14 @@ impl Tally {
             }
         }
         for (window, met) in WINDOWS.iter().zip(&self.answer) {
-            if *met != Some(Wide::exact(&question(*window), QUESTION.2)) {
+            if *met != Some(Most::exact(&question(*window), QUESTION.2)) {
                 faults.push(format!("three of seven, window {window}: the exact limits not met"));
+            }
+        }
+        for (row, met) in EXAMPLES.into_iter().zip(&self.examples) {
+            let (settings, spread) = example(row);
+            if *met != Some(Most::with_cables(&settings, spread, settings.m as usize)) {
+                faults.push(format!("cables {row:?}: the limits not met"));
             }
         }
         faults
@@ -299,8 +321,8 @@ impl Run {
         let crusaders = (self.kind() > 0) as usize;
         let gap = gap(values);
         for set in sets.iter().filter(|set| set.t > m as usize) {
-            let document = Wide::document(&self.settings, set.t);
-            let exact = Wide::exact(&self.settings, set.t);
+            let document = Most::document(&self.settings, set.t);
+            let exact = Most::exact(&self.settings, set.t);
             hold(tally, 10 + crusaders, gap, document.gap, 0);
             hold(tally, 14 + crusaders, gap, exact.gap, 0);
             for &value in values {
@@ -311,8 +333,8 @@ impl Run {
             let asked = WINDOWS.iter().position(|&w| w == window);
             if let (Some(row), true) = (asked, (n, m, set.t) == QUESTION) {
                 let error = values.iter().map(|&v| set.error(v, start) - start).max().unwrap_or(0);
-                let met = tally.answer[row].get_or_insert(Wide { gap, error });
-                *met = Wide { gap: met.gap.max(gap), error: met.error.max(error) };
+                let met = tally.answer[row].get_or_insert(Most { gap, error });
+                *met = met.or_greater(gap, error);
             }
         }
     }
@@ -349,7 +371,8 @@ impl Run {
                     Some(told) => liars.relayed(told, aim),
                     None => liars.direct(aim),
                 };
-                let answer = settle(random, engine, settings, &entries);
+                let settle = |sheet: &[u8], tray: &mut [u8]| engine.settle(sheet, tray);
+                let answer = new_value(random, settings, &entries, settle);
                 let (worth, new) = match answer {
                     Ok(new) => {
                         tally.settled += 1;
@@ -445,23 +468,23 @@ fn same_plan(
 }
 
 /// Settles a sheet over a tray with old contents. The new value, or the refusal.
-fn settle(
+pub fn new_value(
     random: &Random,
-    engine: &dyn Engine,
     settings: &Settings,
     entries: &[Reading],
+    settle: impl Fn(&[u8], &mut [u8]) -> u64,
 ) -> Result<i32, u64> {
     let (marks, readings) = reference::marks_and_readings(entries);
     let sheet = reference::sheet_bytes(settings, &marks, &readings);
     let mut tray = [random.draw() as u8; 330];
-    let answer = engine.settle(&sheet, &mut tray);
+    let answer = settle(&sheet, &mut tray);
     match number(answer) {
         0 => Ok(i32::from_le_bytes(tray[6..10].try_into().unwrap())),
         _ => Err(answer),
     }
 }
 
-fn draw_settings(random: &Random) -> Settings {
+pub fn draw_settings(random: &Random) -> Settings {
     let n = match random.below(100) {
         0..=79 => random.between(1, 13),
         80..=95 => random.between(14, 25),

@@ -4,7 +4,7 @@
 use std::process::Command;
 
 /// All that the station holds, in the words of its report.
-const HELD: [&str; 26] = [
+const HELD: [&str; 30] = [
     "t ≤ m    gap   round 1  FCA",
     "t ≤ m    gap   round 1  CCA, median",
     "t ≤ m    gap   round 1  CCA, others",
@@ -25,12 +25,16 @@ const HELD: [&str; 26] = [
     "m < t    error exact    CCA",
     "t ≤ m    gap   replay   FCA",
     "t ≤ m    error replay   FCA",
+    "t ≤ m    gap   cables   FCA",
+    "t ≤ m    error cables   FCA",
     "t ≤ m    no sound cabinet refuses",
     "the planner's windows and accuracies",
     "t ≤ m    no replay is refused",
     "a replay ends as the station did",
     "a replay of a run that stopped",
     "every sheet and tray passes checks 1 to 9",
+    "t ≤ m    no cabinet refuses, cables",
+    "a gap past Lemma 16, cables",
 ];
 
 fn hostile(words: &[&str]) -> (Option<i32>, String) {
@@ -63,6 +67,7 @@ fn a_station_without_runs_fails() {
         assert!(text.lines().any(|line| line == format!("never held: {limit}")), "{limit}\n{text}");
     }
     assert_eq!(text.matches("the exact limits not met").count(), 6, "{text}");
+    assert_eq!(text.matches("): the limits not met").count(), 5, "{text}");
 }
 
 #[test]
@@ -75,7 +80,11 @@ fn a_station_that_reaches_too_little_fails() {
 /// A new value a tick off breaks each of the limits, and one of a replay those of replays.
 #[test]
 fn each_limit_finds_a_tick() {
-    for (sabotage, limits) in [("tick-off", &HELD[..18]), ("replay-tick", &HELD[18..20])] {
+    let (runs, others) = HELD[..22].split_at(18);
+    let (replays, cables) = others.split_at(2);
+    for (sabotage, limits) in
+        [("tick-off", [runs, cables].concat()), ("replay-tick", replays.into())]
+    {
         let found = broken(sabotage);
         for limit in limits {
             assert!(found.iter().any(|name| name == limit), "{limit} finds no tick: {found:?}");
@@ -91,8 +100,8 @@ fn refusals_plans_and_medians_are_held() {
         let found = broken(sabotage);
         assert!(found.iter().any(|name| name == limit), "{sabotage}, {limit}: {found:?}");
     };
-    names("refuse-need", HELD[20]);
-    names("step-wide", HELD[21]);
+    names("refuse-need", HELD[22]);
+    names("step-wide", HELD[23]);
     names("highest", HELD[1]);
     names("highest", HELD[4]);
 }
@@ -102,10 +111,10 @@ fn refusals_plans_and_medians_are_held() {
 fn replays_are_held_to_the_station() {
     for name in ["replay-swapped", "replay-at-once", "replay-wide", "replay-highest"] {
         let found = broken(name);
-        assert!(found.iter().any(|broken| broken == HELD[23]), "{name}: {found:?}");
+        assert!(found.iter().any(|broken| broken == HELD[25]), "{name}: {found:?}");
     }
     let found = broken("replay-early");
-    assert!(found.iter().any(|broken| broken == HELD[22]), "{found:?}");
+    assert!(found.iter().any(|broken| broken == HELD[24]), "{found:?}");
 }
 
 #[test]
@@ -123,5 +132,22 @@ fn engines_that_break_limits_are_found() {
     ];
     for name in break_limits {
         assert!(!broken(name).is_empty(), "{name} was not found");
+    }
+}
+
+/// With cables that differ: a spread that is forgotten refuses where t ≤ m, one that counts twice lets
+/// values go too far apart.
+#[test]
+fn spreads_are_held() {
+    let refused = "t ≤ m    no cabinet refuses, cables";
+    let held = [
+        ("spread-ignored", refused),
+        ("spread-count", refused),
+        ("spread-tick", refused),
+        ("spread-twice", "t ≤ m    gap   cables   FCA"),
+    ];
+    for (name, limit) in held {
+        let found = broken(name);
+        assert!(found.iter().any(|broken| broken == limit), "{name}, {limit}: {found:?}");
     }
 }

@@ -13,6 +13,9 @@ pub use tuned::Tuned;
 /// N is at most this.
 const MOST: usize = 64;
 
+/// A spread is at most this.
+const MOST_SPREAD: u32 = 100_000;
+
 const HEADER: usize = 8;
 const ANSWER_HEADER: usize = 10;
 
@@ -24,7 +27,8 @@ pub struct Sizes {
     /// Whether a reading is decided from a row of N copies.
     crusaders: bool,
     estimator: u8,
-    window: u32,
+    /// The width of a span: the window, and the spread where one is given.
+    span: u32,
 }
 
 impl Sizes {
@@ -34,7 +38,7 @@ impl Sizes {
     }
 }
 
-/// A sheet that passes checks 1 to 6.
+/// A sheet that passes checks 1 to 6, and 16.
 pub struct Opened<'a> {
     sizes: Sizes,
     marks: &'a [u8],
@@ -77,7 +81,7 @@ pub trait Steps {
 
 /// The number of entries, with marks and readings filled, or number × 2^32 + place.
 pub fn read<S: Steps>(sheet: &[u8], marks: &mut [u8], readings: &mut [i32]) -> u64 {
-    let sheet = match open(sheet) {
+    let sheet = match open(sheet, 0) {
         Err(refusal) => return refusal,
         Ok(sheet) => sheet,
     };
@@ -95,7 +99,12 @@ pub fn read<S: Steps>(sheet: &[u8], marks: &mut [u8], readings: &mut [i32]) -> u
 
 /// The length of the answer sheet, or number × 2^32 + place.
 pub fn settle<S: Steps>(sheet: &[u8], answer: &mut [u8]) -> u64 {
-    let sheet = match open(sheet) {
+    settle_spread::<S>(sheet, 0, answer)
+}
+
+/// The same with a spread.
+pub fn settle_spread<S: Steps>(sheet: &[u8], spread: u32, answer: &mut [u8]) -> u64 {
+    let sheet = match open(sheet, spread) {
         Err(refusal) => return refusal,
         Ok(sheet) => sheet,
     };
@@ -141,12 +150,16 @@ fn sizes(bytes: &[u8]) -> Result<Sizes, u64> {
     if window > 1_000_000 {
         return Err(refusal(5, 0));
     }
-    Ok(Sizes { n, m, crusaders: rule == 1, estimator, window })
+    Ok(Sizes { n, m, crusaders: rule == 1, estimator, span: window })
 }
 
-/// Checks 1 to 6.
-fn open(sheet: &[u8]) -> Result<Opened<'_>, u64> {
-    let sizes = sizes(sheet)?;
+/// Checks 1 to 5, 16 and 6.
+fn open(sheet: &[u8], spread: u32) -> Result<Opened<'_>, u64> {
+    let mut sizes = sizes(sheet)?;
+    if spread > MOST_SPREAD || (spread > 0 && sizes.crusaders) {
+        return Err(refusal(16, 0));
+    }
+    sizes.span += spread;
     let entries = if sizes.crusaders { sizes.n * sizes.n } else { sizes.n };
     if sheet.len() != HEADER + 5 * entries {
         return Err(refusal(6, 0));

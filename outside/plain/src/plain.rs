@@ -90,10 +90,10 @@ fn agree(
     values: &[i64; MOST],
     accepted: &mut [bool; MOST],
 ) -> Option<(usize, i64)> {
-    let (n, need, window) = (sizes.n, sizes.need(), sizes.window as i64);
+    let (n, need, span) = (sizes.n, sizes.need(), sizes.span as i64);
     let mut count = 0;
     for r in 0..n {
-        if present[r] && accept(&present[..n], &values[..n], need, window, values[r]) {
+        if present[r] && accept(&present[..n], &values[..n], need, span, values[r]) {
             accepted[r] = true;
             count += 1;
         }
@@ -134,16 +134,16 @@ fn decide(marks: &[u8], readings: &[u8], need: usize) -> Option<i32> {
 }
 
 /// Whether some span that starts at a present reading holds v and N-m readings.
-fn accept(present: &[bool], values: &[i64], need: usize, window: i64, v: i64) -> bool {
+fn accept(present: &[bool], values: &[i64], need: usize, span: i64, v: i64) -> bool {
     let n = present.len().min(values.len());
     let mut found = false;
     'test: for start in 0..n {
-        if present[start] && values[start] <= v && v - values[start] <= window {
+        if present[start] && values[start] <= v && v - values[start] <= span {
             let mut count = 0;
             for other in 0..n {
                 if present[other]
                     && values[start] <= values[other]
-                    && values[other] - values[start] <= window
+                    && values[other] - values[start] <= span
                 {
                     count += 1;
                     if count == need {

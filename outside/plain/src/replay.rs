@@ -80,7 +80,8 @@ impl Trace<'_> {
         }
         for round in 0..self.rounds {
             held = self.round::<S>(round, &sizes, &held)?;
-            sizes.window = (2 * sizes.m as u32 * sizes.window).div_ceil(sizes.n as u32);
+            // A trace has no spread, so the span is the window.
+            sizes.span = (2 * sizes.m as u32 * sizes.span).div_ceil(sizes.n as u32);
         }
         Ok(held)
     }

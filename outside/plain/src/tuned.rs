@@ -65,7 +65,7 @@ impl Steps for Tuned {
 /// The round of the present readings, of each of which it says whether it is accepted.
 #[inline(always)]
 fn agree(sizes: &Sizes, values: &[i32], accepted: &mut [bool; MOST]) -> Option<Settled> {
-    accept(values, sizes.need() as u32, sizes.window, accepted);
+    accept(values, sizes.need() as u32, sizes.span, accepted);
     let mut chosen = [0; MOST];
     let (mut count, mut sum) = (0, 0);
     for (&value, &accepted) in values.iter().zip(&*accepted) {
@@ -139,17 +139,17 @@ enum Known {
 }
 
 /// Says of each present reading whether some span holds it and N-m readings.
-fn accept(values: &[i32], need: u32, window: u32, accepted: &mut [bool]) {
+fn accept(values: &[i32], need: u32, span: u32, accepted: &mut [bool]) {
     let mut known = [Known::Nothing; MOST];
     for (accepted, &value) in accepted.iter_mut().zip(values) {
         *accepted = known.iter_mut().zip(values).any(|(known, &start)| {
-            // Below zero it is more than any window.
+            // Below zero it is more than any span.
             let above = (value as i64 - start as i64) as u64;
-            if (*known == Known::Short) | (above > window as u64) {
+            if (*known == Known::Short) | (above > span as u64) {
                 return false;
             }
             if *known == Known::Nothing {
-                let enough = count(values, start, window) >= need;
+                let enough = count(values, start, span) >= need;
                 *known = if enough { Known::Enough } else { Known::Short };
             }
             *known == Known::Enough
@@ -158,8 +158,8 @@ fn accept(values: &[i32], need: u32, window: u32, accepted: &mut [bool]) {
 }
 
 /// How many readings the span from a start holds.
-fn count(values: &[i32], start: i32, window: u32) -> u32 {
-    let end = start.saturating_add_unsigned(window);
+fn count(values: &[i32], start: i32, span: u32) -> u32 {
+    let end = start.saturating_add_unsigned(span);
     values.iter().map(|&value| ((start <= value) & (value <= end)) as u32).sum()
 }
 

@@ -55,6 +55,14 @@ impl Settings {
         Ok(())
     }
 
+    /// Check 16: a spread D above 100,000, or above 0 with CCA.
+    pub fn check_spread(&self, spread: u32) -> Result<(), Refusal> {
+        if spread > 100_000 || (spread > 0 && self.rule == CCA) {
+            return Err(Refusal::new(16));
+        }
+        Ok(())
+    }
+
     /// E, the number of entries of a sheet.
     pub fn entries(&self) -> usize {
         let n = self.n as usize;

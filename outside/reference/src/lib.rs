@@ -1,4 +1,4 @@
-//! Document 01, and paper 1 of document 02, in plain safe Rust, as simply as it can be said. Nothing
+//! Document 01, and papers 1 and 2 of document 02, in plain safe Rust, as simply as it can be said. Nothing
 //! here is fast. It was written from the documents alone, without sight of the proved code.
 #![forbid(unsafe_code)]
 
@@ -13,10 +13,10 @@ mod vectors;
 pub use checks::{Refusal, Settings, AVERAGE, CCA, FCA, MEDIAN, MIDPOINT};
 pub use planner::{counts_that_fit, next_accuracy, next_window, plan, step, target, Plan};
 pub use replay::{replay, Run, Trace, FAULTY, SOUND};
-pub use round::{accepted, decide, estimate, mean, settle, settle_readings, Round};
+pub use round::{accepted, decide, estimate, mean, settle, settle_readings, settle_spread, Round};
 pub use sheet::{
     bytes_of, entries_of, marks_and_readings, numbers_in, read, readings_of, row, settings_of,
     sheet_bytes, write,
 };
 pub use text::{replay_text, settle_text, INPUT_LIMIT, TRACE_LIMIT};
-pub use vectors::{answers, replay_answers, settle_answers, Call};
+pub use vectors::{answers, replay_answers, settle_answers, Replaying, Settling};

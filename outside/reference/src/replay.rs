@@ -134,7 +134,7 @@ impl Trace {
         let settings = Settings { window, ..self.settings };
         let mut next = vec![0; self.n()];
         for cabinet in self.of_role(SOUND) {
-            match settle_readings(&settings, &self.heard(round, cabinet, held)) {
+            match settle_readings(&settings, 0, &self.heard(round, cabinet, held)) {
                 Ok(settled) => next[cabinet] = settled.new as i32,
                 Err(_) => return Err(cabinet),
             }

@@ -1,7 +1,7 @@
 //! One round: crusaders decision, acceptance, estimate, used values, mean, answer sheet.
 
 use crate::checks::{Refusal, Settings, AVERAGE, CCA, MEDIAN};
-use crate::sheet::{entries_of, settings_of};
+use crate::sheet::{entries_of, settings_with_spread};
 
 /// The value that at least `need` present copies equal, if there is one.
 pub fn decide(copies: &[Option<i32>], need: usize) -> Option<i32> {
@@ -12,9 +12,9 @@ pub fn decide(copies: &[Option<i32>], need: usize) -> Option<i32> {
 }
 
 /// Which readings are accepted: every span that starts at a present reading is tried.
-pub fn accepted(readings: &[Option<i32>], need: usize, window: u32) -> Vec<bool> {
+pub fn accepted(readings: &[Option<i32>], need: usize, span: u32) -> Vec<bool> {
     let present: Vec<i64> = readings.iter().flatten().map(|&v| v as i64).collect();
-    let holds = |start: i64, v: i64| start <= v && v <= start + window as i64;
+    let holds = |start: i64, v: i64| start <= v && v <= start + span as i64;
     let enough = |start: i64| present.iter().filter(|&&v| holds(start, v)).count() >= need;
     readings
         .iter()
@@ -78,9 +78,13 @@ fn reading_bytes(value: i64) -> [u8; 4] {
     i32::try_from(value).expect("between two readings").to_le_bytes()
 }
 
-/// The round over N readings, decided ones for CCA. Check 10 is here.
-pub fn settle_readings(settings: &Settings, readings: &[Option<i32>]) -> Result<Round, Refusal> {
-    let accepted = accepted(readings, settings.need(), settings.window);
+/// The round over N readings, decided ones for CCA, with a spread D: the span is δ + D. Check 10 is here.
+pub fn settle_readings(
+    settings: &Settings,
+    spread: u32,
+    readings: &[Option<i32>],
+) -> Result<Round, Refusal> {
+    let accepted = accepted(readings, settings.need(), settings.window + spread);
     let mut values = Vec::new();
     for (reading, &accepted) in readings.iter().zip(&accepted) {
         if let (Some(v), true) = (reading, accepted) {
@@ -105,9 +109,14 @@ pub fn settle_readings(settings: &Settings, readings: &[Option<i32>]) -> Result<
     Ok(Round { count: values.len(), estimate, new: mean(&used), marks, used })
 }
 
-/// Settles a round sheet. Answers the length of the answer sheet.
+/// Settles a round sheet, with a spread of 0.
 pub fn settle(sheet: &[u8], answer: &mut [u8]) -> Result<usize, Refusal> {
-    let settings = settings_of(sheet)?;
+    settle_spread(sheet, 0, answer)
+}
+
+/// Settles a round sheet with a spread. Answers the length of the answer sheet.
+pub fn settle_spread(sheet: &[u8], spread: u32, answer: &mut [u8]) -> Result<usize, Refusal> {
+    let settings = settings_with_spread(sheet, spread)?;
     let length = settings.answer_length();
     if answer.len() < length {
         return Err(Refusal::new(7));
@@ -118,7 +127,7 @@ pub fn settle(sheet: &[u8], answer: &mut [u8]) -> Result<usize, Refusal> {
     } else {
         entries
     };
-    let round = settle_readings(&settings, &readings)?;
+    let round = settle_readings(&settings, spread, &readings)?;
     answer[..length].copy_from_slice(&round.bytes());
     Ok(length)
 }

@@ -20,7 +20,13 @@ pub fn sizes_of(bytes: &[u8]) -> Result<Settings, Refusal> {
 
 /// The settings of a sheet, under checks 1 to 6.
 pub fn settings_of(sheet: &[u8]) -> Result<Settings, Refusal> {
+    settings_with_spread(sheet, 0)
+}
+
+/// The settings of a sheet that is settled with a spread, under checks 1 to 5, 16 and 6.
+pub fn settings_with_spread(sheet: &[u8], spread: u32) -> Result<Settings, Refusal> {
     let settings = sizes_of(sheet)?;
+    settings.check_spread(spread)?;
     if sheet.len() != settings.sheet_length() {
         return Err(Refusal::new(6));
     }

@@ -3,7 +3,7 @@
 
 use crate::sheet::numbers_in;
 use crate::text::refused;
-use crate::{plan, read, replay, row, settle, step, target, write, Plan, Refusal, Settings};
+use crate::{plan, read, replay, row, settle_spread, step, target, write, Plan, Refusal, Settings};
 
 /// The bytes of a vector without its call's name, or nothing for a heading.
 fn numbers(line: &str) -> Option<(&str, Vec<u8>)> {
@@ -69,13 +69,20 @@ fn of_planner(call: &str, bytes: &[u8]) -> String {
     }
 }
 
-/// A call that settles a sheet, or replays a trace, into a lent buffer.
-pub type Call = fn(&[u8], &mut [u8]) -> Result<usize, Refusal>;
+/// A call that settles a sheet with a spread into a lent buffer.
+pub type Settling = fn(&[u8], u32, &mut [u8]) -> Result<usize, Refusal>;
 
-/// The answer of a call to a vector with the length of the buffer and then the bytes that it is lent.
-fn into_buffer(call: Call, bytes: &[u8], shown: impl Fn(&[u8]) -> String) -> String {
+/// A call that replays a trace into a lent buffer.
+pub type Replaying = fn(&[u8], &mut [u8]) -> Result<usize, Refusal>;
+
+/// The answer of a call that is lent a buffer of the length with which a vector begins.
+fn into_buffer(
+    bytes: &[u8],
+    call: impl Fn(&mut [u8]) -> Result<usize, Refusal>,
+    shown: impl Fn(&[u8]) -> String,
+) -> String {
     let mut buffer = vec![165; word(bytes, 0) as usize];
-    match call(&bytes[4..], &mut buffer) {
+    match call(&mut buffer) {
         Ok(size) => {
             let (filled, behind) = buffer.split_at(size);
             format!("granted {size}; {}; behind{}", shown(filled), listed(behind))
@@ -137,26 +144,31 @@ fn of_sheet(call: &str, bytes: &[u8]) -> String {
 pub fn answers(program: &str, lines: &str) -> String {
     match program {
         "planner_vectors" => answered(lines, of_planner),
-        "settle_vectors" => settle_answers(settle, lines),
+        "settle_vectors" => settle_answers(settle_spread, lines),
         "sheet_vectors" => answered(lines, of_sheet),
         "replay_vectors" => replay_answers(replay, lines),
         _ => panic!("no such program: {program}"),
     }
 }
 
-/// What `settle_vectors` would write for these lines if it settled by this call.
-pub fn settle_answers(settle: Call, lines: &str) -> String {
+/// What `settle_vectors` would write for these lines if it settled by this call. A vector of `with` has the
+/// spread before the sheet.
+pub fn settle_answers(settle: Settling, lines: &str) -> String {
     answered(lines, |call, bytes| {
-        assert_eq!(call, "settle");
-        into_buffer(settle, bytes, answer_sheet)
+        let (spread, sheet) = match call {
+            "settle" => (0, &bytes[4..]),
+            "with" => (word(bytes, 4), &bytes[8..]),
+            _ => panic!("no such call: {call}"),
+        };
+        into_buffer(bytes, |buffer| settle(sheet, spread, buffer), answer_sheet)
     })
 }
 
 /// What `replay_vectors` would write for these lines if it replayed by this call.
-pub fn replay_answers(replay: Call, lines: &str) -> String {
+pub fn replay_answers(replay: Replaying, lines: &str) -> String {
     answered(lines, |call, bytes| {
         assert_eq!(call, "replay");
-        into_buffer(replay, bytes, final_values)
+        into_buffer(bytes, |buffer| replay(&bytes[4..], buffer), final_values)
     })
 }
 

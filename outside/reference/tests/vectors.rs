@@ -23,8 +23,8 @@ fn unpacked(given: u64) -> Result<usize, Refusal> {
     }
 }
 
-fn settle<S: Steps>(sheet: &[u8], answer: &mut [u8]) -> Result<usize, Refusal> {
-    unpacked(plain::settle::<S>(sheet, answer))
+fn settle<S: Steps>(sheet: &[u8], spread: u32, answer: &mut [u8]) -> Result<usize, Refusal> {
+    unpacked(plain::settle_spread::<S>(sheet, spread, answer))
 }
 
 fn replay<S: Steps>(trace: &[u8], values: &mut [u8]) -> Result<usize, Refusal> {
@@ -49,6 +49,22 @@ fn settle_vectors_by_plain() {
 #[test]
 fn settle_vectors_by_tuned() {
     held("settle_vectors", |lines| settle_answers(settle::<Tuned>, lines));
+}
+
+/// Document 02's example, and a spread that is too great before a sheet that is too short.
+#[test]
+fn a_vector_with_a_spread() {
+    let settled = "with buffer +31 spread +2 sheet 4 1 0 1 +1 4*1 3*+2 +5\n";
+    let refused = "with buffer +2 spread +100001 sheet 4 1 0 1 +1\n";
+    let right = [
+        settled,
+        "  granted 30; round 4 4 2 3; marks 1 1 1 1; used 2 2 2 5; behind 165\n",
+        refused,
+        "  refused 16 0; behind 165 165\n",
+    ];
+    let lines = [settled, refused].concat();
+    assert_eq!(answers("settle_vectors", &lines), right.concat());
+    assert_eq!(settle_answers(settle::<Tuned>, &lines), right.concat());
 }
 
 #[test]

@@ -2,14 +2,15 @@
 -- on and written is the sheet's, and none is where nothing is accepted.
 -- Assumes nothing.
 use borrow.Author.Needs.{needs}
-use mathlib.Core.Path.{sym, ap, _∙_}
-use Prim.Native.Nat.{ℕ}
+use mathlib.Core.Path.{_≡_, sym, ap, _∙_}
+use Prim.Native.Nat.{ℕ, _+_, _-_, _≤_}
+use native.Mathlib.Omega.{arith}
 use Rattle.model.specs.Ensemble.{quorum}
+use Rattle.model.specs.Steps.{spanWidth}
 use Rattle.refusals.specs.Answers.{checkOf}
 use Rattle.agreement.specs.Values.{agreedOf, agreedMarks}
-use Rattle.settling.specs.Answers.{settlingOf}
-use Rattle.settling.specs.declared.Settled.the-variants.{Granted}
-use Rattle.settling.proofs.Settling.{CallsLeave, refuses, settles, few-faults}
+use Rattle.settling.specs.Rounds.{spreadOf}
+use Rattle.settling.proofs.Settling.{CallsLeave, concludes, few-faults}
 use Rattle.settling.proofs.settle_in.Statement.{statement}
 use Rattle.settling.proofs.settle_in.Tie as tie
 
@@ -19,10 +20,14 @@ abbrev call : tie.After-receive → tie.Start
 call c = c .before .before .before .before .before .before .before
 
 abbrev received : tie.After-agree → tie.After-receive
-received c = c .before .before .before .before .before .before .before .before .before
+received c = c .before .before .before .before .before .before .before .before
 
 abbrev agreed : tie.After-conclude → tie.After-agree
 agreed c = c .before .before .before .before .before .before .before
+
+-- the span is as wide as its window and its spread
+wide : {window span : ℕ} → window ≤ span → span ≡ window + (span - window)
+wide l = omega arith
 
 -- what the calls leave
 left :
@@ -30,7 +35,7 @@ left :
     → let s = call (received c) in
     let a = s .args in
     let r = received c .receive .last in
-    CallsLeave (a .sheet .now) (a .settings) (a .marks .now) (a .values .now) (r .1 .1 .0) (r .1 .1 .1 .0)
+    CallsLeave (a .sheet .now) (a .settings) (spreadOf (a .settings) (a .span)) (a .marks .now) (a .values .now) (r .1 .1 .0) (r .1 .1 .1 .0)
     (c .agree .last .0)
     (c .agree .result)
 left c =
@@ -40,7 +45,7 @@ left c =
     let r = received c .receive in
     let marks = r .last .1 .1 .0 in
     let values = r .last .1 .1 .1 .0 in
-    let span = c .before .span-width .ensures in
+    let span : a .span ≡ spanWidth (a .settings) (spreadOf (a .settings) (a .span)) = wide (s .pre .0 .1) in
     record {
       small = λ j. known .shared-slice-known .given j .fits;
       markRoom = s .pre .1 .0;
@@ -59,10 +64,9 @@ receive-requires c κs = search needs
 sub-need : tie.Need-sub-need
 sub-need c =
     let s = call (c .before .before .before .before .before) in
-    few-faults (s .args .sheet .now) (s .args .settings) (s .args .answer .now) (s .pre .0) .0
-
-span-width-requires : tie.Need-span-width-requires
-span-width-requires c κs = search needs
+    few-faults (s .args .sheet .now) (s .args .settings) (spreadOf (s .args .settings) (s .args .span)) (s .args .answer .now)
+    (s .pre .0 .0)
+    .0
 
 cast-agree : tie.Need-cast-agree
 cast-agree c = search needs
@@ -76,15 +80,6 @@ cast-conclude c = search needs
 conclude-requires : tie.Need-conclude-requires
 conclude-requires c κs = search needs
 
-enum-known-outcome : tie.Need-enum-known-outcome
-enum-known-outcome c = search needs
-
-enum-told : tie.Need-enum-told
-enum-told c = search needs
-
-answer-length-requires : tie.Need-answer-length-requires
-answer-length-requires c κs = search needs
-
 same-length : tie.Need-same-length
 same-length c = search needs
 
@@ -96,41 +91,12 @@ same-length-3 c = search needs
 
 returns : tie.Need-returns
 returns c =
-    let told = c .before in
-    let concluded = told .before .before .before .before in
+    let concluded = c .before .before in
     let a = call (received (agreed concluded)) .args in
     let r = received (agreed concluded) .receive .last in
     let out = concluded .conclude in
-    refuses (a .sheet .now) (a .settings) (a .answer .now) (call (received (agreed concluded)) .pre .0) (a .marks .now)
-    (a .values .now)
-    (r .1 .1 .0)
-    (r .1 .1 .1 .0)
-    (agreed concluded .agree .last .0)
-    (agreed concluded .agree .result)
-    (left (agreed concluded))
-    (out .last .1 .1 .1 .1 .1 .0)
-    (out .ensures .1)
-    (told .outcome .given .0 .0)
-    (sym (ap checkOf (told .outcome .given .1)) ∙ out .ensures .0)
-
-same-length-4 : tie.Need-same-length-4
-same-length-4 c = search needs
-
-same-length-5 : tie.Need-same-length-5
-same-length-5 c = search needs
-
-same-length-6 : tie.Need-same-length-6
-same-length-6 c = search needs
-
-returns-2 : tie.Need-returns-2
-returns-2 c =
-    let told = c .before in
-    let concluded = told .before .before .before .before in
-    let a = call (received (agreed concluded)) .args in
-    let r = received (agreed concluded) .receive .last in
-    let out = concluded .conclude in
-    ap (λ (size : ℕ). settlingOf (Granted size) (out .last .1 .1 .1 .1 .1 .0)) (c .answer-length .ensures)
-    ∙ settles (a .sheet .now) (a .settings) (a .answer .now) (call (received (agreed concluded)) .pre .0)
+    concludes (a .sheet .now) (a .settings) (spreadOf (a .settings) (a .span)) (a .answer .now)
+    (call (received (agreed concluded)) .pre .0 .0)
     (a .marks .now)
     (a .values .now)
     (r .1 .1 .0)
@@ -140,7 +106,8 @@ returns-2 c =
     (left (agreed concluded))
     (out .last .1 .1 .1 .1 .1 .0)
     (out .ensures .1)
-    (sym (ap checkOf (told .enum-told .given .1)) ∙ out .ensures .0)
+    (checkOf (out .result))
+    (out .ensures .0)
 
 pub settle-in-spec : {M : Type 1} → statement M
 settle-in-spec =
@@ -148,19 +115,11 @@ settle-in-spec =
     (tie.spec
     receive-requires
     sub-need
-    span-width-requires
     cast-agree
     agree-requires
     cast-conclude
     conclude-requires
-    enum-known-outcome
-    enum-told
-    answer-length-requires
     same-length
     same-length-2
     same-length-3
-    returns
-    same-length-4
-    same-length-5
-    same-length-6
-    returns-2)
+    returns)

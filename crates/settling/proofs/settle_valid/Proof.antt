@@ -5,12 +5,15 @@ use mathlib.Core.Path.{sym}
 use Prim.Native.Nat.{_≤_}
 use Rattle.model.specs.Ensemble.{maxCabinets}
 use Rattle.held.proofs.Held.{first-places}
+use Rattle.settling.specs.Rounds.{spreadOf}
 use Rattle.settling.proofs.Settling.{few-faults}
 use Rattle.settling.proofs.settle_valid.Statement.{statement}
 use Rattle.settling.proofs.settle_valid.Tie as tie
 
 few : (s : tie.Start) → s .args .settings .n ≤ maxCabinets
-few s = few-faults (s .args .sheet .now) (s .args .settings) (s .args .answer .now) (s .pre) .1
+few s = few-faults (s .args .sheet .now) (s .args .settings) (spreadOf (s .args .settings) (s .args .span)) (s .args .answer .now)
+    (s .pre .0)
+    .1
 
 cast-n : tie.Need-cast-n
 cast-n c = search needs

@@ -1,25 +1,19 @@
--- `tohiranga::tohiranga_settle` meets its contract: what `settling::settle` answers, packed, over the buffer that it
--- leaves.
+-- `tohiranga::tohiranga_settle` meets its contract: settling without a spread is settling with the spread 0.
 -- Assumes nothing.
 use borrow.Author.Needs.{needs}
-use mathlib.Core.Path.{ap, _∙_}
-use Rattle.packed_refusals.specs.Answers.{packed}
+use Rattle.model.specs.Calls.{settle}
 use Rattle.tohiranga.proofs.tohiranga_settle.Statement.{statement}
 use Rattle.tohiranga.proofs.tohiranga_settle.Tie as tie
 
-settle-requires : tie.Need-settle-requires
-settle-requires c κs = search needs
-
-pack-settled-requires : tie.Need-pack-settled-requires
-pack-settled-requires c κs = search needs
+tohiranga-settle-spread-requires : tie.Need-tohiranga-settle-spread-requires
+tohiranga-settle-spread-requires c κs = search needs
 
 same-length : tie.Need-same-length
 same-length c = search needs
 
 returns : tie.Need-returns
-returns c =
-    let given = c .before .before .before .settle .ensures in
-    (c .pack-settled .ensures ∙ ap (λ w. packed (w .verdict)) given, ap (λ w. w .buffer) given)
+unfolding settle
+returns c = c .before .before .tohiranga-settle-spread .ensures
 
 pub tohiranga-settle-spec : {M : Type 1} → statement M
-tohiranga-settle-spec = tie.close (tie.spec settle-requires pack-settled-requires same-length returns)
+tohiranga-settle-spec = tie.close (tie.spec tohiranga-settle-spread-requires same-length returns)

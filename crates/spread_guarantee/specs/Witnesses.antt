@@ -1,0 +1,87 @@
+-- Sheets that reach the limits of Guarantee.antt, so that neither can be a tick tighter, and that pass the paper's: the
+-- counterexample of document 02, "Paper 2. Cable runs differ". What they settle to is computed from their bytes. The
+-- theorems are in proofs/Computed.antt.
+--
+--   wired              N 4, m 1, FCA with median, and a window
+--   cabinet            a cabinet that read four numbers, its answer buffer just long enough and full of 255s
+--   low, high          "readings at one cabinet all 0, at another all D, and a liar at each end"
+--   paperGap           the last line of the paper's proof of Theorem 17, rounded up
+--   Hull               the hull of what the two accept is 2δ + 3D, above the 2(δ + D) of the paper's Lemma 16
+--   Met, Reached       what is asked of the two holds; both limits are reached, and the paper's is passed
+--   SpreadReached      so with δ 1 and D 2
+--   WholeReached       so with δ 4 and D 4, where nothing is rounded
+use mathlib.Core.Bool.{true}
+use mathlib.Core.List.{List, [], _∷_}
+use mathlib.Core.Path.{_≡_}
+use Prim.Native.Nat.{ℕ, _+_, _*_, _-_, _<_}
+use lib.IntN.{ℤ, pos, negsuc, _-ℤ_}
+use lib.ListN.{replicate}
+use Rattle.model.specs.declared.Settings.{Settings}
+use Rattle.model.specs.Ensemble.{ticks}
+use Rattle.model.specs.RoundSheet.{fca, median, sheetBytes}
+use Rattle.model.specs.AnswerSheet.{answerLength}
+use Rattle.model.specs.Steps.{acceptedAt}
+use Rattle.model.specs.Planner.{ceilDiv}
+use Rattle.model.specs.Cases.{settings}
+use Rattle.run.specs.Rounds.{below}
+use Rattle.demand_3.specs.Guarantee.{apart}
+use Rattle.spread_guarantee.specs.Guarantee.{Cabinet, reading, newValue, bad, Reads, Alike, spreadGap, spreadError}
+
+-- ---- The sheets
+
+abbrev pub wired : ℕ → Settings
+wired δ = settings 4 1 fca median δ
+
+abbrev pub cabinet : ℕ → List ℤ → Cabinet
+cabinet δ readings =
+    record {
+      sheet = sheetBytes (wired δ) (1 ∷ 1 ∷ 1 ∷ 1 ∷ []) readings;
+      buffer = replicate (answerLength 4) 255;
+    }
+
+-- cabinets 0 to 2 are good. One cabinet reads 0 of each, and -(δ + D) of the liar
+abbrev pub low : ℕ → ℕ → Cabinet
+low δ D = cabinet δ (pos 0 ∷ pos 0 ∷ pos 0 ∷ (pos 0 -ℤ pos (δ + D)) ∷ [])
+
+-- the other reads D of each, and D + δ + D of the liar
+abbrev pub high : ℕ → ℕ → Cabinet
+high δ D = cabinet δ (pos D ∷ pos D ∷ pos D ∷ pos (D + (δ + D)) ∷ [])
+
+-- ---- The paper's Lemma 16: "width(intvl(A_p ∪ A_q)) ≤ 2(δ+D)"
+
+-- the reading of the liar, cabinet 3, is accepted at either end
+pub record Hull (δ D : ℕ) : Type 0 where
+  pub lowAccepted : acceptedAt (wired δ) D (reading (low δ D)) 3 ≡ true
+  pub highAccepted : acceptedAt (wired δ) D (reading (high δ D)) 3 ≡ true
+  pub width : apart (ticks (reading (low δ D) 3)) (ticks (reading (high δ D) 3)) ≡ 2 * δ + 3 * D
+  pub above : 2 * (δ + D) < 2 * δ + 3 * D
+
+-- ---- The limits
+
+-- ((N-t)D + 2t(δ+D))/N, rounded up
+abbrev pub paperGap : Settings → ℕ → ℕ → ℕ
+paperGap c D t = ceilDiv ((c .n - t) * D + 2 * t * (c .window + D)) (c .n)
+
+-- the true value is 0, κ is D, and the two are asked nothing that they do not meet
+pub record Met (δ D : ℕ) : Type 0 where
+  pub counts : bad (wired δ) (below 3) ≡ 1
+  pub readsLow : Reads (wired δ) D D (pos 0) (below 3) (low δ D)
+  pub readsHigh : Reads (wired δ) D D (pos 0) (below 3) (high δ D)
+  pub alike : Alike (wired δ) D (below 3) (low δ D) (high δ D)
+
+-- the two limits are reached, and the paper's is passed
+pub record Reached (δ D : ℕ) (lowest highest : ℤ) : Type 0 where
+  pub met : Met δ D
+  pub lowValue : newValue D (low δ D) ≡ lowest
+  pub highValue : newValue D (high δ D) ≡ highest
+  pub widest : apart (newValue D (low δ D)) (newValue D (high δ D)) ≡ spreadGap (wired δ) D 1
+  pub farthest : apart (newValue D (high δ D)) (pos 0) ≡ spreadError (wired δ) D D 1
+  pub paperPassed : paperGap (wired δ) D 1 < apart (newValue D (low δ D)) (newValue D (high δ D))
+
+-- "readings 0, 0, 0, -3 and 2, 2, 2, 5 give -1 and 3": 4 apart, where the paper has ⌈12/4⌉ = 3
+abbrev pub SpreadReached : Type 0
+SpreadReached = Reached 1 2 (negsuc 0) (pos 3)
+
+-- readings 0, 0, 0, -8 and 4, 4, 4, 12 give -2 and 6, with nothing to round: 8 apart, where the paper has 7
+abbrev pub WholeReached : Type 0
+WholeReached = Reached 4 4 (negsuc 1) (pos 6)

@@ -121,12 +121,13 @@ module _ (s : List ℕ) (c : Settings) where
 
     -- what is found in the parts says which refuses
     pub body-parts :
-        (E : ℕ) → E ≡ entryCount c → E ≤ mostEntries → {x marks missing : Check} → x ≡ orNext marks missing
-        → marks ≡ marksIn (marksPart s E) → missing ≡ missingIn (marksPart s E) (readingsPart s E) → x ≡ bodyChecks
-    body-parts E same few e m z =
+        (E : ℕ) → E ≡ entryCount c → E ≤ mostEntries → {x : Check}
+        → x ≡ orNext (marksIn (marksPart s E)) (missingIn (marksPart s E) (readingsPart s E))
+        → x ≡ bodyChecks
+    body-parts E same few e =
         let sized : length s ≡ headerSize + 5 * E = long ∙ ap (λ (k : ℕ). headerSize + 5 * k) (sym same) in
         e
-        ∙ ap₂ orNext (m ∙ parts-marks s E sized few) (z ∙ parts-missing s E sized few)
+        ∙ ap₂ orNext (parts-marks s E sized few) (parts-missing s E sized few)
         ∙ ap (λ (k : ℕ). orNext (badMark (markAt s) k) (badMissing (markAt s) (bitsAt s k) k)) same
         ∙ sym body-checks
 

@@ -4,11 +4,24 @@ ghost use mathlib.Core.List.{_∷_};
 ghost use lib.ListN.{length};
 ghost use Rattle.refusals.specs.Answers.{checkOf};
 ghost use Rattle.model.specs.RoundSheet.{entryCount, sheetLength, markAt, bitsAt};
-ghost use Rattle.model.specs.Refusals.{firstOf, badLength, arrayChecks};
+ghost use Rattle.model.specs.Refusals.{firstOf, orNext, badLength, arrayChecks};
+ghost use Rattle.mark_checks.specs.Marks.{marksIn};
+ghost use Rattle.missing_search.specs.Missing.{missingIn};
 use model::BAD_LENGTH;
 use model::HEADER_SIZE;
 use model::Settings;
 use refusals::Screened;
+
+// Checks 8 and 9 of marks, and of readings of four bytes each. Lists that no sheet has pass.
+pub fn check_parts(marks: &[u8], readings: &[u8]) -> Screened
+    ensures { λ r.
+        ⌜ checkOf r
+        ≡ orNext (marksIn (now (marks .entry))) (missingIn (now (marks .entry)) (now (readings .entry))) ⌝ }
+{
+    let eighth = mark_checks::check(marks);
+    let ninth = missing_checks::check(marks, readings);
+    refusals::first_of(eighth, ninth)
+}
 
 // Checks 6, 8 and 9 of a sheet with these settings.
 pub fn check_entries(sheet: &[u8], settings: Settings) -> Screened
@@ -22,8 +35,5 @@ pub fn check_entries(sheet: &[u8], settings: Settings) -> Screened
         return Screened::Refused(refusals::refuse(BAD_LENGTH));
     }
     let body = HEADER_SIZE + sheet_sizes::entry_count(settings);
-    let marks = &sheet[HEADER_SIZE..body];
-    let eighth = mark_checks::check(marks);
-    let ninth = missing_checks::check(marks, &sheet[body..]);
-    refusals::first_of(eighth, ninth)
+    check_parts(&sheet[HEADER_SIZE..body], &sheet[body..])
 }

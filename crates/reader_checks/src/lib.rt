@@ -5,6 +5,7 @@ ghost use Rattle.model.specs.Refusals.{orNext, firstOf, noRoom, readChecks};
 ghost use Rattle.model.specs.Calls.{verdict};
 ghost use Rattle.refusals.specs.Answers.{checkOf};
 ghost use Rattle.sheet_checks.specs.Answers.{openedOf};
+use model::HEADER_SIZE;
 use model::NO_ROOM;
 use model::Settings;
 use refusals::Screened;
@@ -33,7 +34,11 @@ pub fn check(sheet: &[u8], marks: usize, readings: usize) -> Opened
             match check_room(settings, marks, readings) {
                 Screened::Refused(r) => Opened::Refused(r),
                 Screened::Passed => {
-                    let entries = entry_checks::check_entries(sheet, settings);
+                    let body = HEADER_SIZE + sheet_sizes::entry_count(settings);
+                    let entries = entry_checks::check_parts(
+                        &sheet[HEADER_SIZE..body],
+                        &sheet[body..],
+                    );
                     sheet_checks::unless_refused(entries, settings)
                 }
             }

@@ -37,45 +37,37 @@ entry-count-requires c κs = search needs
 add-body : tie.Need-add-body
 add-body c = search needs
 
-sub-marks : tie.Need-sub-marks
-sub-marks c = search needs
+sub-check-parts : tie.Need-sub-check-parts
+sub-check-parts c = search needs
 
-part-marks-start : tie.Need-part-marks-start
-part-marks-start c = search needs
+part-check-parts-start : tie.Need-part-check-parts-start
+part-check-parts-start c = search needs
 
-part-marks-end : tie.Need-part-marks-end
-part-marks-end c = search needs
+part-check-parts-end : tie.Need-part-check-parts-end
+part-check-parts-end c = search needs
 
-check-requires : tie.Need-check-requires
-check-requires c κs = search needs
+sub-check-parts-2 : tie.Need-sub-check-parts-2
+sub-check-parts-2 c = search needs
 
-sub-check : tie.Need-sub-check
-sub-check c = search needs
+part-check-parts-start-2 : tie.Need-part-check-parts-start-2
+part-check-parts-start-2 c = search needs
 
-part-check-start : tie.Need-part-check-start
-part-check-start c = search needs
+part-check-parts-end-2 : tie.Need-part-check-parts-end-2
+part-check-parts-end-2 c = search needs
 
-part-check-end : tie.Need-part-check-end
-part-check-end c = search needs
-
-check-requires-2 : tie.Need-check-requires-2
-check-requires-2 c κs = search needs
-
-first-of-requires : tie.Need-first-of-requires
-first-of-requires c κs = search needs
+check-parts-requires : tie.Need-check-parts-requires
+check-parts-requires c κs = search needs
 
 returns-2 : tie.Need-returns-2
 returns-2 c =
-    let missing = c .before in
-    let marks = missing .before .before in
-    let counted = marks .before .before in
+    let counted = c .before .before .before in
     let tested = counted .before in
     let measured = tested .before in
     let a = measured .before .before .args in
     body-parts (a .sheet .now) (a .settings) (tested .if1 .left ∙ measured .sheet-length .ensures)
     (counted .entry-count .result) (counted .entry-count .ensures)
     (few counted)
-    (c .first-of .ensures) (marks .check .ensures) (missing .check2 .ensures)
+    (c .check-parts .ensures)
 
 pub check-entries-spec : {M : Type 1} → statement M
 check-entries-spec =
@@ -86,13 +78,11 @@ check-entries-spec =
     returns
     entry-count-requires
     add-body
-    sub-marks
-    part-marks-start
-    part-marks-end
-    check-requires
-    sub-check
-    part-check-start
-    part-check-end
-    check-requires-2
-    first-of-requires
+    sub-check-parts
+    part-check-parts-start
+    part-check-parts-end
+    sub-check-parts-2
+    part-check-parts-start-2
+    part-check-parts-end-2
+    check-parts-requires
     returns-2)

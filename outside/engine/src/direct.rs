@@ -12,22 +12,10 @@ type Read = unsafe extern "C" fn(*const u8, usize, *mut u8, usize, *mut i32, usi
 
 extern "C" {
     fn tohiranga_settle(sheet: *const u8, len: usize, answer: *mut u8, room: usize) -> u64;
-    fn tohiranga_settle_spread(
-        sheet: *const u8,
-        len: usize,
-        spread: u32,
-        answer: *mut u8,
-        room: usize,
-    ) -> u64;
+    fn tohiranga_settle_spread(s: *const u8, n: usize, d: u32, a: *mut u8, room: usize) -> u64;
     fn before_settle(sheet: *const u8, len: usize, answer: *mut u8, room: usize) -> u64;
     #[cfg(feature = "before_spread")]
-    fn before_settle_spread(
-        sheet: *const u8,
-        len: usize,
-        spread: u32,
-        answer: *mut u8,
-        room: usize,
-    ) -> u64;
+    fn before_settle_spread(s: *const u8, n: usize, d: u32, a: *mut u8, room: usize) -> u64;
     fn before_read(
         sheet: *const u8,
         len: usize,

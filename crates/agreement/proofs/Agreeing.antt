@@ -24,6 +24,8 @@ use Rattle.round_laws.specs.Naturals.{shift}
 use Rattle.round_laws.proofs.Local.{estimate-local, used-local}
 use Rattle.held.specs.Held.{presentIn, valueAt, readingsIn, keptMark, unfit}
 use Rattle.held.proofs.Held.{fit-few}
+use Rattle.summaries.specs.Summaries.{farApart, ungathered}
+use Rattle.summaries.proofs.Fits.{far-ext}
 use Rattle.estimates.specs.Values.{estimateOfHeld, meanIn, evaluatedOf, nothing}
 use Rattle.estimates.specs.declared.Estimated.{Estimated}
 use Rattle.acceptance.specs.Values.{acceptedIn, acceptedCount, listsMisfit, countGiven, flagsOf}
@@ -100,12 +102,21 @@ module _ (w need : ℕ) (marks values : List ℕ) where
   unfolding acceptedCount
   count-kept = count-ext (presentIn kept) acc (length marks) kept-present
 
+  -- two kept readings lie too far apart just where two accepted ones do
+  far-kept :
+      farApart (presentIn kept) (length marks) (valueAt values) ≡ farApart acc (length marks) (valueAt values)
+  far-kept = far-ext (presentIn kept) acc (length marks) (valueAt values) kept-present
+
   module _ (kind : ℕ) where
     abbrev round-estimate : ℤ
     round-estimate = agreedRound w need kind marks values .estimate
 
     abbrev kept-estimate : ℤ
     kept-estimate = estimate kind (presentIn kept) (length marks) (readingsIn kept values)
+
+    abbrev kept-value : ℤ
+    kept-value =
+        mean (length marks) (sum (usedValue (presentIn kept) (readingsIn kept values) kept-estimate) (length marks))
 
     estimate-kept : kept-estimate ≡ round-estimate
     estimate-kept =
@@ -130,19 +141,20 @@ module _ (w need : ℕ) (marks values : List ℕ) where
         kept-reading
         p))
 
-    answer : ℕ → ℤ → ℤ → Estimated
-    answer n e v = cond (eqb n 0) nothing (record { count = n; estimate = up twoTo31 e; value = up twoTo31 v })
+    answer : ℕ → Bool → ℤ → ℤ → Estimated
+    answer n far e v =
+        cond (eqb n 0 || far) nothing (record { count = n; estimate = up twoTo31 e; value = up twoTo31 v })
 
     -- the evaluation of what is kept is that of the accepted readings
     evaluated-kept :
         unfit (length marks) (length values) ≡ false → evaluatedOf kind kept values ≡ agreedOf w need kind marks values
-    unfolding evaluatedOf estimateOfHeld meanIn agreedOf answer
+    unfolding evaluatedOf ungathered estimateOfHeld meanIn agreedOf answer
     evaluated-kept fit =
         rw (length-kept, fit)
-        (ap₂ (λ (n : ℕ) (v : ℤ). answer n kept-estimate v) count-kept (value-kept estimate-kept)
-        ∙ ap
-        (λ (e : ℤ). answer (acceptedCount w need marks values) e (agreedRound w need kind marks values .value))
-        estimate-kept)
+        (ap₂ (λ (n : ℕ) (far : Bool). answer n far kept-estimate kept-value) count-kept far-kept
+        ∙ ap₂ (answer (acceptedCount w need marks values) (farApart acc (length marks) (valueAt values)))
+        estimate-kept
+        (value-kept estimate-kept))
 
   -- ---- what `agree` answers, by what `accept` told it with 64 flags
 

@@ -1,9 +1,9 @@
 -- Agreement on lists that hold the readings v is the round of v: the accepted count, and the new value moved up.
 -- Assumes nothing.
-use mathlib.Core.Bool.{false, cond}
+use mathlib.Core.Bool.{false, cond, _||_}
 use mathlib.Core.List.{List}
 use mathlib.Core.Path.{_≡_, refl, sym, ap, ap₂, _∙_, subst}
-use Prim.Native.Nat.{ℕ, zero, suc, _≤_, _<_}
+use Prim.Native.Nat.{ℕ, zero, suc, _+_, _*_, _≤_, _<_}
 use native.Mathlib.Omega.{arith}
 use borrow.Author.Tests.{le-ltb, eq-eqb, ne-eqb}
 use lib.Dec.{eqb}
@@ -13,16 +13,18 @@ use Rattle.arithmetic.specs.Words.{twoTo31}
 use Rattle.arithmetic.specs.Writing.{table}
 use Rattle.arithmetic.proofs.Writing.{length-table, getD-table}
 use Rattle.model.specs.declared.Settings.{Settings}
-use Rattle.model.specs.Ensemble.{Readings, quorum, maxCabinets}
+use Rattle.model.specs.Ensemble.{Readings, quorum, maxCabinets, maxWindow, maxSpread}
 use Rattle.model.specs.Steps.{spanWidth, accepted, acceptedAt, estimate, Round, roundWith, roundOf}
 use Rattle.round_laws.specs.Naturals.{shift}
 use Rattle.round_laws.proofs.Local.{EqualBelow, EqualRounds, round-local}
 use Rattle.held.proofs.Kept.{Kept}
-use Rattle.held.specs.Held.{heldMark, heldValue, readingsIn, unfit}
+use Rattle.held.specs.Held.{heldMark, heldValue, valueAt, readingsIn, unfit}
+use Rattle.summaries.specs.Summaries.{farApart}
 use Rattle.estimates.specs.Values.{nothing}
 use Rattle.estimates.specs.declared.Estimated.{Estimated}
 use Rattle.acceptance.specs.Values.{acceptedIn, acceptedCount}
 use Rattle.agreement.specs.Values.{agreedRound, agreedOf}
+use Rattle.agreement.proofs.Near.{agreed-near}
 
 module _ (c : Settings) (D : ℕ) (v : Readings) (marks values : List ℕ) (long : length marks ≡ c .n)
     (same : EqualBelow (c .n) v (readingsIn marks values)) where
@@ -80,17 +82,22 @@ module _ (c : Settings) (v : Readings)
     unfolding acceptedCount
     counted-is = agreed-is c D v marks values marks-long same-held .count
 
-    module _ (few : c .n ≤ maxCabinets) where
+    -- at most 64, of which more than half must agree, in a span that is no wider than the widest
+    module _ (few : c .n ≤ maxCabinets) (most : c .n < 2 * quorum c) (narrow : spanWidth c D ≤ maxWindow + maxSpread) where
+      pub near-held :
+          farApart (acceptedIn (spanWidth c D) (quorum c) marks values) (length marks) (valueAt values) ≡ false
+      near-held = agreed-near (spanWidth c D) (quorum c) marks values (rw marks-long most) narrow
+
       abbrev given : Estimated
       given = agreedOf (spanWidth c D) (quorum c) (c .estimator) marks values
 
       pub agreed-count : given .count ≡ roundOf c D v .count
       unfolding agreedOf
-      agreed-count = rw (fit-held few) (go counted refl)
+      agreed-count = rw (fit-held few, near-held) (go counted refl)
         where
           go :
               (k : ℕ) → counted ≡ k
-              → (cond (eqb k 0) nothing
+              → (cond (eqb k 0 || false) nothing
               (record {
                 count = counted;
                 estimate = up twoTo31 (agreed c D v marks values marks-long same-held .estimate);
@@ -104,5 +111,5 @@ module _ (c : Settings) (v : Readings)
       pub agreed-value : (roundOf c D v .count ≡ 0 → ⊥) → given .value ≡ up twoTo31 (roundOf c D v .value)
       unfolding agreedOf
       agreed-value d =
-          rw (fit-held few, ne-eqb counted 0 (λ h. d (sym counted-is ∙ h)))
+          rw (fit-held few, near-held, ne-eqb counted 0 (λ h. d (sym counted-is ∙ h)))
           (ap (up twoTo31) (agreed-is c D v marks values marks-long same-held .value))

@@ -43,7 +43,7 @@ fn strike_others(marks: &mut [u8], accepted: &[bool], count: u32)
 }
 
 // The round of at most 64 readings: the marks say who is accepted. Where none is, or the lists do not fit, the marks
-// are left as they are.
+// are left as they are. Where two accepted readings lie farther apart than twice the widest span, nothing is counted.
 pub fn agree(marks: &mut [u8], values: &[u32], span: u32, need: u32, kind: u8) -> Estimated
     ensures { λ r. ⌜ r ≡ agreedOf span need kind (now (marks .entry)) (now (values .entry)) ⌝ }
     ensures { λ _. ⌜ now (marks .exit) ≡ agreedMarks span need (now (marks .entry)) (now (values .entry)) ⌝ }

@@ -21,7 +21,7 @@ use Rattle.model.specs.RoundSheet.{average, median, midpoint}
 use Rattle.model.specs.Steps.{acceptedAt, numbered, ticksAt, averageOf, medianOf, midpointOf, estimate, roundOf}
 use Rattle.round_laws.proofs.Represent.{reach, reach-above, raise}
 use Rattle.round_laws.specs.Naturals.{is-numbered}
-use Rattle.limit_laws.proofs.Counts.{count-split}
+use Rattle.value_laws.proofs.Counts.{count-split}
 use Rattle.value_laws.proofs.Ranks.{numbered-exists}
 use Rattle.demand_1_2.specs.Demand2.{RoundedDown, FromBelow, LowestAccepted, HighestAccepted, Midpoint, Estimate}
 use Rattle.demand_1_2.proofs.Represented.{le-up, lt-up}

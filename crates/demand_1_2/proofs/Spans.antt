@@ -21,8 +21,8 @@ use Rattle.model.specs.declared.Settings.{Settings}
 use Rattle.model.specs.Ensemble.{Reading, missing, present, Readings, isPresent, ticks, quorum}
 use Rattle.model.specs.Steps.{inside, within, accepted, acceptedAt, roundOf, spanWidth}
 use Rattle.round_laws.proofs.Represent.{reach, reach-above, raise}
-use Rattle.limit_laws.proofs.Acceptance as A
-use Rattle.limit_laws.proofs.Acceptance.{span-accepted}
+use Rattle.value_laws.proofs.Acceptance as A
+use Rattle.value_laws.proofs.Acceptance.{span-accepted}
 use Rattle.demand_1_2.specs.Demand2.{FullSpan, SpanWith}
 use Rattle.demand_1_2.proofs.Represented.{le-up, pres, accepted-up}
 

@@ -1,12 +1,12 @@
--- What each `return` of the estimate and of the evaluation answers, by the tests that led there and by what one pass
--- gathered.
+-- What each `return` of the estimate and of the evaluation answers, by the tests that led there and by what was
+-- gathered: used values are the lowest reading and their distances from it.
 -- Assumes nothing.
 use mathlib.Core.Bool.{Bool, true, false, not, cond}
 use mathlib.Core.List.{List}
 use mathlib.Core.Logic.{⊎-elim}
-use mathlib.Core.Path.{_≡_, sym, ap, _∙_}
+use mathlib.Core.Path.{_≡_, refl, sym, ap, ap₂, _∙_}
 use Prim.Native.Nat.{ℕ, _+_, _*_, _-_, _/_, _≤_, _<_}
-use native.Mathlib.Nat.{mul-le-mul-left, mul-comm, pos-of-ne-zero}
+use native.Mathlib.Nat.{mul-le-mul, mul-le-mul-left, mul-comm, add-mul, add-comm, add-mul-div-right, pos-of-ne-zero}
 use native.Mathlib.Omega.{arith}
 use borrow.Author.Tests.{eq-eqb, ne-eqb}
 use lib.ListN.{length}
@@ -15,50 +15,30 @@ use Rattle.arithmetic.proofs.Bools.{both-ways}
 use Rattle.arithmetic.proofs.Counting.{count-le, count-not}
 use Rattle.arithmetic.specs.Naturals.{down, up, total}
 use Rattle.arithmetic.proofs.Shift.{up-down}
-use Rattle.arithmetic.proofs.Sums.{total-ext, total-add, total-scale, count-total}
+use Rattle.arithmetic.proofs.Sums.{total-ext, total-add, total-scale, total-const, count-total}
 use Rattle.arithmetic.specs.Words.{twoTo31, twoTo32}
 use Rattle.model.specs.Ensemble.{maxCabinets}
 use Rattle.model.specs.Steps.{mean, usedValue}
 use Rattle.round_laws.specs.Naturals.{average-nat, median-nat, midpoint-nat, estimate-nat, mean-nat}
 use Rattle.round_laws.proofs.Shifted.{estimate-shifted, value-shifted}
-use Rattle.held.specs.Held.{presentIn, valueAt, readingsIn, unfit}
+use Rattle.value_laws.proofs.Estimates.{Between, estimate-within}
+use Rattle.value_laws.proofs.Means.{mean-shift, mean-upper}
+use Rattle.held.specs.Held.{presentIn, valueAt, readingsIn}
 use Rattle.held.proofs.Held.{fit-intro}
 use Rattle.means.specs.Means.{floorMean, nearestMean}
-use Rattle.means.proofs.Means.{summable-intro, floor-is, nearest-is}
-use Rattle.selection.specs.Order.{numberedAt, numberedOf}
-use Rattle.summaries.specs.Summaries.{usedAt, presentCount, Summarizes, Fitting, Gathers}
+use Rattle.means.proofs.Means.{floor-is, nearest-is}
+use Rattle.selection.specs.Order.{numberedOf}
+use Rattle.summaries.specs.Summaries.{usedAt, presentCount, mostApart, distanceAt, ungathered, Summarizes, Fitting, Gathers}
 use Rattle.summaries.specs.declared.Summary.{Summary}
-use Rattle.summaries.proofs.Fits.{fitting}
+use Rattle.summaries.proofs.Gathering.{distances-small, numbers-sum}
 use Rattle.estimates.specs.Values.{estimateOfHeld, meanIn, estimateAt}
 use Rattle.estimates.specs.Values.{nothing, evaluatedOf}
 use Rattle.estimates.specs.declared.Estimated.{Estimated}
 
 module _ (marks values : List ℕ) where
-  fits : Fitting marks values → unfit (length marks) (length values) ≡ false
-  fits f = fit-intro (length marks) (length values) (f .few) (f .even)
-
-  evaluate-unfit : (kind : ℕ) → unfit (length marks) (length values) ≡ true → nothing ≡ evaluatedOf kind marks values
-  unfolding evaluatedOf
-  evaluate-unfit kind t = rw t
-
-  -- what replaces each missing reading is added once for each
-  total-used :
-      (e : ℕ)
-      → total (usedAt marks values e) (length marks)
-      ≡ total (usedAt marks values 0) (length marks) + (length marks - presentCount marks) * e
-  total-used e =
-      let n = length marks in
-      let absent : ℕ → Bool = λ i. not (presentIn marks i) in
-      let some : count absent n ≡ n - presentCount marks = omega (arith, count-not (presentIn marks) n) in
-      total-ext (usedAt marks values e) (λ i. usedAt marks values 0 i + bit (absent i) * e) n
-      (λ i _. one (presentIn marks i) (valueAt values i))
-      ∙ total-add (usedAt marks values 0) (λ i. bit (absent i) * e) n
-      ∙ ap (λ (x : ℕ). total (usedAt marks values 0) n + x)
-      (total-scale (λ i. bit (absent i)) e n ∙ ap (λ (x : ℕ). x * e) (sym (count-total absent n) ∙ some))
-    where
-      one : (b : Bool) (v : ℕ) → cond b v e ≡ cond b v 0 + bit (not b) * e
-      one true v = omega arith
-      one false v = omega arith
+  -- how many are missing
+  absent-count : count (λ i. not (presentIn marks i)) (length marks) ≡ length marks - presentCount marks
+  absent-count = omega (arith, count-not (presentIn marks) (length marks))
 
   -- document 01's estimate and mean, moved up, are those of the naturals
   module _ (kind : ℕ) (some : 0 < presentCount marks) where
@@ -85,30 +65,86 @@ module _ (marks values : List ℕ) where
         ∙ up-down twoTo31 (mean-nat n (total (usedAt marks values e) n))
 
   module _ (fit : Fitting marks values) (r : Summary) (gathered : Summarizes r marks values) where
+    -- the widest distance
+    abbrev pub wide : ℕ
+    wide = r .high - r .low
+
+    wide-most : wide ≤ mostApart
+    wide-most = omega (arith, gathered .apart)
+
+    some-present : 0 < presentCount marks
+    some-present = omega (arith, gathered .counted, gathered .some)
+
     pub count-few : r .count ≤ length marks
     count-few = omega (arith, gathered .counted, count-le (presentIn marks) (length marks))
 
-    -- what replaces the missing readings
-    pub replaced-small :
-        (e : ℕ) → e < twoTo32 → (length marks - r .count) * e ≤ (twoTo32 - 1) * (length marks - r .count)
-    replaced-small e l =
-        let m : e ≤ twoTo32 - 1 = omega arith in
-        let missing = length marks - r .count in
-        omega (arith, mul-comm missing (twoTo32 - 1), mul-le-mul-left missing m)
+    pub has-some : length marks ≡ 0 → ⊥
+    has-some z = omega (arith, count-few, gathered .some)
 
-    pub used-small : (e : ℕ) → e < twoTo32 → r .sum + (length marks - r .count) * e ≤ (twoTo32 - 1) * length marks
-    used-small e l = omega (arith, count-few, gathered .small, replaced-small e l)
+    sum-small : r .sum ≤ r .count * wide
+    sum-small =
+        let l = distances-small marks values (r .low) (r .high) (gathered .least) (gathered .greatest) in
+        let c = ap (λ (k : ℕ). k * wide) (gathered .counted) in
+        omega (arith, gathered .added)
 
-    module _ (kind : ℕ) (some : 0 < r .count) where
-      some-present : 0 < presentCount marks
-      some-present = omega (arith, gathered .counted)
+    total-present : total (usedAt marks values 0) (length marks) ≡ r .sum + r .low * r .count
+    total-present =
+        numbers-sum marks values (r .low) (r .high) (gathered .least) (gathered .greatest)
+        ∙ ap₂ (λ (x y : ℕ). x + y) (sym (gathered .added))
+        (ap (λ (k : ℕ). k * r .low) (sym (gathered .counted)) ∙ mul-comm (r .count) (r .low))
 
-      pub estimate-average : kind ≡ 0 → (a : ℕ) → a ≡ floorMean (r .count) (r .sum) → a ≡ estimateAt kind marks values
+    -- what replaces each missing reading adds its distance once for each
+    total-used :
+        (e : ℕ) → r .low ≤ e
+        → total (usedAt marks values e) (length marks)
+        ≡ r .sum + (length marks - r .count) * (e - r .low) + r .low * length marks
+    total-used e l =
+        let n = length marks in
+        let absent : ℕ → Bool = λ i. not (presentIn marks i) in
+        total-ext (usedAt marks values e) (λ i. distanceAt marks values (r .low) i + bit (absent i) * (e - r .low) + r .low) n
+        (λ i k. one (presentIn marks i) (valueAt values i) (gathered .least i k))
+        ∙ total-add (λ i. distanceAt marks values (r .low) i + bit (absent i) * (e - r .low)) (λ _. r .low) n
+        ∙ ap₂ (λ (x y : ℕ). x + y)
+        (total-add (distanceAt marks values (r .low)) (λ i. bit (absent i) * (e - r .low)) n
+        ∙ ap₂ (λ (x y : ℕ). x + y) (sym (gathered .added))
+        (total-scale (λ i. bit (absent i)) (e - r .low) n
+        ∙ ap (λ (x : ℕ). x * (e - r .low))
+        (sym (count-total absent n) ∙ absent-count ∙ ap (λ (k : ℕ). n - k) (sym (gathered .counted)))))
+        (total-const (r .low) n ∙ mul-comm n (r .low))
+      where
+        one :
+            (b : Bool) (v : ℕ) → (b ≡ true → r .low ≤ v)
+            → cond b v e ≡ cond b (v - r .low) 0 + bit (not b) * (e - r .low) + r .low
+        one true v h = omega (arith, h refl)
+        one false v h = omega (arith, l)
+
+    module _ (kind : ℕ) where
+      -- the estimate lies between the lowest and the highest
+      pub between : Between (r .low) (r .high) (estimateAt kind marks values)
+      unfolding estimateAt
+      between =
+          estimate-within (presentIn marks) (length marks) (valueAt values) some-present (r .low) (r .high)
+          (gathered .least)
+          (gathered .greatest)
+          twoTo31
+          kind
+
+      -- where an estimate is so far above the lowest
+      above : (a : ℕ) → r .low + a ≡ estimateAt kind marks values → a ≡ estimateAt kind marks values - r .low
+      above a e = omega (arith, e)
+
+      average-due :
+          kind ≡ 0 → (a : ℕ) → a ≡ floorMean (r .count) (r .sum) → r .low + a ≡ estimateAt kind marks values
       unfolding estimateAt estimate-nat average-nat
-      estimate-average e a q =
-          let few : r .count ≤ maxCabinets = omega (arith, count-few, fit .few) in
-          rw (eq-eqb kind 0 e, ← gathered .counted, ← gathered .added)
-          (q ∙ floor-is (r .count) (r .sum) (summable-intro (r .count) (r .sum) some few (gathered .small)))
+      average-due e a q =
+          rw (eq-eqb kind 0 e, ← gathered .counted, total-present)
+          (ap (λ (k : ℕ). r .low + k) (q ∙ sym (floor-is (r .count) (r .sum) (λ z. omega (arith, gathered .some, z))))
+          ∙ add-comm (r .low) (r .sum / r .count)
+          ∙ sym (add-mul-div-right (r .sum) (r .low) (gathered .some)))
+
+      pub estimate-average :
+          kind ≡ 0 → (a : ℕ) → a ≡ floorMean (r .count) (r .sum) → a ≡ estimateAt kind marks values - r .low
+      estimate-average e a q = above a (average-due e a q)
 
       pub estimate-median :
           (kind ≡ 0 → ⊥)
@@ -118,49 +154,76 @@ module _ (marks values : List ℕ) where
           → a ≡ estimateAt kind marks values
       unfolding estimateAt estimate-nat median-nat numberedOf
       estimate-median d e a q =
-          rw (ne-eqb kind 0 d, eq-eqb kind 1 e, ← gathered .counted) (rw (fits fit) at q)
+          rw (ne-eqb kind 0 d, eq-eqb kind 1 e, ← gathered .counted)
+          (rw (fit-intro (length marks) (length values) (fit .few) (fit .even)) at q)
+
+      midpoint-due :
+          (kind ≡ 0 → ⊥) → (kind ≡ 1 → ⊥) → r .low + (r .high - r .low) / 2 ≡ estimateAt kind marks values
+      unfolding estimateAt estimate-nat midpoint-nat
+      midpoint-due d e =
+          rw (ne-eqb kind 0 d, ne-eqb kind 1 e, ← gathered .lowest, ← gathered .highest)
+          (omega (arith, gathered .ordered))
 
       pub estimate-midpoint :
-          (kind ≡ 0 → ⊥) → (kind ≡ 1 → ⊥) → (r .low + r .high) / 2 ≡ estimateAt kind marks values
-      unfolding estimateAt estimate-nat midpoint-nat
-      estimate-midpoint d e =
-          rw (ne-eqb kind 0 d, ne-eqb kind 1 e, ← gathered .lowest some-present, ← gathered .highest some-present)
+          (kind ≡ 0 → ⊥) → (kind ≡ 1 → ⊥) → (r .high - r .low) / 2 ≡ estimateAt kind marks values - r .low
+      estimate-midpoint d e = above ((r .high - r .low) / 2) (midpoint-due d e)
 
-    evaluate-none : (kind : ℕ) → r .count ≡ 0 → nothing ≡ evaluatedOf kind marks values
-    unfolding evaluatedOf
-    evaluate-none kind e = rw (fits fit, eq-eqb (presentCount marks) 0 (sym (gathered .counted) ∙ e))
+      -- the sum of the distances of all used values
+      module _ (a : ℕ) (is : a ≡ estimateAt kind marks values - r .low) where
+        estimate-is : r .low + a ≡ estimateAt kind marks values
+        estimate-is = omega (arith, is, between .low)
 
-    pub evaluate-some :
-        (kind : ℕ)
-        → (r .count ≡ 0 → ⊥)
-        → (e v : ℕ)
-        → e < twoTo32
-        → e ≡ estimateAt kind marks values
-        → v ≡ nearestMean (length marks) (r .sum + (length marks - r .count) * e)
-        → _≡_ {A = Estimated} (record { count = r .count; estimate = e; value = v }) (evaluatedOf kind marks values)
-    unfolding evaluatedOf
-    evaluate-some kind d e v small p q =
-        let n = length marks in
-        let used = r .sum + (n - r .count) * e in
-        let some : 0 < presentCount marks = pos-of-ne-zero (λ z. d (gathered .counted ∙ z)) in
-        let has : 0 < n = omega (arith, count-le (presentIn marks) n) in
-        let due : v ≡ mean-nat n used =
-        q ∙ nearest-is n used (summable-intro n used has (fit .few) (used-small e small)) in
-        rw (
-          fits fit,
-          ne-eqb (presentCount marks) 0 (λ z. d (gathered .counted ∙ z)),
-          estimate-moved kind some,
-          value-moved kind some,
-          total-used (estimateAt kind marks values),
-          due,
-          p,
-          gathered .counted,
-          gathered .added,
-        )
+        pub estimate-most : r .low + a ≤ r .high
+        estimate-most = omega (arith, estimate-is, between .high)
 
-  -- nothing is counted: the lists do not fit, or no reading is present
-  pub evaluate-empty : (kind : ℕ) (r : Summary) → Gathers r marks values → r .count ≡ 0
-      → nothing ≡ evaluatedOf kind marks values
+        pub sum-most : r .sum + (length marks - r .count) * a ≤ length marks * wide
+        sum-most =
+            let l : a ≤ wide = omega (arith, estimate-most) in
+            let replaced = mul-le-mul-left (length marks - r .count) l in
+            let both = add-mul (r .count) (length marks - r .count) wide in
+            let all : r .count + (length marks - r .count) ≡ length marks = omega (arith, count-few) in
+            let scaled = ap (λ (k : ℕ). k * wide) all in
+            omega (arith, sum-small)
+
+        -- which fits in 32 bits
+        pub sum-fits : length marks * wide < twoTo32
+        sum-fits =
+            let l = mul-le-mul {n₂ = maxCabinets} {m₂ = mostApart} (fit .few) wide-most in
+            omega arith
+
+        pub value-most :
+            (v : ℕ) → v ≡ nearestMean (length marks) (r .sum + (length marks - r .count) * a) → r .low + v ≤ r .high
+        value-most v q =
+            let used = r .sum + (length marks - r .count) * a in
+            let l = mean-upper (length marks) (pos-of-ne-zero has-some) used wide sum-most in
+            let d = nearest-is (length marks) used has-some in
+            omega (arith, q, gathered .ordered)
+
+        pub evaluate-some :
+            ungathered marks values ≡ false
+            → (v : ℕ)
+            → v ≡ nearestMean (length marks) (r .sum + (length marks - r .count) * a)
+            → _≡_ {A = Estimated} (record { count = r .count; estimate = r .low + a; value = r .low + v })
+            (evaluatedOf kind marks values)
+        unfolding evaluatedOf
+        evaluate-some f v q =
+            let n = length marks in
+            let e = estimateAt kind marks values in
+            let used = r .sum + (n - r .count) * a in
+            let due : r .low + v ≡ mean-nat n (total (usedAt marks values e) n) =
+            ap (λ (k : ℕ). r .low + k) (q ∙ sym (nearest-is n used has-some))
+            ∙ add-comm (r .low) (mean-nat n used)
+            ∙ sym (mean-shift n (pos-of-ne-zero has-some) used (r .low))
+            ∙ ap (λ (k : ℕ). mean-nat n (r .sum + (n - r .count) * k + r .low * n)) is
+            ∙ ap (mean-nat n) (sym (total-used e (between .low))) in
+            rw (f, estimate-moved kind some-present, value-moved kind some-present, due, estimate-is, gathered .counted)
+
+  -- nothing is counted
+  pub evaluate-empty :
+      (kind : ℕ) (r : Summary) → Gathers r marks values → r .count ≡ 0 → nothing ≡ evaluatedOf kind marks values
+  unfolding evaluatedOf
   evaluate-empty kind r g e =
-      ⊎-elim (evaluate-unfit kind) (λ f. evaluate-none (fitting marks values f) r (g .fit f) kind e)
-      (both-ways (unfit (length marks) (length values)))
+      ⊎-elim (λ t. rw t) (λ f. absurd (none (g .all f .1))) (both-ways (ungathered marks values))
+    where
+      none : Summarizes r marks values → ⊥
+      none s = omega (arith, s .some, e)

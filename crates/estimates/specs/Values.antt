@@ -2,25 +2,22 @@
 -- two lists hold: a list of marks, and a list of naturals that are ticks moved up by 2^31.
 --   estimateOfHeld        document 01's estimate of the present readings
 --   meanIn                document 01's mean of the readings, the missing ones replaced
---   nothing, evaluatedOf  what `evaluate` gives: all 0 where none is present, there are more than 64 readings, or the
---                         lists are not equally long
+--   nothing, evaluatedOf  what `evaluate` gives: all 0 where none is present, two lie farther apart than twice the widest
+--                         span, there are more than 64 readings, or the lists are not equally long
 -- What the function below it gives, over naturals:
 --   estimateAt            the estimate of the present readings
 use mathlib.Core.Bool.{cond}
 use mathlib.Core.List.{List}
-use mathlib.Core.Path.{_≡_}
-use Prim.Native.Nat.{ℕ, _*_, _-_, _≤_, _<_}
-use lib.Dec.{eqb}
+use Prim.Native.Nat.{ℕ}
 use lib.IntN.{ℤ}
 use lib.ListN.{length}
-use Rattle.arithmetic.specs.Counting.{count, sum}
-use Rattle.arithmetic.specs.Naturals.{up, total}
-use Rattle.arithmetic.specs.Words.{twoTo31, twoTo32}
+use Rattle.arithmetic.specs.Counting.{sum}
+use Rattle.arithmetic.specs.Naturals.{up}
+use Rattle.arithmetic.specs.Words.{twoTo31}
 use Rattle.model.specs.Steps.{estimate, mean, usedValue}
-use Rattle.model.specs.Ensemble.{maxCabinets}
-use Rattle.round_laws.specs.Naturals.{estimate-nat, used-nat}
-use Rattle.held.specs.Held.{presentIn, valueAt, readingsIn, unfit}
-use Rattle.summaries.specs.Summaries.{presentCount}
+use Rattle.round_laws.specs.Naturals.{estimate-nat}
+use Rattle.held.specs.Held.{presentIn, valueAt, readingsIn}
+use Rattle.summaries.specs.Summaries.{presentCount, ungathered}
 use Rattle.estimates.specs.declared.Estimated.{Estimated}
 
 -- "Estimate, over accepted readings only": those that are present in the lists
@@ -38,13 +35,12 @@ nothing = record { count = 0; estimate = 0; value = 0 }
 -- the estimate and the mean are moved up by 2^31
 unfoldable pub evaluatedOf : ℕ → List ℕ → List ℕ → Estimated
 evaluatedOf kind marks values =
-    cond (unfit (length marks) (length values)) nothing
-    (cond (eqb (presentCount marks) 0) nothing
+    cond (ungathered marks values) nothing
     (record {
       count = presentCount marks;
       estimate = up twoTo31 (estimateOfHeld kind marks values);
       value = up twoTo31 (meanIn marks values (estimateOfHeld kind marks values));
-    }))
+    })
 
 -- ---- the function below it
 

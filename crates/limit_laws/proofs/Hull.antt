@@ -17,8 +17,8 @@ use Rattle.arithmetic.proofs.Counting.{count-mono, count-not, count-some}
 use Rattle.arithmetic.specs.Naturals.{total}
 use Rattle.arithmetic.proofs.Sums.{count-total}
 use Rattle.round_laws.proofs.Natural.{accepted-present}
-use Rattle.limit_laws.proofs.Acceptance.{insideSpan, inside-low, inside-high, NatSpan, accepted-nat-span}
-use Rattle.limit_laws.proofs.Counts.{count-overlap}
+use Rattle.value_laws.proofs.Acceptance.{insideSpan, inside-low, inside-high, NatSpan, accepted-nat-span}
+use Rattle.value_laws.proofs.Counts.{count-overlap}
 use Rattle.value_laws.proofs.Estimates.{Between, used-within}
 use Rattle.limit_laws.proofs.Settled.{Receiver, accepts, usedBy, used-accepted, badCount, GoodAlike, Spread}
 use Rattle.limit_laws.proofs.Settled.{ReadsSome}

@@ -27,7 +27,7 @@ use Rattle.value_laws.proofs.Means.{mean-shift}
 use Rattle.value_laws.proofs.Extremes.{LeastOf, GreatestOf, least, greatest}
 use Rattle.limit_laws.proofs.Means.{rise, fall, mean-rise, mean-fall, fall-rise, rise-ceil}
 use Rattle.limit_laws.proofs.Means.{total-close, mean-stray}
-use Rattle.limit_laws.proofs.Acceptance.{insideSpan, inside-intro, NatSpan, span-accepted}
+use Rattle.value_laws.proofs.Acceptance.{insideSpan, inside-intro, NatSpan, span-accepted}
 use Rattle.value_laws.proofs.Ranks.{Numbered}
 use Rattle.value_laws.proofs.Estimates.{Between, used-within, median-numbered}
 use Rattle.limit_laws.proofs.Settled.{Receiver, accepts, estimateBy, usedBy, valueBy, used-accepted}

@@ -11,8 +11,8 @@ use borrow.Author.Tests.{leb-true, leb-false, lt-leb, lt-ltb}
 use Rattle.arithmetic.specs.Counting.{count}
 use Rattle.arithmetic.proofs.Bools.{both-ways, and-left, and-right, and-intro}
 use Rattle.arithmetic.proofs.Counting.{count-mono, count-not}
-use Rattle.limit_laws.proofs.Acceptance.{insideSpan, inside-low, inside-high, NatSpan}
-use Rattle.limit_laws.proofs.Counts.{count-split}
+use Rattle.value_laws.proofs.Acceptance.{insideSpan, inside-low, inside-high, NatSpan}
+use Rattle.value_laws.proofs.Counts.{count-split}
 use Rattle.value_laws.proofs.Ranks.{Numbered}
 
 -- the one accepts t and the other does not

@@ -1,11 +1,10 @@
--- Loops that count or add up the indices below n, or store a table, one at a time.
+-- Loops that count indices below n, or store a table, one at a time; sums of one index more.
 --   Counts p n c t   c counts those below t that pass p
---   Adds f n s t     s is the sum of f below t, where f is below 2^32
 -- Assumes nothing.
 use mathlib.Core.Bool.{Bool, true, false}
 use mathlib.Core.List.{List, [], _∷_, _++_}
 use mathlib.Core.Path.{_≡_, refl, sym, ap, ap₂, _∙_}
-use Prim.Native.Nat.{ℕ, _+_, _*_, _≤_, _<_, zero-le}
+use Prim.Native.Nat.{ℕ, _+_, _≤_, _<_, zero-le}
 use native.Mathlib.Nat.{le-refl, le-antisymm}
 use native.Mathlib.Numerals.{add-one}
 use native.Mathlib.Omega.{arith}
@@ -16,7 +15,6 @@ use Rattle.arithmetic.specs.Writing.{table, overwrite}
 use Rattle.arithmetic.proofs.Writing.{length-table, overwrite-snoc}
 use Rattle.arithmetic.proofs.Counting.{count-le}
 use Rattle.arithmetic.specs.Naturals.{total}
-use Rattle.arithmetic.specs.Words.{twoTo32}
 
 -- a flag as a number
 pub flag : (b : Bool) → boolByte b ≡ bit b
@@ -57,28 +55,6 @@ module _ (p : ℕ → Bool) (n : ℕ) where
 
     pub count-all : n ≤ t → c ≡ count p n
     count-all h = let e : t ≡ n = omega (arith, so-far .upTo) in rw (← e) (so-far .exact)
-
-pub record Adds (f : ℕ → ℕ) (n s t : ℕ) : Type 0 where
-  pub upTo : t ≤ n
-  pub exact : s ≡ total f t
-  pub small : s ≤ 4294967295 * t
-
-module _ (f : ℕ → ℕ) (n : ℕ) where
-  pub add-none : Adds f n 0 0
-  unfolding total
-  add-none = record { upTo = zero-le; exact = refl; small = zero-le }
-
-  module _ {s t : ℕ} (so-far : Adds f n s t) where
-    pub add-on : t < n → (v : ℕ) → v ≡ f t → v < twoTo32 → Adds f n (s + v) (t + 1)
-    add-on h v e l =
-        record {
-          upTo = omega arith;
-          exact = ap₂ (λ (a b : ℕ). a + b) (so-far .exact) e ∙ sym (total-next f t);
-          small = omega (arith, so-far .small);
-        }
-
-    pub add-all : n ≤ t → s ≡ total f n
-    add-all h = let e : t ≡ n = omega (arith, so-far .upTo) in rw (← e) (so-far .exact)
 
 module _ {A : Type 0} where
   -- a table stored entry by entry: nothing yet, the next entry, all of them

@@ -1,2 +1,1 @@
-pub mod Dividing
 pub mod Means

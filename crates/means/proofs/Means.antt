@@ -1,70 +1,53 @@
--- What numbers that can have a sum are; and their means, which are numbers of 32 bits too.
+-- Half of a divisor left; the mean to the nearest is at most the sum; and the means of some numbers.
 -- Assumes nothing.
 use mathlib.Core.Bool.{Bool, true, false}
-use mathlib.Core.Path.{_≡_, sym, _∙_}
-use Prim.Native.Nat.{ℕ, _+_, _*_, _-_, _/_, _≤_, _<_}
+use mathlib.Core.Path.{_≡_, refl}
+use Prim.Native.Nat.{ℕ, _+_, _*_, _-_, _/_, _%_, _≤_, _<_}
+use native.Mathlib.Nat.{div-add-mod, mul-le-mul, one-mul, le-refl}
 use native.Mathlib.Omega.{arith}
-use borrow.Author.Tests.{lt-ltb, le-leb, ltb-true, leb-true}
-use lib.Dec.{leb, ltb}
-use Rattle.arithmetic.proofs.Bools.{and-left, and-right, and-intro}
-use Rattle.arithmetic.specs.Words.{twoTo32}
-use Rattle.model.specs.Ensemble.{maxCabinets}
+use borrow.Author.Tests.{le-leb, leb-true, eq-eqb, ne-eqb}
+use lib.Dec.{leb}
+use Rattle.arithmetic.specs.Counting.{bit}
+use Rattle.arithmetic.proofs.Bools.{iff-eq}
 use Rattle.round_laws.specs.Naturals.{mean-nat}
-use Rattle.means.specs.Means.{summable, floorMean, nearestMean}
-use Rattle.means.proofs.Dividing.{div-less}
+use Rattle.value_laws.proofs.Means.{mean-split}
+use Rattle.means.specs.Means.{floorMean, nearestMean}
+
+-- half of n or more is left
+pub half-left : (n rest : ℕ) → rest < n → leb (n - rest) rest ≡ leb n (2 * rest)
+half-left n rest l =
+    iff-eq (leb (n - rest) rest) (leb n (2 * rest))
+    (λ e. le-leb n (2 * rest) (omega (arith, leb-true (n - rest) rest e)))
+    (λ e. le-leb (n - rest) rest (omega (arith, leb-true n (2 * rest) e)))
+
+module _ (n s : ℕ) (some : 0 < n) where
+  -- it is at most the sum: where it is rounded up, something is left
+  pub mean-small : mean-nat n s ≤ s
+  mean-small = rw (← mean-split n some s) (go (leb n (2 * (s % n))) refl)
+    where
+      at-least : s / n ≤ n * (s / n)
+      at-least = omega (arith, one-mul (s / n), mul-le-mul {n₂ = n} {m₂ = s / n} some (le-refl (s / n)))
+
+      go : (b : Bool) → leb n (2 * (s % n)) ≡ b → s / n + bit b ≤ s
+      go true e =
+          let h = leb-true n (2 * (s % n)) e in
+          omega (arith, div-add-mod s n, at-least)
+      go false e = omega (arith, div-add-mod s n, at-least)
 
 module _ (n s : ℕ) where
-  pub summable-intro : 0 < n → n ≤ maxCabinets → s ≤ (twoTo32 - 1) * n → summable n s ≡ true
-  summable-intro h l m =
-      and-intro (lt-ltb 0 n h) (and-intro (le-leb n maxCabinets l) (le-leb s ((twoTo32 - 1) * n) m))
+  pub floor-none : n ≡ 0 → 0 ≡ floorMean n s
+  unfolding floorMean
+  floor-none e = rw (eq-eqb n 0 e)
 
-  -- where the test said that they are
-  module _ {b : Bool} (tested : b ≡ summable n s) (passed : b ≡ true) where
-    pub passes : summable n s ≡ true
-    passes = sym tested ∙ passed
+  pub nearest-none : n ≡ 0 → 0 ≡ nearestMean n s
+  unfolding nearestMean
+  nearest-none e = rw (eq-eqb n 0 e)
 
-    rest : leb n maxCabinets ≡ true × leb s ((twoTo32 - 1) * n) ≡ true
-    rest =
-        let r = and-right (ltb 0 n) _ passes in
-        (and-left (leb n maxCabinets) _ r, and-right (leb n maxCabinets) _ r)
-
-    pub some : 0 < n
-    some = ltb-true 0 n (and-left (ltb 0 n) _ passes)
-
-    pub few : n ≤ maxCabinets
-    few = leb-true n maxCabinets (rest .0)
-
-    pub small : s ≤ (twoTo32 - 1) * n
-    small = leb-true s ((twoTo32 - 1) * n) (rest .1)
-
-    pub floor-fits : s / n < twoTo32
-    floor-fits = div-less s twoTo32 n some (omega (arith, some, small))
-
-    pub nearest-fits : (s + s + n) / (2 * n) < twoTo32
-    nearest-fits = div-less (s + s + n) twoTo32 (2 * n) (omega (arith, some)) (omega (arith, some, small))
-
-    pub floor-due : (a : ℕ) → a ≡ s / n → a ≡ floorMean n s
+  module _ (some : n ≡ 0 → ⊥) where
+    pub floor-is : s / n ≡ floorMean n s
     unfolding floorMean
-    floor-due a e = rw passes e
+    floor-is = rw (ne-eqb n 0 some)
 
-    pub nearest-due : (a : ℕ) → a ≡ (s + s + n) / (2 * n) → a ≡ nearestMean n s
-    unfolding nearestMean mean-nat
-    nearest-due a e = rw passes e
-
-  module _ {b : Bool} (tested : b ≡ summable n s) (failed : b ≡ false) where
-    pub floor-none : 0 ≡ floorMean n s
-    unfolding floorMean
-    floor-none = rw (sym tested ∙ failed)
-
-    pub nearest-none : 0 ≡ nearestMean n s
+    pub nearest-is : mean-nat n s ≡ nearestMean n s
     unfolding nearestMean
-    nearest-none = rw (sym tested ∙ failed)
-
--- the means of numbers that can have the sum
-pub floor-is : (n s : ℕ) → summable n s ≡ true → floorMean n s ≡ s / n
-unfolding floorMean
-floor-is n s e = rw e
-
-pub nearest-is : (n s : ℕ) → summable n s ≡ true → nearestMean n s ≡ mean-nat n s
-unfolding nearestMean
-nearest-is n s e = rw e
+    nearest-is = rw (ne-eqb n 0 some)

@@ -3,43 +3,41 @@
 -- Assumes nothing.
 use mathlib.Core.Bool.{Bool, true, false, cond, _&&_}
 use mathlib.Core.List.{List}
-use mathlib.Core.Logic.{⊎-elim}
 use mathlib.Core.Option.{Option, none, some}
 use mathlib.Core.Path.{_≡_, refl, sym, ap, ap₂, _∙_, subst}
 use Prim.Native.Nat.{ℕ, zero, suc, _+_, _*_, _-_, _≤_, _<_}
 use native.Mathlib.Nat.{add-mul, mul-assoc}
 use native.Mathlib.Omega.{arith}
-use borrow.Author.Tests.{lt-ltb, le-ltb, eqb-true}
+use borrow.Author.Tests.{lt-ltb, le-ltb}
 use lib.Arith.{digits-lt}
-use lib.Dec.{eqb, ltb, lit≤}
+use lib.Dec.{eqb, lit≤}
 use lib.IntN.{ℤ}
 use lib.Signed.{mag}
 use lib.ListN.{length, getD}
-use mir.Syntax.{w32}
-use mir.Val.{SFits}
 use Rattle.arithmetic.specs.Counting.{lowest}
 use Rattle.arithmetic.specs.Naturals.{down, up}
 use Rattle.arithmetic.specs.Words.{twoTo31}
 use Rattle.arithmetic.specs.Writing.{table, overwrite}
-use Rattle.arithmetic.proofs.Bools.{both-ways, clash}
+use Rattle.arithmetic.proofs.Bools.{clash}
 use Rattle.arithmetic.proofs.Counting.{lowest-ext, lowest-found, lowest-missed}
 use Rattle.arithmetic.proofs.Shift.{down-up}
 use Rattle.arithmetic.proofs.Writing.{length-table, getD-table, getD-overwrite}
 use Rattle.model.specs.declared.Settings.{Settings}
-use Rattle.model.specs.Ensemble.{Reading, present, Readings}
+use Rattle.model.specs.Ensemble.{present}
 use Rattle.model.specs.RoundSheet.{byte, word, settingsAt}
 use Rattle.model.specs.Planner.{maxRounds, withWindow}
 use Rattle.model.specs.Steps.{Round, roundOf}
-use Rattle.round_laws.proofs.Local.{EqualBelow, EqualRounds, round-local}
+use Rattle.round_laws.proofs.Local.{EqualRounds, round-local}
 use Rattle.held.specs.Held.{entryReading}
 use Rattle.hearing.specs.Heard.{heardFrom}
 use Rattle.station_rounds.specs.Rounds.{heardRound, meetsTooMany, nextValue, placeOf, firstRefused}
-use Rattle.run.specs.Run.{IsReading, Station, heard, stateAfter}
-use Rattle.trace.specs.Trace.{traceHeaderSize, roundsAt, roleAt, traceEntries, entryNumber, tracedMark, tracedBits, tracedEntry}
+use Rattle.run.specs.Run.{IsReading, Station, heard}
+use Rattle.trace.specs.Trace.{roundsAt, roleAt, entryNumber, tracedMark, tracedBits, tracedEntry}
 use Rattle.trace.specs.Trace.{soundAt, tracedStation, tracedSends}
 use Rattle.trace.specs.Replay.{stateTo, refusedIn}
 use Rattle.run.proofs.Entries.{seen}
-use Rattle.run.proofs.Ready.{plan-settings}
+use Rattle.refusal_laws.proofs.Limits.{Limits}
+use Rattle.run.proofs.Ready.{plan-settings, limits-hold}
 use Rattle.trace.proofs.Traced.{Recorded, traced-start, traced-ready, traced-seen, traced-holds, windowIn, foundIn, replay-refuses}
 use Rattle.playing.specs.Playing.{HeldTo, Playable, below}
 
@@ -85,6 +83,11 @@ module _ (s : List ℕ) (small : (j : ℕ) → byte s j < 256) (ok : Playable s)
     pub planned : stateTo s k .plan .settings ≡ withWindow (settingsAt s) (windowIn s recorded 0 (lit≤ tt) k)
     planned =
         plan-settings st (traced-start s recorded 0 (lit≤ tt)) k (stateTo s k)
+        (traced-ready s recorded 0 (lit≤ tt) k (omega (arith, soon)))
+
+    pub planned-within : Limits (withWindow (settingsAt s) (windowIn s recorded 0 (lit≤ tt) k))
+    planned-within =
+        limits-hold st (traced-start s recorded 0 (lit≤ tt)) k (stateTo s k)
         (traced-ready s recorded 0 (lit≤ tt) k (omega (arith, soon)))
 
     module _ (roles sent readings : List ℕ) (parts : Parts roles sent readings) (held : List ℕ)

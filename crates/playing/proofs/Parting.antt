@@ -3,27 +3,26 @@
 -- Assumes nothing.
 use mathlib.Core.Bool.{true}
 use mathlib.Core.List.{List}
-use mathlib.Core.Path.{_≡_, refl, sym, ap, ap₂, _∙_, subst, subst⁻¹}
-use Prim.Native.Nat.{ℕ, zero, suc, _+_, _*_, _≤_, _<_}
+use mathlib.Core.Path.{_≡_, refl, ap, ap₂, _∙_}
+use Prim.Native.Nat.{ℕ, _+_, _*_, _≤_, _<_}
 use native.Mathlib.Nat.{one-mul, add-mul, mul-le-mul, le-refl}
 use native.Mathlib.Omega.{arith}
 use borrow.Author.Tests.{le-leb, lt-ltb, eq-eqb}
-use lib.Dec.{lit≤}
 use lib.ListN.{length, getD}
 use Rattle.arithmetic.proofs.Bools.{and-intro}
 use Rattle.model.specs.declared.Settings.{Settings}
-use Rattle.model.specs.Ensemble.{maxCabinets}
+use Rattle.model.specs.Ensemble.{maxCabinets, maxWindow}
 use Rattle.model.specs.RoundSheet.{byte, word, settingsAt}
 use Rattle.model.specs.Planner.{withWindow}
 use Rattle.refusal_laws.proofs.Limits.{Limits, limits}
 use Rattle.hearing.specs.Heard.{audible}
 use Rattle.station_rounds.specs.Rounds.{roundFits}
-use Rattle.trace.specs.Trace.{traceHeaderSize, roundsAt, roleAt, traceEntries, tracedMark, tracedBits}
+use Rattle.trace.specs.Trace.{traceHeaderSize, roundsAt, traceEntries}
 use Rattle.trace.specs.Replay.{stateTo}
 use Rattle.trace_parts.specs.Parts.{partFrom}
 use Rattle.trace_parts.proofs.Parts.{part-length, part-at, part-word}
 use Rattle.playing.specs.Playing.{Playable}
-use Rattle.playing.proofs.Hearing.{Parts, planned}
+use Rattle.playing.proofs.Hearing.{Parts, planned, planned-within}
 
 -- a round's entries lie among those of all rounds
 rounds-lie : (k rounds pairs : ℕ) → k < rounds → k * pairs + pairs ≤ rounds * pairs
@@ -58,6 +57,9 @@ module _ (s : List ℕ) (small : (j : ℕ) → byte s j < 256) (ok : Playable s)
 
     faults : c .m ≡ settingsAt s .m
     faults = ap (λ (d : Settings). d .m) settled
+
+    narrow : c .window ≤ maxWindow
+    narrow = rw settled (planned-within s small ok k early .window)
 
     within : Limits (settingsAt s)
     within = limits (settingsAt s) (ok .passes)
@@ -135,7 +137,8 @@ module _ (s : List ℕ) (small : (j : ℕ) → byte s j < 256) (ok : Playable s)
           let f = within .faults in
           rw (roles-long, sent-long, readings-long, h, x, cabinets)
           (and-intro
-          (and-intro (eq-eqb n n refl) (le-leb (c .m) n (rw faults (omega arith))))
+          (and-intro (eq-eqb n n refl)
+          (and-intro (lt-ltb (2 * c .m) n (rw faults (omega arith))) (le-leb (c .window) maxWindow narrow)))
           (and-intro (and-intro (le-leb n maxCabinets (within .cabinets)) (lt-ltb 0 n (within .someCabinet)))
           (and-intro
           (and-intro (and-intro (eq-eqb n n refl) (eq-eqb pairs pairs refl)) (eq-eqb (4 * pairs) (4 * pairs) refl))

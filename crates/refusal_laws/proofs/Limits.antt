@@ -4,17 +4,17 @@
 use mathlib.Core.Bool.{Bool, true, false, cond, _||_}
 use mathlib.Core.Option.{none}
 use mathlib.Core.Path.{_≡_}
-use Prim.Native.Nat.{_+_, _*_, _≤_}
+use Prim.Native.Nat.{ℕ, _+_, _*_, _≤_}
 use native.Mathlib.Nat.{mul-le-mul}
 use native.Mathlib.Omega.{arith}
 use borrow.Author.Tests.{ltb-false, le-ltb, ne-eqb}
 use lib.Dec.{ltb, eqb}
-use Rattle.arithmetic.proofs.Bools.{or-right}
+use Rattle.arithmetic.proofs.Bools.{or-left, or-right}
 use Rattle.model.specs.declared.Settings.{Settings}
 use Rattle.model.specs.RoundSheet.{entryCount, cca}
-use Rattle.model.specs.Refusals.{firstOf, settingsChecks, badCabinets, badFaults, badMethod, badWindow, unknownMethod}
-use Rattle.model.specs.Refusals.{badCabinetsNumber, badFaultsNumber, badMethodNumber, badWindowNumber}
-use Rattle.model.specs.Ensemble.{maxCabinets, maxWindow}
+use Rattle.model.specs.Refusals.{firstOf, settingsChecks, badCabinets, badFaults, badMethod, badWindow, unknownMethod, badSpread, unfitSpread}
+use Rattle.model.specs.Refusals.{badCabinetsNumber, badFaultsNumber, badMethodNumber, badWindowNumber, badSpreadNumber}
+use Rattle.model.specs.Ensemble.{maxCabinets, maxWindow, maxSpread}
 use Rattle.refusal_laws.proofs.Checks.{none-at, when-none}
 
 -- settings within document 01's limits
@@ -51,6 +51,12 @@ module _ (c : Settings) where
       let faults : ltb (c .n) (3 * c .m + 1) ≡ false = le-ltb (c .n) (3 * c .m + 1) (l .faults) in
       let window : ltb maxWindow (c .window) ≡ false = le-ltb maxWindow (c .window) (l .window) in
       rw (some-cabinet, cabinets, faults, l .method, window)
+
+  -- a spread that check 16 passes
+  pub spread-most : (D : ℕ) → badSpread c D ≡ none → D ≤ maxSpread
+  unfolding badSpread
+  spread-most D h =
+      ltb-false maxSpread D (or-left (ltb maxSpread D) _ (when-none (unfitSpread (c .rule) D) badSpreadNumber h))
 
   -- at most 64 × 64 entries
   pub entries-most : c .n ≤ maxCabinets → entryCount c ≤ 4096

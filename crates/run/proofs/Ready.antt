@@ -5,7 +5,7 @@
 use mathlib.Core.Bool.{true}
 use mathlib.Core.Logic.{_⊎_, inl, inr}
 use mathlib.Core.Option.{none}
-use mathlib.Core.Path.{_≡_, refl, sym, ap, _∙_, subst, subst⁻¹}
+use mathlib.Core.Path.{_≡_, refl, ap, _∙_, subst, subst⁻¹}
 use Prim.Native.Nat.{ℕ, zero, suc, _*_, _<_}
 use native.Mathlib.Omega.{arith}
 use mir.Syntax.{w32}
@@ -47,7 +47,7 @@ module _ (st : Station) (begins : Start st) (j : ℕ) (now : State) (ready : Rea
       subst⁻¹ (λ (p : Plan). p .settings ≡ withWindow (st .settings) (p .settings .window)) (ready .plan)
       (settings-after j (planFrom (st .settings) (κ st)))
 
-  limits-hold : Limits c
+  pub limits-hold : Limits c
   limits-hold =
       subst Limits plan-settings
       (subst⁻¹ (λ (p : Plan). Limits (p .settings)) (ready .plan)

@@ -5,21 +5,19 @@ use mathlib.Core.List.{List, _∷_}
 use mathlib.Core.Option.{none, some}
 use mathlib.Core.Path.{_≡_, sym, ap, _∙_}
 use Prim.Native.Nat.{ℕ, _≤_, _<_}
-use borrow.Author.Tests.{lt-ltb, ltb-false}
-use lib.Dec.{ltb}
+use borrow.Author.Tests.{lt-ltb}
 use lib.ListN.{length}
-use Rattle.arithmetic.proofs.Bools.{or-left}
 use Rattle.model.specs.declared.Settings.{Settings}
 use Rattle.model.specs.declared.Refusal.{Refusal}
 use Rattle.model.specs.Ensemble.{maxWindow, maxSpread}
 use Rattle.model.specs.RoundSheet.{settingsAt, entryCount, sheetLength, markAt, bitsAt}
 use Rattle.model.specs.AnswerSheet.{answerLength}
 use Rattle.model.specs.Refusals.{Check, refusal, orNext, firstOf, noRoom, badLength, tooManyFaults, noRoomNumber}
-use Rattle.model.specs.Refusals.{badSpread, unfitSpread, badSpreadNumber, sheetChecks, spreadChecks, entryChecks, rowChecks, settleChecks, arrayChecks}
+use Rattle.model.specs.Refusals.{badSpread, sheetChecks, spreadChecks, entryChecks, rowChecks, settleChecks, arrayChecks}
 use Rattle.model.specs.Calls.{granted, refused, verdict, settleAfter, settleSpread}
 use Rattle.model.specs.Steps.{roundAt}
-use Rattle.refusal_laws.proofs.Checks.{next-none-left, next-none-right, when-none}
-use Rattle.refusal_laws.proofs.Limits.{limits}
+use Rattle.refusal_laws.proofs.Checks.{next-none-left, next-none-right}
+use Rattle.refusal_laws.proofs.Limits.{limits, spread-most}
 use Rattle.sheet_laws.proofs.Checks.{room-pass, settings-passed}
 use Rattle.sheet_laws.proofs.Outcomes.{refused-some, granted-none, granted-same}
 use Rattle.sheet_laws.proofs.Orders.{row-checks, spread-passes, spread-passed, settle-checks}
@@ -84,11 +82,9 @@ module _ (s : List ℕ) (D : ℕ) (answer : List ℕ) where
 
     -- so the span's width fits 32 bits
     pub opened-narrow : (c .window ≤ maxWindow) × (D ≤ maxSpread)
-    unfolding badSpread
     opened-narrow =
-        let fits = when-none (unfitSpread (settingsAt s .rule) D) badSpreadNumber opened-spread in
         let l = limits (settingsAt s) (settings-passed s sizes-pass) in
-        rw opened-settings (l .window, ltb-false maxSpread D (or-left (ltb maxSpread D) _ fits))
+        rw opened-settings (l .window, spread-most (settingsAt s) D opened-spread)
 
     opened-sheet : verdict (firstOf (sheetChecks s)) (settingsAt s) ≡ granted c
     opened-sheet = rw sizes-pass (ap granted (sym opened-settings))

@@ -1,10 +1,10 @@
 -- Agreement on what is held of a sheet's readings is the sheet's round.
 -- Assumes nothing.
-use mathlib.Core.Bool.{Bool, true, false, cond}
+use mathlib.Core.Bool.{Bool, true, false, cond, _||_}
 use mathlib.Core.List.{List}
 use mathlib.Core.Option.{none, some}
 use mathlib.Core.Path.{_≡_, refl, sym, ap, ap₂, _∙_, subst}
-use Prim.Native.Nat.{ℕ, zero, suc, _*_, _≤_, _<_}
+use Prim.Native.Nat.{ℕ, zero, suc, _+_, _*_, _≤_, _<_}
 use native.Mathlib.Nat.{pos-of-ne-zero}
 use native.Mathlib.Omega.{arith}
 use borrow.Author.Tests.{lt-ltb, le-leb, eq-eqb, ne-eqb}
@@ -18,25 +18,26 @@ use Rattle.arithmetic.proofs.Bools.{and-intro}
 use Rattle.arithmetic.proofs.Writing.{length-table}
 use Rattle.model.specs.declared.Refusal.{Refusal}
 use Rattle.model.specs.declared.Settings.{Settings}
-use Rattle.model.specs.Ensemble.{Readings, ticks, quorum, maxCabinets}
+use Rattle.model.specs.Ensemble.{Readings, ticks, quorum, maxCabinets, maxWindow, maxSpread}
 use Rattle.model.specs.RoundSheet.{byte, settingsAt, sheetLength}
 use Rattle.model.specs.AnswerSheet.{answerBytes, answerLength}
 use Rattle.model.specs.Steps.{spanWidth, accepted, estimate, Round, roundOf, roundAt}
 use Rattle.model.specs.Refusals.{Check, refusal, firstOf, rowChecks, tooManyFaults, badSpread, tooManyFaultsNumber}
 use Rattle.model.specs.Calls.{Outcome, granted, refused, verdict, settleAfter, settleSpread}
-use Rattle.refusal_laws.proofs.Limits.{Limits, limits}
+use Rattle.refusal_laws.proofs.Limits.{Limits, limits, spread-most}
 use Rattle.sheet_laws.proofs.Checks.{settings-passed, sheet-length-passed}
 use Rattle.round_laws.specs.Naturals.{shift}
 use Rattle.round_laws.proofs.Local.{EqualBelow, EqualRounds, rounds-trans, answer-local}
 use Rattle.held.proofs.Kept.{Kept}
 use Rattle.held.specs.Held.{heldMark, heldValue, valueAt, presentIn, readingsIn, unfit}
+use Rattle.summaries.specs.Summaries.{farApart}
 use Rattle.estimates.specs.Values.{nothing}
 use Rattle.estimates.specs.declared.Estimated.{Estimated}
 use Rattle.acceptance.specs.Values.{acceptedIn, acceptedCount}
 use Rattle.acceptance.proofs.Spans.{held-present}
 use Rattle.agreement.specs.Values.{markAt, agreedMarks, agreedRound, agreedOf}
 use Rattle.agreement.proofs.Agreeing.{kept-at, kept-present}
-use Rattle.agreement.proofs.Holding.{agreed-is, marks-long, values-long, same-held, counted-is, fit-held}
+use Rattle.agreement.proofs.Holding.{agreed-is, marks-long, values-long, same-held, counted-is, fit-held, near-held}
 use Rattle.agreement.proofs.Rounds.{estimate-back, value-back}
 use Rattle.reception.specs.Receiving.{readingAt, fitting, marksReceived, valuesReceived}
 use Rattle.reception.proofs.Holding.{sheet-kept}
@@ -178,9 +179,19 @@ module _ (s : List ℕ) (D : ℕ) (pass : firstOf (rowChecks s) ≡ none) (sprea
     abbrev answer : Estimated
     answer = record { count = counted; estimate = up twoTo31 (here .estimate); value = up twoTo31 (here .value) }
 
-    agreed-here : a ≡ cond (eqb counted 0) nothing answer
+    -- a span is no wider than the widest
+    narrow : spanWidth own D ≤ maxWindow + maxSpread
+    narrow = omega (arith, within .window, spread-most own D spread)
+
+    near-here : farApart (acceptedIn (spanWidth own D) (quorum own) marks values) (length marks) (valueAt values) ≡ false
+    near-here =
+        near-held own (readingAt s own) kept-here marks values marks-here values-here D (within .cabinets)
+        (omega (arith, within .faults))
+        narrow
+
+    agreed-here : a ≡ cond (eqb counted 0 || false) nothing answer
     unfolding agreedOf
-    agreed-here = h .agrees ∙ rw fit-here
+    agreed-here = h .agrees ∙ rw (fit-here, near-here)
 
     -- where something is counted, the three numbers are those of the round
     agreed-some : (counted ≡ 0 → ⊥) → a ≡ answer

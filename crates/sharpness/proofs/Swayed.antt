@@ -18,9 +18,9 @@ use Rattle.arithmetic.proofs.Counting.{count-mono, count-not}
 use Rattle.arithmetic.proofs.Sums.{total-ext}
 use Rattle.model.specs.RoundSheet.{median}
 use Rattle.round_laws.specs.Naturals.{estimate-nat}
-use Rattle.limit_laws.proofs.Acceptance.{insideSpan, inside-intro, inside-low, inside-high}
-use Rattle.limit_laws.proofs.Acceptance.{NatSpan, accepted-in-span, span-accepted}
-use Rattle.limit_laws.proofs.Counts.{count-split}
+use Rattle.value_laws.proofs.Acceptance.{insideSpan, inside-intro, inside-low, inside-high}
+use Rattle.value_laws.proofs.Acceptance.{NatSpan, accepted-in-span, span-accepted}
+use Rattle.value_laws.proofs.Counts.{count-split}
 use Rattle.value_laws.proofs.Estimates.{median-numbered}
 use Rattle.value_laws.proofs.Ranks.{Numbered}
 use Rattle.limit_laws.proofs.Settled.{Receiver, accepts, estimateBy, usedBy, used-accepted, used-replaced}

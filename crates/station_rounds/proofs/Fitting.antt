@@ -3,23 +3,26 @@
 use mathlib.Core.Bool.{Bool, true, false, _&&_}
 use mathlib.Core.List.{List}
 use mathlib.Core.Path.{_≡_, ap, _∙_}
-use Prim.Native.Nat.{ℕ, _≤_}
-use borrow.Author.Tests.{eqb-true, leb-true}
-use lib.Dec.{leb, eqb}
+use Prim.Native.Nat.{ℕ, _*_, _≤_}
+use borrow.Author.Tests.{eqb-true, leb-true, ltb-true}
+use lib.Dec.{leb, ltb, eqb}
 use lib.ListN.{length}
 use Rattle.arithmetic.specs.Writing.{table, overwrite}
 use Rattle.arithmetic.proofs.Bools.{and-left, and-right}
 use Rattle.model.specs.declared.Settings.{Settings}
-use Rattle.model.specs.Ensemble.{maxCabinets}
+use Rattle.model.specs.Ensemble.{maxCabinets, maxWindow}
 use Rattle.hearing.specs.Heard.{audible}
 use Rattle.hearing.proofs.Audible.{Audible, audible-fits}
 use Rattle.station_rounds.specs.Rounds.{nextValue, roundFits, refusedGiven, nextGiven}
 use Rattle.station_rounds.specs.Settling.{Fits, Left}
 
 module _ (c : Settings) (roles held sent readings next : List ℕ) where
+  abbrev pub planned : Bool
+  planned = ltb (2 * c .m) (length roles) && leb (c .window) maxWindow
+
   -- the test of the code
   abbrev pub tested : Bool → Bool
-  tested sized = (eqb (c .n) (length roles) && leb (c .m) (length roles)) && sized
+  tested sized = (eqb (c .n) (length roles) && planned) && sized
 
   abbrev sizes : Bool
   sizes = audible (length roles) (length held) (length sent) (length readings) 0 (length roles) (length next)
@@ -39,7 +42,7 @@ module _ (c : Settings) (roles held sent readings next : List ℕ) where
   module _ (h : roundFits c roles held sent readings next ≡ true) where
     sized : Audible (length roles) (length held) (length sent) (length readings) 0 (length roles) (length next)
     unfolding roundFits
-    sized = audible-fits _ _ _ _ _ _ _ (and-right (eqb (c .n) (length roles) && leb (c .m) (length roles)) sizes h)
+    sized = audible-fits _ _ _ _ _ _ _ (and-right (eqb (c .n) (length roles) && planned) sizes h)
 
     pub few : length roles ≤ maxCabinets
     few = sized .few
@@ -51,11 +54,12 @@ module _ (c : Settings) (roles held sent readings next : List ℕ) where
         → Fits c roles held sent readings marks values
     unfolding roundFits
     fits-round marks values m v =
-        let counts = and-left (eqb (c .n) (length roles) && leb (c .m) (length roles)) sizes h in
+        let counts = and-left (eqb (c .n) (length roles) && planned) sizes h in
+        let plans = and-right (eqb (c .n) (length roles)) planned counts in
         record {
-          cabinets = eqb-true (c .n) (length roles) (and-left (eqb (c .n) (length roles)) (leb (c .m) (length roles)) counts);
-          faults =
-              leb-true (c .m) (length roles) (and-right (eqb (c .n) (length roles)) (leb (c .m) (length roles)) counts);
+          cabinets = eqb-true (c .n) (length roles) (and-left (eqb (c .n) (length roles)) planned counts);
+          faults = ltb-true (2 * c .m) (length roles) (and-left (ltb (2 * c .m) (length roles)) _ plans);
+          narrow = leb-true (c .window) maxWindow (and-right (ltb (2 * c .m) (length roles)) _ plans);
           few = sized .few;
           values-held = sized .values-held;
           pairs = sized .pairs;

@@ -16,7 +16,7 @@ use Rattle.arithmetic.specs.Writing.{table}
 use Rattle.arithmetic.proofs.Bools.{and-intro, clash}
 use Rattle.arithmetic.proofs.Counting.{lowest-none, lowest-some}
 use Rattle.model.specs.declared.Settings.{Settings}
-use Rattle.model.specs.Ensemble.{present, Readings, maxCabinets, quorum}
+use Rattle.model.specs.Ensemble.{present, Readings, maxCabinets, maxWindow, maxSpread, quorum}
 use Rattle.model.specs.Steps.{spanWidth}
 use Rattle.model.specs.RoundSheet.{byte, word}
 use Rattle.sheet_laws.proofs.Words.{word-fits}
@@ -94,6 +94,12 @@ module _ (c : Settings) (roles held sent readings : List ℕ) (p : ℕ) where
     few : c .n ≤ maxCabinets
     few = rw (fits .cabinets) (fits .few)
 
+    most : c .n < 2 * quorum c
+    most = omega (arith, fits .cabinets, fits .faults)
+
+    narrow : spanWidth c 0 ≤ maxWindow + maxSpread
+    narrow = omega (arith, fits .narrow)
+
     -- without a spread the span is as wide as the window
     agrees-wide : a ≡ agreedOf (spanWidth c 0) (quorum c) (c .estimator) marks values
     agrees-wide =
@@ -104,7 +110,7 @@ module _ (c : Settings) (roles held sent readings : List ℕ) (p : ℕ) where
     count-is =
         ap (λ (x : Estimated). x .count) agrees-wide
         ∙ agreed-count c (heardFrom roles held sent readings p)
-        (λ r l. heard-kept roles held sent readings small p r) marks values marks-are values-are 0 few
+        (λ r l. heard-kept roles held sent readings small p r) marks values marks-are values-are 0 few most narrow
 
     pub sound-meets : eqb (a .count) 0 ≡ meetsTooMany c roles held sent readings p
     unfolding meetsTooMany
@@ -116,7 +122,7 @@ module _ (c : Settings) (roles held sent readings : List ℕ) (p : ℕ) where
         rw (eq-eqb (getD roles p 0) 1 sound)
         (ap (λ (x : Estimated). x .value) agrees-wide
         ∙ agreed-value c (heardFrom roles held sent readings p)
-        (λ r l. heard-kept roles held sent readings small p r) marks values marks-are values-are 0 few
+        (λ r l. heard-kept roles held sent readings small p r) marks values marks-are values-are 0 few most narrow
         (λ z. clash (eq-eqb (a .count) 0 (count-is ∙ z)) h))
 
 -- ---- the first that meets too many faults

@@ -4,19 +4,20 @@
 --   meetsTooMany          p is sound and accepts nothing
 --   nextValue             what p holds next, moved up by 2^31; 0 for a faulty one
 --   firstRefused          how many cabinets stand before the first that meets too many faults; all where none does
---   roundFits             sizes that fit
+--   roundFits             sizes that fit, fewer faults than half, and a window that is no wider than the widest
 --   refusedGiven, nextGiven    what `settle_round` gives, and what it leaves in the lent list
 use mathlib.Core.Bool.{Bool, cond, _&&_}
 use mathlib.Core.List.{List}
 use mathlib.Core.Option.{Option, none, some}
-use Prim.Native.Nat.{ℕ}
-use lib.Dec.{leb, eqb}
+use Prim.Native.Nat.{ℕ, _*_}
+use lib.Dec.{leb, ltb, eqb}
 use lib.ListN.{length, getD}
 use Rattle.arithmetic.specs.Counting.{lowest}
 use Rattle.arithmetic.specs.Naturals.{up}
 use Rattle.arithmetic.specs.Words.{twoTo31}
 use Rattle.arithmetic.specs.Writing.{table, overwrite}
 use Rattle.model.specs.declared.Settings.{Settings}
+use Rattle.model.specs.Ensemble.{maxWindow}
 use Rattle.model.specs.Steps.{Round, roundOf}
 use Rattle.hearing.specs.Heard.{heardFrom, audible}
 
@@ -39,10 +40,10 @@ module _ (c : Settings) (roles held sent readings : List ℕ) where
 
   unfoldable pub roundFits : List ℕ → Bool
   roundFits next =
-      (eqb (c .n) (length roles) && leb (c .m) (length roles))
+      (eqb (c .n) (length roles) && (ltb (2 * c .m) (length roles) && leb (c .window) maxWindow))
       && audible (length roles) (length held) (length sent) (length readings) 0 (length roles) (length next)
 
-  -- where the sizes do not fit nothing is settled
+  -- else nothing is settled
   unfoldable pub refusedGiven : List ℕ → ℕ
   refusedGiven next = cond (roundFits next) firstRefused (length roles)
 

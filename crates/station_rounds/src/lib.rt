@@ -7,6 +7,7 @@ ghost use Rattle.hearing.specs.Heard.{audible};
 ghost use Rattle.station_rounds.specs.Rounds.{meetsTooMany, nextValue, firstRefused};
 ghost use Rattle.station_rounds.specs.Rounds.{roundFits, refusedGiven, nextGiven};
 ghost use Rattle.station_rounds.specs.Settling.{Fits, Left};
+use model::MAX_WINDOW;
 use model::Settings;
 
 // What a cabinet's settling gives: whether it meets too many faults, and else the value that it holds next.
@@ -102,8 +103,9 @@ fn settle_each(
 }
 
 // Settles a round of at most 64 cabinets: the values that sound cabinets hold next in a lent list, up to the first
-// that meets too many faults, which is the answer; the number of cabinets where none does. Where the sizes do not fit
-// it changes nothing, and answers the number of roles.
+// that meets too many faults, which is the answer; the number of cabinets where none does. Where the sizes do not fit,
+// half of the cabinets or more may be faulty, or the window is wider than the widest, it changes nothing, and answers the
+// number of roles.
 pub fn settle_round(
     settings: Settings,
     roles: &[u8],
@@ -126,8 +128,9 @@ pub fn settle_round(
     let n = roles.len();
     let cabinets = settings.n as usize;
     let faults = settings.m as usize;
+    let planned = (2 * faults < n) & (settings.window <= MAX_WINDOW);
     let sized = hearing::fits(n, held.len(), sent.len(), readings.len(), 0, n, next.len());
-    if !(((cabinets == n) & (faults <= n)) & sized) {
+    if !(((cabinets == n) & planned) & sized) {
         return n;
     }
     let mut marks = [0u8; 64];

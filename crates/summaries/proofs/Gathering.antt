@@ -1,33 +1,30 @@
 -- The pass over the readings, index by index.
 --   LowSoFar low t     low is at or below every reading passed, and is one of them, or the highest number
 --   HighSoFar high t   high is at or above every reading passed, and is one of them, or 0
---   Gathered           the count, the sum, the lowest and the highest of the readings passed
+--   SoFar              the count, 32 bits of the sum, the lowest and the highest of the readings passed
 -- Assumes nothing.
-use mathlib.Core.Bool.{true, false}
+use mathlib.Core.Bool.{Bool, true, false, cond}
 use mathlib.Core.List.{List}
 use mathlib.Core.Logic.{_⊎_, inl, inr, ⊎-elim}
-use mathlib.Core.Path.{_≡_, refl, sym, _∙_}
-use Prim.Native.Nat.{ℕ, _+_, _*_, _-_, min, max, _≤_, _<_, zero-le}
-use native.Mathlib.Nat.{not-suc-le-zero, add-zero, min-le-left, min-eq-right, le-max-right, max-eq-left}
+use mathlib.Core.Path.{_≡_, refl, sym, ap, _∙_}
+use Prim.Native.Nat.{ℕ, _+_, _*_, _-_, _%_, min, max, _≤_, _<_, zero-le}
+use native.Mathlib.Nat.{not-suc-le-zero, add-zero, mod-add-mod, min-le-left, min-eq-right, le-max-right, max-eq-left}
 use native.Mathlib.Omega.{arith}
 use borrow.Author.Count.{below-more}
 use borrow.Author.Tests.{leb-true, leb-false}
 use lib.Dec.{leb}
 use lib.ListN.{length}
 use Rattle.arithmetic.proofs.Bools.{both-ways, clash}
+use Rattle.arithmetic.specs.Counting.{bit}
 use Rattle.arithmetic.proofs.Counting.{count-some}
-use Rattle.arithmetic.specs.Words.{twoTo31, twoTo32}
-use Rattle.loop_laws.proofs.Loops.{Counts, count-none, count-one, count-all, Adds, add-none, add-on, add-all}
+use Rattle.arithmetic.proofs.Sums.{total-ext, total-mono, total-add, total-scale, count-total}
+use Rattle.arithmetic.specs.Naturals.{total}
+use Rattle.arithmetic.specs.Words.{twoTo32}
+use Rattle.loop_laws.proofs.Loops.{Counts, count-none, count-one, count-all, total-next}
 use Rattle.held.specs.Held.{presentIn, valueAt}
-use Rattle.selection.specs.Order.{numberedAt}
-use Rattle.selection.proofs.Selection.{lowest-first, highest-last}
-use Rattle.summaries.specs.Summaries.{usedAt, presentCount, Summarizes}
+use Rattle.summaries.specs.Summaries.{presentCount, usedAt, distanceAt, Taken, OnePass}
 
 module _ (marks values : List ℕ) where
-  -- the number of a present reading
-  abbrev pub Taken : ℕ → Type 0
-  Taken v = (i : ℕ) × (i < length marks) × (presentIn marks i ≡ true) × (valueAt values i ≡ v)
-
   abbrev pub AtMost : ℕ → ℕ → Type 0
   AtMost low j = presentIn marks j ≡ true → low ≤ valueAt values j
 
@@ -36,7 +33,7 @@ module _ (marks values : List ℕ) where
 
   pub record LowSoFar (low t : ℕ) : Type 0 where
     pub most : (j : ℕ) → j < t → AtMost low j
-    pub at : (low ≡ twoTo32 - 1) ⊎ Taken low
+    pub at : (low ≡ twoTo32 - 1) ⊎ Taken marks values low
 
   least-none : LowSoFar (twoTo32 - 1) 0
   least-none = record { most = λ j l. absurd (not-suc-le-zero l); at = inl refl }
@@ -61,7 +58,7 @@ module _ (marks values : List ℕ) where
 
   pub record HighSoFar (high t : ℕ) : Type 0 where
     pub most : (j : ℕ) → j < t → AtLeast high j
-    pub at : (high ≡ 0) ⊎ Taken high
+    pub at : (high ≡ 0) ⊎ Taken marks values high
 
   greatest-none : HighSoFar 0 0
   greatest-none = record { most = λ j l. absurd (not-suc-le-zero l); at = inl refl }
@@ -84,95 +81,127 @@ module _ (marks values : List ℕ) where
               (both-ways (leb high v));
         }
 
-  pub record Gathered (n a low high t : ℕ) : Type 0 where
+  pub record SoFar (n a low high t : ℕ) : Type 0 where
     pub counts : Counts (presentIn marks) (length marks) n t
-    pub adds : Adds (usedAt marks values 0) (length marks) a t
-    pub bounded : a ≤ (twoTo32 - 1) * n
+    pub sums : a ≡ total (usedAt marks values 0) t % twoTo32
     pub least : LowSoFar low t
     pub greatest : HighSoFar high t
 
-  pub gather-none : Gathered 0 0 (twoTo32 - 1) 0 0
+  pub gather-none : SoFar 0 0 (twoTo32 - 1) 0 0
+  unfolding total
   gather-none =
       record {
         counts = count-none (presentIn marks) (length marks);
-        adds = add-none (usedAt marks values 0) (length marks);
-        bounded = zero-le;
+        sums = refl;
         least = least-none;
         greatest = greatest-none;
       }
 
-  -- a number of 32 bits stands for each
-  module _ (small : (j : ℕ) → valueAt values j < twoTo32) (n a low high t : ℕ) (so-far : Gathered n a low high t) where
+  module _ (n a low high t : ℕ) (so-far : SoFar n a low high t) where
     module _ (room : t < length marks) where
       pub gather-present :
           presentIn marks t ≡ true
-          → (x y : ℕ)
+          → (s x y : ℕ)
+          → s ≡ (a + valueAt values t) % twoTo32
           → x ≡ min (valueAt values t) low
           → y ≡ max high (valueAt values t)
-          → Gathered (n + 1) (a + valueAt values t) x y (t + 1)
-      gather-present p x y e f =
+          → SoFar (n + 1) s x y (t + 1)
+      gather-present p s x y d e f =
           record {
             counts = rw p at (count-one (presentIn marks) (length marks) (so-far .counts) room);
-            adds =
-                add-on (usedAt marks values 0) (length marks) (so-far .adds) room (valueAt values t) (rw p) (small t);
-            bounded = omega (arith, so-far .bounded, small t);
+            sums =
+                d
+                ∙ ap (λ (k : ℕ). (k + valueAt values t) % twoTo32) (so-far .sums)
+                ∙ mod-add-mod (total (usedAt marks values 0) t) twoTo32 (valueAt values t)
+                ∙ ap (λ (k : ℕ). k % twoTo32) (sym (next (valueAt values t) (rw p)));
             least = rw e (least-next low t (so-far .least) room p);
             greatest = rw f (greatest-next high t (so-far .greatest) room p);
           }
+        where
+          next :
+              (v : ℕ) → usedAt marks values 0 t ≡ v
+              → total (usedAt marks values 0) (t + 1) ≡ total (usedAt marks values 0) t + v
+          next v u = total-next (usedAt marks values 0) t ∙ ap (λ (k : ℕ). total (usedAt marks values 0) t + k) u
 
-      pub gather-missing : presentIn marks t ≡ false → Gathered n a low high (t + 1)
+      pub gather-missing : presentIn marks t ≡ false → SoFar n a low high (t + 1)
       gather-missing m =
-          let zero = add-on (usedAt marks values 0) (length marks) (so-far .adds) room 0 (rw m) (omega arith) in
           record {
             counts = rw (m, add-zero n) at (count-one (presentIn marks) (length marks) (so-far .counts) room);
-            adds = rw (add-zero a) at zero;
-            bounded = so-far .bounded;
+            sums = so-far .sums ∙ ap (λ (k : ℕ). k % twoTo32) (sym same);
             least = least-keep low t (so-far .least) m;
             greatest = greatest-keep high t (so-far .greatest) m;
           }
-
-    module _ (ended : length marks ≤ t) (some : 0 < presentCount marks) where
-      -- a present reading
-      one : (i : ℕ) × (i < length marks) × (presentIn marks i ≡ true)
-      one = count-some (presentIn marks) (length marks) some
-
-      least-all : low ≡ numberedAt marks values 1
-      least-all = ⊎-elim (λ e. found (top-taken e)) found (so-far .least .at)
         where
-          found : Taken low → low ≡ numberedAt marks values 1
-          found w =
-              sym
-              (lowest-first (presentIn marks) (length marks) (valueAt values) twoTo31 (w .0) (w .1) (w .2)
-              (λ j k p. rw (w .3) (so-far .least .most j (omega arith) p))
-              ∙ w .3)
+          same : total (usedAt marks values 0) (t + 1) ≡ total (usedAt marks values 0) t
+          same = total-next (usedAt marks values 0) t ∙ rw (m, add-zero (total (usedAt marks values 0) t))
 
-          top-taken : low ≡ twoTo32 - 1 → Taken low
+    -- a number of 32 bits stands for each
+    module _ (small : (j : ℕ) → valueAt values j < twoTo32) (ended : length marks ≤ t) where
+      low-found : 0 < presentCount marks → Taken marks values low
+      low-found some = ⊎-elim top-taken (λ w. w) (so-far .least .at)
+        where
+          top-taken : low ≡ twoTo32 - 1 → Taken marks values low
           top-taken e =
+              let one = count-some (presentIn marks) (length marks) some in
               let m = so-far .least .most (one .0) (omega (arith, one .1)) (one .2) in
               (one .0, one .1, one .2, omega (arith, small (one .0)))
 
-      greatest-all : high ≡ numberedAt marks values (presentCount marks)
-      greatest-all = ⊎-elim (λ e. found (zero-taken e)) found (so-far .greatest .at)
+      high-found : 0 < presentCount marks → Taken marks values high
+      high-found some = ⊎-elim zero-taken (λ w. w) (so-far .greatest .at)
         where
-          found : Taken high → high ≡ numberedAt marks values (presentCount marks)
-          found w =
-              sym
-              (highest-last (presentIn marks) (length marks) (valueAt values) twoTo31 (w .0) (w .1) (w .2)
-              (λ j k p. rw (w .3) (so-far .greatest .most j (omega arith) p))
-              ∙ w .3)
-
-          zero-taken : high ≡ 0 → Taken high
+          zero-taken : high ≡ 0 → Taken marks values high
           zero-taken e =
+              let one = count-some (presentIn marks) (length marks) some in
               let m = so-far .greatest .most (one .0) (omega (arith, one .1)) (one .2) in
               (one .0, one .1, one .2, omega arith)
 
-    pub gather-all :
-        length marks ≤ t → Summarizes (record { count = n; sum = a; low = low; high = high }) marks values
-    gather-all l =
-        record {
-          counted = count-all (presentIn marks) (length marks) (so-far .counts) l;
-          added = add-all (usedAt marks values 0) (length marks) (so-far .adds) l;
-          small = so-far .bounded;
-          lowest = least-all l;
-          highest = greatest-all l;
-        }
+      pub gather-all : OnePass (record { count = n; total = a; low = low; high = high }) marks values
+      gather-all =
+          let all : t ≡ length marks = omega (arith, so-far .counts .upTo) in
+          record {
+            counted = count-all (presentIn marks) (length marks) (so-far .counts) ended;
+            added = so-far .sums ∙ ap (λ (k : ℕ). total (usedAt marks values 0) k % twoTo32) all;
+            least = λ j l. so-far .least .most j (omega arith);
+            greatest = λ j l. so-far .greatest .most j (omega arith);
+            low-taken = low-found;
+            high-taken = high-found;
+          }
+
+  -- ---- the distances from the lowest
+
+  module _ (low high : ℕ)
+      (least : (j : ℕ) → j < length marks → presentIn marks j ≡ true → low ≤ valueAt values j)
+      (greatest : (j : ℕ) → j < length marks → presentIn marks j ≡ true → valueAt values j ≤ high) where
+    scaled : (k : ℕ) → total (λ i. bit (presentIn marks i) * k) (length marks) ≡ presentCount marks * k
+    scaled k =
+        total-scale (λ i. bit (presentIn marks i)) k (length marks)
+        ∙ ap (λ (c : ℕ). c * k) (sym (count-total (presentIn marks) (length marks)))
+
+    -- each is at most the widest
+    pub distances-small : total (distanceAt marks values low) (length marks) ≤ presentCount marks * (high - low)
+    distances-small =
+        omega (
+          arith,
+          total-mono (distanceAt marks values low) (λ i. bit (presentIn marks i) * (high - low)) (length marks)
+              (λ i l. one (presentIn marks i) (valueAt values i) (greatest i l)),
+          scaled (high - low),
+        )
+      where
+        one : (b : Bool) (v : ℕ) → (b ≡ true → v ≤ high) → cond b (v - low) 0 ≤ bit b * (high - low)
+        one true v h = omega (arith, h refl)
+        one false v h = zero-le
+
+    -- the numbers of the present readings add up to their distances, and the lowest for each
+    pub numbers-sum :
+        total (usedAt marks values 0) (length marks)
+        ≡ total (distanceAt marks values low) (length marks) + presentCount marks * low
+    numbers-sum =
+        total-ext (usedAt marks values 0) (λ i. distanceAt marks values low i + bit (presentIn marks i) * low)
+        (length marks)
+        (λ i l. one (presentIn marks i) (valueAt values i) (least i l))
+        ∙ total-add (distanceAt marks values low) (λ i. bit (presentIn marks i) * low) (length marks)
+        ∙ ap (λ (k : ℕ). total (distanceAt marks values low) (length marks) + k) (scaled low)
+      where
+        one : (b : Bool) (v : ℕ) → (b ≡ true → low ≤ v) → cond b v 0 ≡ cond b (v - low) 0 + bit b * low
+        one true v h = omega (arith, h refl)
+        one false v h = omega arith

@@ -1,6 +1,9 @@
+pub mod Counts
 pub mod Extremes
 pub mod Ranks
 pub mod Estimates
 pub mod Means
+pub mod Acceptance
+pub mod Apart
 pub mod Fits
 pub mod Sheets

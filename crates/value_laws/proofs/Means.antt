@@ -1,10 +1,14 @@
 -- The mean of n numbers to the nearest, a half going up: it is monotone, moves with a shift of its sum, and lies
--- between any bounds of the numbers.
+-- between any bounds of the numbers. It is the whole part of their quotient, and 1 more by the remainder.
 -- Assumes nothing.
-use mathlib.Core.Path.{_≡_, ap, _∙_}
-use Prim.Native.Nat.{ℕ, _+_, _*_, _/_, _≤_, _<_}
-use native.Mathlib.Nat.{add-mul-div-right, div-eq-of-lt, mul-comm, mul-assoc}
+use mathlib.Core.Bool.{Bool, true, false}
+use mathlib.Core.Path.{_≡_, refl, sym, ap, _∙_}
+use Prim.Native.Nat.{ℕ, _+_, _*_, _/_, _%_, _≤_, _<_}
+use native.Mathlib.Nat.{add-mul-div-right, div-eq-of-lt, div-add-mod, mod-lt, div-eq-of-lt-le, add-mul, mul-comm, mul-assoc}
 use native.Mathlib.Omega.{arith}
+use borrow.Author.Tests.{leb-true, leb-false}
+use lib.Dec.{leb}
+use Rattle.arithmetic.specs.Counting.{bit}
 use Rattle.arithmetic.proofs.Division.{div-mono}
 use Rattle.arithmetic.specs.Naturals.{total}
 use Rattle.arithmetic.proofs.Sums.{total-mono, total-const}
@@ -64,3 +68,31 @@ module _ (n : ℕ) (some-n : 0 < n) where
       let t = total-mono f (λ _. b) n h in
       let c = total-const b n in
       mean-upper (total f n) b (omega arith)
+
+  -- s = n q + rest, so 2s + n = 2n q + 2 rest + n, and the last two are 2n or more just where 2 rest is n or more
+  pub mean-split : (s : ℕ) → s / n + bit (leb n (2 * (s % n))) ≡ mean-nat n s
+  unfolding mean-nat
+  mean-split s =
+      sym
+      (div-eq-of-lt-le {k = s / n + bit (leb n (2 * (s % n)))} (2 * n) {m = s + s + n} (low (leb n (2 * (s % n))) refl)
+      (high (leb n (2 * (s % n))) refl))
+    where
+      whole : n * (s / n) + s % n ≡ s
+      whole = div-add-mod s n
+
+      twice : s / n * (2 * n) ≡ 2 * (n * (s / n))
+      twice = mul-comm (s / n) (2 * n) ∙ mul-assoc 2 n (s / n)
+
+      low : (b : Bool) → leb n (2 * (s % n)) ≡ b → (s / n + bit b) * (2 * n) ≤ s + s + n
+      low true e =
+          let h = leb-true n (2 * (s % n)) e in
+          omega (arith, whole, twice, add-mul (s / n) 1 (2 * n))
+      low false e = omega (arith, whole, twice, add-mul (s / n) 0 (2 * n))
+
+      high : (b : Bool) → leb n (2 * (s % n)) ≡ b → s + s + n < (s / n + bit b + 1) * (2 * n)
+      high true e =
+          let r = mod-lt s some-n in
+          omega (arith, whole, twice, add-mul (s / n) 2 (2 * n))
+      high false e =
+          let h = leb-false n (2 * (s % n)) e in
+          omega (arith, whole, twice, add-mul (s / n) 1 (2 * n))

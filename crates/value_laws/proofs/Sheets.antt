@@ -5,7 +5,7 @@ use mathlib.Core.Bool.{Bool, true, false, cond}
 use mathlib.Core.List.{List}
 use mathlib.Core.Option.{Option, none, some}
 use mathlib.Core.Path.{_≡_, sym, _∙_}
-use Prim.Native.Nat.{ℕ, _+_, _*_, _<_}
+use Prim.Native.Nat.{ℕ, _+_, _*_, _≤_, _<_}
 use native.Mathlib.Nat.{pos-of-ne-zero}
 use native.Mathlib.Omega.{arith}
 use borrow.Author.Tests.{eq-eqb}
@@ -18,7 +18,7 @@ use mir.Val.{SFits, toZ}
 use Rattle.arithmetic.specs.Counting.{count, lowest}
 use Rattle.arithmetic.proofs.Bools.{clash}
 use Rattle.model.specs.declared.Settings.{Settings}
-use Rattle.model.specs.Ensemble.{Reading, missing, present, Readings, ticks, quorum}
+use Rattle.model.specs.Ensemble.{Reading, missing, present, Readings, ticks, quorum, maxSpread}
 use Rattle.model.specs.RoundSheet.{cca, byte, settingsAt, entryCount, markAt, bitsAt, entryAt, headerSize}
 use Rattle.model.specs.Steps.{same, decisionAt, decidedReading, decideRow, readingsOf, roundAt}
 use Rattle.model.specs.AnswerSheet.{answerLength}
@@ -27,7 +27,7 @@ use Rattle.model.specs.Refusals.{tooManyFaultsNumber}
 use Rattle.sheet_laws.proofs.Words.{word-fits}
 use Rattle.refusal_laws.proofs.Checks.{next-none-left, next-none-right, when-none}
 use Rattle.sheet_laws.proofs.Orders.{settle-checks, spread-passed}
-use Rattle.refusal_laws.proofs.Limits.{limits}
+use Rattle.refusal_laws.proofs.Limits.{Limits, limits, spread-most}
 use Rattle.sheet_laws.proofs.Checks.{settings-passed}
 use Rattle.value_laws.proofs.Fits.{estimate-fits, used-fits, value-fits}
 
@@ -58,6 +58,41 @@ reading-fits c entry fits r =
     (decided-fits (quorum c) (c .n) (λ s. entry (r * c .n + s)) (λ s. fits (r * c .n + s)))
     (fits r)
 
+-- ---- what settling granted
+
+module _ (s : List ℕ) (D : ℕ) (answer : List ℕ) (granted : firstOf (settleChecks s D (length answer)) ≡ none) where
+  abbrev room : Check
+  room = noRoom (length answer) (answerLength (settingsAt s .n))
+
+  abbrev faults : Check
+  faults = tooManyFaults (roundAt s D .count)
+
+  checks : orNext (firstOf (spreadChecks s D)) (orNext room (orNext (firstOf (entryChecks s)) faults)) ≡ none
+  checks = sym (settle-checks s D (length answer)) ∙ granted
+
+  passed : firstOf (spreadChecks s D) ≡ none
+  passed = next-none-left (firstOf (spreadChecks s D)) (orNext room (orNext (firstOf (entryChecks s)) faults)) checks
+
+  pub settled-limits : Limits (settingsAt s)
+  settled-limits = limits (settingsAt s) (settings-passed s (spread-passed s D passed .1))
+
+  pub settled-spread : D ≤ maxSpread
+  settled-spread = spread-most (settingsAt s) D (spread-passed s D passed .0)
+
+  few-faults : faults ≡ none
+  few-faults =
+      next-none-right (firstOf (entryChecks s)) faults
+      (next-none-right room (orNext (firstOf (entryChecks s)) faults)
+      (next-none-right (firstOf (spreadChecks s D)) (orNext room (orNext (firstOf (entryChecks s)) faults)) checks))
+
+  pub settled-some : 0 < roundAt s D .count
+  unfolding tooManyFaults
+  settled-some =
+      let count = roundAt s D .count in
+      pos-of-ne-zero (λ z. clash (eq-eqb count 0 z) (when-none (eqb count 0) tooManyFaultsNumber few-faults))
+
+-- ---- the numbers of its round
+
 module _ (s : List ℕ) (small : (j : ℕ) → byte s j < 256) where
   entry-fits : (E e : ℕ) → Holds (entryAt s E e)
   unfolding entryAt
@@ -74,44 +109,17 @@ module _ (s : List ℕ) (small : (j : ℕ) → byte s j < 256) where
       reading-fits (settingsAt s) (entryAt s (entryCount (settingsAt s))) (entry-fits (entryCount (settingsAt s))) r
 
   module _ (D : ℕ) (answer : List ℕ) (granted : firstOf (settleChecks s D (length answer)) ≡ none) where
-    abbrev room : Check
-    room = noRoom (length answer) (answerLength (settingsAt s .n))
-
-    abbrev faults : Check
-    faults = tooManyFaults (roundAt s D .count)
-
-    checks : orNext (firstOf (spreadChecks s D)) (orNext room (orNext (firstOf (entryChecks s)) faults)) ≡ none
-    checks = sym (settle-checks s D (length answer)) ∙ granted
-
-    some-cabinet : 0 < settingsAt s .n
-    some-cabinet =
-        limits (settingsAt s)
-        (settings-passed s
-        (spread-passed s D
-        (next-none-left (firstOf (spreadChecks s D)) (orNext room (orNext (firstOf (entryChecks s)) faults)) checks)
-        .1))
-        .someCabinet
-
-    few-faults : faults ≡ none
-    few-faults =
-        next-none-right (firstOf (entryChecks s)) faults
-        (next-none-right room (orNext (firstOf (entryChecks s)) faults)
-        (next-none-right (firstOf (spreadChecks s D)) (orNext room (orNext (firstOf (entryChecks s)) faults)) checks))
-
-    some-accepted : 0 < roundAt s D .count
-    unfolding tooManyFaults
-    some-accepted =
-        let count = roundAt s D .count in
-        pos-of-ne-zero (λ z. clash (eq-eqb count 0 z) (when-none (eqb count 0) tooManyFaultsNumber few-faults))
+    some-here : 0 < roundAt s D .count
+    some-here = settled-some s D answer granted
 
     pub settled-estimate : SFits w32 (roundAt s D .estimate)
     unfolding roundAt
-    settled-estimate = estimate-fits (settingsAt s) D readings readings-fit some-accepted
+    settled-estimate = estimate-fits (settingsAt s) D readings readings-fit some-here
 
     pub settled-value : SFits w32 (roundAt s D .value)
     unfolding roundAt
-    settled-value = value-fits (settingsAt s) D readings readings-fit some-accepted some-cabinet
+    settled-value = value-fits (settingsAt s) D readings readings-fit some-here (settled-limits s D answer granted .someCabinet)
 
     pub settled-used : (r : ℕ) → r < settingsAt s .n → SFits w32 (roundAt s D .used r)
     unfolding roundAt
-    settled-used = used-fits (settingsAt s) D readings readings-fit some-accepted
+    settled-used = used-fits (settingsAt s) D readings readings-fit some-here

@@ -5,7 +5,7 @@ use crate::{draw, traces};
 use engine::traces::redraw_for_faulty;
 use engine::{number, replay_by_hand, words, Engine, Plan, Settings};
 use random::Random;
-use reference::Trace;
+use reference::{Distances, Trace};
 
 pub const CALLS: [&str; 9] =
     ["settle", "read", "write", "row", "plan", "step", "target", "replay", "spread"];
@@ -29,6 +29,16 @@ pub struct Spreads {
 
 /// Both sides of the limits of a spread.
 pub const ENDS: [u32; 6] = [0, 1, 99_999, 100_000, 100_001, u32::MAX];
+
+/// What can be met of the distances of a settled sheet's used values from its lowest accepted reading.
+pub const SUMS: [&str; 6] = [
+    "a sum above N spans",
+    "a sum of N+m-1 spans",
+    "a half, N being even",
+    "the remainder next below a half, N being odd",
+    "the lowest at the low end of 32 bits",
+    "a used value at the high end",
+];
 
 /// What was replayed.
 pub struct Replays {
@@ -54,6 +64,8 @@ pub struct Comparison<'a> {
     pub rows_empty: u64,
     pub replays: Replays,
     pub spreads: Spreads,
+    /// How often each of `SUMS` was met.
+    pub sums: [u64; SUMS.len()],
     pub differences: u64,
     /// The sheet that is compared now.
     pub now: u64,
@@ -85,6 +97,7 @@ impl<'a> Comparison<'a> {
                 tick_less: 0,
                 tick_more: 0,
             },
+            sums: [0; SUMS.len()],
             differences: 0,
             now: 0,
         }
@@ -160,6 +173,30 @@ impl<'a> Comparison<'a> {
         if number(answer) == 0 {
             self.settled[sheet[2] as usize][sheet[3] as usize][n] += 1;
             self.all_accepted += (tray[0] == tray[1]) as u64;
+            self.count_sum(sheet, 0, &tray);
+        }
+    }
+
+    fn count_sum(&mut self, sheet: &[u8], spread: u32, tray: &[u8]) {
+        let (Ok(settings), Some(distances)) =
+            (reference::settings_of(sheet), Distances::of_answer(tray))
+        else {
+            return;
+        };
+        let (n, span) = (settings.n as u32, settings.window + spread);
+        let sum = distances.sum().unwrap_or(0);
+        let to_the_end = distances.lowest.abs_diff(i32::MAX);
+        let in_the_middle = sum % n == n / 2;
+        let met = [
+            sum > n * span,
+            span > 0 && sum == settings.greatest_sum(span),
+            n % 2 == 0 && in_the_middle,
+            n % 2 == 1 && in_the_middle && n > 1,
+            distances.lowest == i32::MIN,
+            distances.above.contains(&to_the_end),
+        ];
+        for (times, met) in self.sums.iter_mut().zip(met) {
+            *times += met as u64;
         }
     }
 
@@ -196,6 +233,9 @@ impl<'a> Comparison<'a> {
         if [0, 10].contains(&number(answer)) && (1..100_000).contains(&spread) {
             self.spreads.tick_less += (known(spread) != known(spread - 1)) as u64;
             self.spreads.tick_more += (known(spread) != known(spread + 1)) as u64;
+        }
+        if number(answer) == 0 {
+            self.count_sum(sheet, spread, tray);
         }
         if let (0, Ok(settings), 1..) = (number(answer), reference::settings_of(sheet), spread) {
             let (n, span) = (settings.n as usize, settings.window as i64 + spread as i64);

@@ -45,8 +45,45 @@ fn any(random: &Random) -> i32 {
     random.draw() as i32
 }
 
-/// N readings, most of them around one window, so that acceptance is often close.
+/// N readings, in any order.
 pub fn readings(random: &Random, settings: &Settings) -> Vec<Option<i32>> {
+    let drawn = if random.percent(10) { steep(random, settings) } else { around(random, settings) };
+    shuffled(random, drawn)
+}
+
+fn shuffled<T>(random: &Random, mut drawn: Vec<T>) -> Vec<T> {
+    let n = drawn.len();
+    for i in 0..n {
+        drawn.swap(i, random.below(n));
+    }
+    drawn
+}
+
+/// One reading at the low end of a span, N-m-1 at its high end and m a span above that: their distances from
+/// the lowest add up to N+m-1 spans, than which there is no more. One is less by so much that the remainder
+/// of the sum is half of N or beside it.
+fn steep(random: &Random, settings: &Settings) -> Vec<Option<i32>> {
+    let (n, need) = (settings.n as i64, settings.need() as i64);
+    let w = settings.window as i64;
+    let (lowest, highest) = (i32::MIN as i64, i32::MAX as i64 - 2 * w);
+    let base = random.pick(&[lowest, highest, -w, random.between(lowest, highest)]);
+    let remainder = n / 2 + random.pick(&[0, 0, 1, -1]);
+    let less = (settings.greatest_sum(settings.window) as i64 - remainder).rem_euclid(n);
+    let less = random.pick(&[0, less, less, less]).min(w);
+    let reading = |i: i64| match i {
+        0 => base,
+        i if i < need => base + w,
+        _ => base + 2 * w,
+    };
+    let mut drawn: Vec<i64> = (0..n).map(reading).collect();
+    if n > 1 {
+        drawn[n as usize - 1] -= less;
+    }
+    drawn.into_iter().map(|value| Some(clamp(value))).collect()
+}
+
+/// Readings most of which are around one window, so that acceptance is often close.
+fn around(random: &Random, settings: &Settings) -> Vec<Option<i32>> {
     let n = settings.n as usize;
     let m = settings.m as usize;
     let w = settings.window as i64;
@@ -93,9 +130,6 @@ pub fn readings(random: &Random, settings: &Settings) -> Vec<Option<i32>> {
         };
         drawn.push(if random.percent(missing) { None } else { Some(clamp(value)) });
     }
-    for i in 0..n {
-        drawn.swap(i, random.below(n));
-    }
     drawn
 }
 
@@ -117,7 +151,7 @@ fn copies(random: &Random, settings: &Settings, value: Option<i32>) -> Vec<Optio
         _ => random.below(n + 1),
     };
     let mixed = random.percent(30);
-    let mut row: Vec<Option<i32>> = (0..n)
+    let row = (0..n)
         .map(|i| match i < others {
             true if mixed && random.percent(50) => random.pick(&[None, Some(any(random))]),
             true => other,
@@ -125,11 +159,10 @@ fn copies(random: &Random, settings: &Settings, value: Option<i32>) -> Vec<Optio
         })
         .collect();
     if others > 0 {
-        for i in 0..n {
-            row.swap(i, random.below(n));
-        }
+        shuffled(random, row)
+    } else {
+        row
     }
-    row
 }
 
 pub fn paper(random: &Random) -> Paper {

@@ -6,7 +6,7 @@ mod draw;
 mod program;
 mod traces;
 
-use calls::{Comparison, CALLS, ENDS, SHEETS_FOR_A_TRACE};
+use calls::{Comparison, CALLS, ENDS, SHEETS_FOR_A_TRACE, SUMS};
 use engine::sabotage::{Sabotaged, SABOTAGES};
 use engine::Engine;
 use random::Random;
@@ -174,10 +174,15 @@ fn report(comparison: &Comparison, sheets: u64) -> usize {
     println!("Each N from 1 to 64 settled with each rule and estimator at least {least} times.");
     let replayed = report_replays(comparison, sheets);
     let spreads = report_spreads(comparison, sheets);
+    println!("Distances of used values from the lowest accepted reading:");
+    for (what, times) in SUMS.iter().zip(&comparison.sums) {
+        println!("{times:>8} times {what}");
+    }
     if sheets < 100_000 {
         println!("Each of these is asked of 100,000 sheets and more.");
     } else {
-        unmet += by_kind.chain(replayed).chain(spreads).filter(|&&count| count == 0).count();
+        let demanded = by_kind.chain(replayed).chain(spreads).chain(&comparison.sums);
+        unmet += demanded.filter(|&&count| count == 0).count();
     }
     unmet
 }

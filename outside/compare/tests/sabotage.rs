@@ -15,6 +15,18 @@ fn no_difference() {
     assert!(text.contains("PASSED"), "{text}");
 }
 
+/// Sums past N spans, halves, and readings at both ends of 32 bits are not rare.
+#[test]
+fn sums_are_met() {
+    let (_, text) = compare(&["--engines", "reference,reference", "--sheets", "3000"]);
+    let listed = text.split_once("lowest accepted reading:\n").expect("the sums are listed").1;
+    let times: Vec<u64> = listed
+        .lines()
+        .map_while(|line| line.split_once(" times ")?.0.trim().parse().ok())
+        .collect();
+    assert!(times.len() == 6 && times.iter().all(|&times| times > 20), "{text}");
+}
+
 #[test]
 fn plain_and_tuned_are_the_reference() {
     for name in ["plain", "tuned"] {

@@ -48,6 +48,7 @@ pub mod traces;
 mod whole;
 mod wrong_replay;
 mod wrong_spread;
+mod wrong_sum;
 
 pub use by_hand::replay_by_hand;
 use plain::{Plain, Steps, Tuned};

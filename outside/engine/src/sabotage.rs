@@ -2,6 +2,7 @@
 
 use crate::wrong_replay::wrong_replay;
 use crate::wrong_spread::wrong_spread;
+use crate::wrong_sum::wrong_mean;
 use crate::{number, packed, Engine, Plan, Refusal, Settings};
 use reference::Round;
 
@@ -32,6 +33,20 @@ pub const SABOTAGES: &[(&str, &str)] = &[
     ("spread-twice", "the spread counts on both sides"),
     ("spread-bits", "the lower 16 bits of a spread are taken for it"),
     ("spread-wraps", "the end of a span with a spread wraps at 32 bits"),
+    ("sum-cut", "the sum of distances from the lowest accepted reading ends at N spans"),
+    ("sum-unsigned", "distances are from the estimate, and their sum is taken as unsigned"),
+    ("sum-estimate", "distances are from the estimate, and their sum is divided towards zero"),
+    ("sum-first", "distances are from the first accepted reading, and divided towards zero"),
+    ("sum-readings", "the used values themselves are added up, and divided towards zero"),
+    ("sum-present", "distances are from the lowest present reading, and the sum wraps at 32 bits"),
+    ("sum-missing", "a missing or unaccepted reading has a distance of 0"),
+    ("sum-half-even", "a remainder goes up when it is above half of N, rounded down"),
+    ("sum-half-odd", "a remainder goes up when it is half of N, rounded down, or above"),
+    ("sum-back", "N times the lowest is added back to the sum, in 32 bits, before it is divided"),
+    (
+        "sum-end",
+        "a tick too many is added back, up to the highest reading, and below a half taken off",
+    ),
     ("order", "marks are checked before the tray"),
     ("ghost-first", "a ghost before the first bad mark is refused as 9"),
     ("place", "the highest entry at fault is given as the place"),
@@ -81,7 +96,7 @@ pub const SABOTAGES: &[(&str, &str)] = &[
     ("replay-first", "a replay has the first readings of faulty cabinets in their places"),
 ];
 
-const OF_THE_ROUND: usize = 22;
+const OF_THE_ROUND: usize = 33;
 
 pub struct Sabotaged {
     engine: Box<dyn Engine>,
@@ -284,16 +299,21 @@ fn wrong_round(how: &str, sheet: &[u8], spread: u32) -> Option<Result<Vec<u8>, R
         used.push(value);
     }
     let (sum, n) = (used.iter().sum::<i64>(), n as i64);
-    let new = match how {
+    let mut round =
+        Round { count: values.len(), estimate, new: reference::mean(&used), marks, used };
+    round.new = match how {
         "truncate" => (2 * sum + n) / (2 * n),
         "half-down" => -(n - 2 * sum).div_euclid(2 * n),
         "tick-off" => {
             let odd = sheet.iter().map(|&byte| byte as i64).sum::<i64>() % 2;
-            (reference::mean(&used) + odd).min(i32::MAX as i64)
+            (round.new + odd).min(i32::MAX as i64)
         }
-        _ => reference::mean(&used),
+        _ => {
+            let span = settings.window as i64 + spread as i64;
+            wrong_mean(how, &round, &present, span).unwrap_or(round.new)
+        }
     };
-    Some(Ok(Round { count: values.len(), estimate, new, marks, used }.bytes()))
+    Some(Ok(round.bytes()))
 }
 
 fn wrong_acceptance(how: &str, settings: &Settings, spread: u32, present: &[i64], v: i64) -> bool {

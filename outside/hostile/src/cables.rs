@@ -24,13 +24,16 @@ enum Style {
     Alike,
     /// With one shift for all that a cabinet reads.
     OneShift,
+    /// The same, one of them at the low end of δ + D and all others at its high end.
+    OneLow,
     /// With a shift for each reading, of values within δ.
     OwnShifts,
     /// With a shift for each reading, of values within δ + D, as far as that span allows.
     InOneSpan,
 }
 
-const STYLES: [Style; 4] = [Style::Alike, Style::OneShift, Style::OwnShifts, Style::InOneSpan];
+const STYLES: [Style; 5] =
+    [Style::Alike, Style::OneShift, Style::OneLow, Style::OwnShifts, Style::InOneSpan];
 
 /// The limits where t are bad.
 pub type Limits = fn(&Settings, u32, usize) -> Most;
@@ -50,6 +53,12 @@ pub fn example((n, m, window, spread): (u8, u8, u32, u32)) -> (Settings, u32) {
     (Settings { n, m, rule: FCA, estimator: MEDIAN, window }, spread)
 }
 
+/// Which of `EXAMPLES` these are.
+pub fn example_row(settings: &Settings, spread: u32) -> Option<usize> {
+    let Settings { n, m, window, .. } = *settings;
+    EXAMPLES.iter().position(|&row| row == (n, m, window, spread))
+}
+
 impl Cables {
     /// Settings, and what is read of good cabinets.
     pub fn draw(random: &Random) -> Cables {
@@ -64,7 +73,8 @@ impl Cables {
     }
 
     /// What document 02 writes of Lemma 16: all good readings alike at a cabinet, and a spread apart at
-    /// two of them.
+    /// two of them. And what makes the sum of distances the greatest, where liars aim high: one good reading
+    /// at the low end of a span, the others at its high end.
     fn draw_sharp(random: &Random) -> Cables {
         let (settings, spread) = if random.percent(60) {
             example(random.pick(&EXAMPLES))
@@ -72,7 +82,8 @@ impl Cables {
             let settings = Settings { rule: FCA, ..draw_settings(random) };
             (settings, draw_spread(random, &settings))
         };
-        Cables::with(random, settings, spread, settings.m as usize, Style::Alike, true)
+        let style = random.pick(&[Style::Alike, Style::Alike, Style::OneLow]);
+        Cables::with(random, settings, spread, settings.m as usize, style, true)
     }
 
     fn with(
@@ -126,9 +137,10 @@ impl Cables {
         let sheets = self.sheets(random);
         let mut values = Vec::new();
         for sheet in &sheets {
-            let settled = new_value(random, &self.settings, sheet, |sheet, tray| {
-                engine.settle_spread(sheet, self.spread, tray)
-            });
+            let settle =
+                |sheet: &[u8], tray: &mut [u8]| engine.settle_spread(sheet, self.spread, tray);
+            let cables = Some(self.spread);
+            let settled = new_value(random, &self.settings, cables, sheet, tally, settle);
             if show {
                 println!("{sheet:?}: {}", settled.map_or_else(words, |value| value.to_string()));
             }
@@ -179,9 +191,8 @@ impl Cables {
     }
 
     fn count_example(&self, t: usize, met: Most, tally: &mut Tally) {
-        let Settings { n, m, window, .. } = self.settings;
-        let mine = EXAMPLES.iter().position(|&row| row == (n, m, window, self.spread));
-        if let (Some(row), true) = (mine, t == m as usize) {
+        let mine = example_row(&self.settings, self.spread);
+        if let (Some(row), true) = (mine, t == self.settings.m as usize) {
             let most = tally.examples[row].get_or_insert(met);
             *most = most.or_greater(met.gap, met.error);
         }
@@ -255,14 +266,18 @@ fn draw_good(
     let width = match style {
         Style::Alike => 0,
         Style::OwnShifts => w,
-        Style::OneShift | Style::InOneSpan => w + d,
+        Style::OneShift | Style::OneLow | Style::InOneSpan => w + d,
     };
-    let held: Vec<i64> = (0..good).map(|_| base + up_to(width)).collect();
+    let above = |i: usize| match style {
+        Style::OneLow => width * (i > 0) as i64,
+        _ => up_to(width),
+    };
+    let held: Vec<i64> = (0..good).map(|i| base + above(i)).collect();
     let read_at = |p: usize| {
         let shift = random.pick(&[0, d, up_to(d)]);
         let shift = [0, d].get(p).copied().unwrap_or(shift);
         let reading = |&value: &i64| match style {
-            Style::Alike | Style::OneShift => value + shift,
+            Style::Alike | Style::OneShift | Style::OneLow => value + shift,
             Style::OwnShifts => value + up_to(d),
             Style::InOneSpan => (value + up_to(d)).min(base + w + d),
         };

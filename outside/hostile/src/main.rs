@@ -1,6 +1,7 @@
 //! A hostile station: runs of up to 32 rounds with lying and two-faced cabinets, against the
 //! limits for sound cabinets of document 01. Its FCA runs are replayed too, as paper 1 of document 02 says,
-//! and after each run comes a round with cables that differ, as paper 2 says.
+//! and after each run comes a round with cables that differ, as paper 2 says. Each settled sheet is held to the
+//! limits of paper 3's sum.
 #![forbid(unsafe_code)]
 
 mod cables;
@@ -9,6 +10,7 @@ mod limits;
 mod run;
 #[cfg(test)]
 mod small_rounds;
+mod sums;
 mod tape;
 
 use cables::{example, Cables, EXAMPLES};
@@ -141,6 +143,12 @@ fn report(tally: &Tally) {
         tally.settled_with_cables, tally.refused_with_cables, tally.past_lemma_16
     );
     println!(
+        "{} sums of distances from the lowest accepted reading, {} past N spans; {} new values are not their mean",
+        tally.settled + tally.settled_with_cables,
+        tally.past_n_spans,
+        tally.wrong_means
+    );
+    println!(
         "{:38} {:>8} {:>8} {:>8} {:>8} {:>8} {:>8}",
         "limit", "held", "share", "large", "reached", "largest", "broken"
     );
@@ -159,8 +167,28 @@ fn report(tally: &Tally) {
     println!(
         "An error counts by its growth past the starting κ. Limits of 0 are held, not counted."
     );
+    println!("A sum's limit is N+m-1 spans, the exact one, and 2N spans, document 02's, which none reaches.");
     answer(tally);
     with_cables(tally);
+    with_distances(tally);
+}
+
+/// The greatest sums of distances that were met with cables, beside the limits.
+fn with_distances(tally: &Tally) {
+    println!("Sums of distances from the lowest accepted reading, one round with cables, in ticks");
+    println!(
+        "{:>3} {:>3} {:>9} {:>11} {:>11} {:>11} {:>11}",
+        "N", "m", "span", "sum met", "N+m-1 spans", "2N spans", "N spans"
+    );
+    for (row, met) in EXAMPLES.into_iter().zip(&tally.sums) {
+        let (settings, spread) = example(row);
+        let (n, m, span) = (settings.n, settings.m, settings.window + spread);
+        let (exact, document) = (settings.greatest_sum(span), settings.sum_limit(span));
+        println!(
+            "{n:>3} {m:>3} {span:>9} {met:>11} {exact:>11} {document:>11} {:>11}",
+            n as u32 * span
+        );
+    }
 }
 
 /// What was met with cables that differ, beside document 02's limits and what Lemma 16 would give.

@@ -3,13 +3,14 @@
 use crate::cables::{example, EXAMPLES};
 use crate::liars::{clamp, outermost, Aim, Liars, Reading};
 use crate::limits::{gap, good_sets, GoodSets, Met, Most};
+use crate::sums;
 use crate::tape::{End, Heard, Tape};
 use engine::{number, words, Engine, Plan, Settings};
 use random::Random;
 use reference::{AVERAGE, CCA, FCA, MEDIAN};
 
 /// The limits, by name. Each is counted apart.
-pub const LIMITS: [&str; 22] = [
+pub const LIMITS: [&str; 26] = [
     "t ≤ m    gap   round 1  FCA",
     "t ≤ m    gap   round 1  CCA, median",
     "t ≤ m    gap   round 1  CCA, others",
@@ -32,6 +33,10 @@ pub const LIMITS: [&str; 22] = [
     "t ≤ m    error replay   FCA",
     "t ≤ m    gap   cables   FCA",
     "t ≤ m    error cables   FCA",
+    "any t    sum   document all",
+    "any t    sum   exact    FCA",
+    "any t    sum   exact    CCA",
+    "any t    sum   exact    cables",
 ];
 
 /// The regulator's question: three of seven bad, planned for two, at these windows.
@@ -40,7 +45,7 @@ pub const WINDOWS: [u32; 6] = [2, 7, 1_677, 16_777, 167_772, 1_000_000];
 
 #[derive(Default)]
 pub struct Tally {
-    pub met: [Met; 22],
+    pub met: [Met; 26],
     /// The greatest gap, and the greatest error past κ, that were met at each of `WINDOWS`.
     pub answer: [Option<Most>; 6],
     /// The same for each of `EXAMPLES`, whose cables differ.
@@ -71,6 +76,12 @@ pub struct Tally {
     pub refused_with_cables: u64,
     /// How often a gap passed the limit that Lemma 16 would give.
     pub past_lemma_16: u64,
+    /// New values that are not the mean by distances.
+    pub wrong_means: u64,
+    /// How often a sum of distances passed N spans.
+    pub past_n_spans: u64,
+    /// The greatest sum that was met for each of `EXAMPLES`.
+    pub sums: [u32; 5],
     /// What was broken first.
     pub first: Option<String>,
 }
@@ -85,11 +96,13 @@ impl Tally {
     /// Everything that the station is to show and did not.
     pub fn faults(&self) -> Vec<String> {
         let mut faults = Vec::new();
-        for (name, met) in LIMITS.iter().zip(&self.met) {
+        for (limit, (name, met)) in LIMITS.iter().zip(&self.met).enumerate() {
             match met {
                 Met { broken: 1.., .. } => faults.push(format!("broken: {name}")),
                 Met { times: 0, .. } => faults.push(format!("never held: {name}")),
-                Met { reached: 0, .. } => faults.push(format!("never reached: {name}")),
+                Met { reached: 0, .. } if limit != sums::DOCUMENT => {
+                    faults.push(format!("never reached: {name}"))
+                }
                 _ => {}
             }
         }
@@ -106,6 +119,8 @@ impl Tally {
                 "t ≤ m    no cabinet refuses, cables",
             ),
             (self.past_lemma_16, 0, "a gap past Lemma 16, cables"),
+            (self.settled, self.wrong_means, "a new value is the mean by distances"),
+            (self.past_n_spans, 0, "a sum past N spans"),
         ];
         for (times, broken, name) in counted {
             match (times, broken) {
@@ -119,10 +134,13 @@ impl Tally {
                 faults.push(format!("three of seven, window {window}: the exact limits not met"));
             }
         }
-        for (row, met) in EXAMPLES.into_iter().zip(&self.examples) {
+        for (i, row) in EXAMPLES.into_iter().enumerate() {
             let (settings, spread) = example(row);
-            if *met != Some(Most::with_cables(&settings, spread, settings.m as usize)) {
+            if self.examples[i] != Some(Most::with_cables(&settings, spread, settings.m as usize)) {
                 faults.push(format!("cables {row:?}: the limits not met"));
+            }
+            if self.sums[i] != settings.greatest_sum(settings.window + spread) {
+                faults.push(format!("cables {row:?}: the greatest sum not met"));
             }
         }
         faults
@@ -372,7 +390,7 @@ impl Run {
                     None => liars.direct(aim),
                 };
                 let settle = |sheet: &[u8], tray: &mut [u8]| engine.settle(sheet, tray);
-                let answer = new_value(random, settings, &entries, settle);
+                let answer = new_value(random, settings, None, &entries, tally, settle);
                 let (worth, new) = match answer {
                     Ok(new) => {
                         tally.settled += 1;
@@ -467,11 +485,14 @@ fn same_plan(
     right
 }
 
-/// Settles a sheet over a tray with old contents. The new value, or the refusal.
+/// Settles a sheet over a tray with old contents, where cables differ with their spread, and holds the sum of
+/// distances. The new value, or the refusal.
 pub fn new_value(
     random: &Random,
     settings: &Settings,
+    cables: Option<u32>,
     entries: &[Reading],
+    tally: &mut Tally,
     settle: impl Fn(&[u8], &mut [u8]) -> u64,
 ) -> Result<i32, u64> {
     let (marks, readings) = reference::marks_and_readings(entries);
@@ -479,7 +500,10 @@ pub fn new_value(
     let mut tray = [random.draw() as u8; 330];
     let answer = settle(&sheet, &mut tray);
     match number(answer) {
-        0 => Ok(i32::from_le_bytes(tray[6..10].try_into().unwrap())),
+        0 => {
+            sums::hold_sum(tally, settings, cables, &tray);
+            Ok(i32::from_le_bytes(tray[6..10].try_into().unwrap()))
+        }
         _ => Err(answer),
     }
 }

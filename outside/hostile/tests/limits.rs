@@ -4,7 +4,7 @@
 use std::process::Command;
 
 /// All that the station holds, in the words of its report.
-const HELD: [&str; 30] = [
+const HELD: [&str; 36] = [
     "t ≤ m    gap   round 1  FCA",
     "t ≤ m    gap   round 1  CCA, median",
     "t ≤ m    gap   round 1  CCA, others",
@@ -35,6 +35,12 @@ const HELD: [&str; 30] = [
     "every sheet and tray passes checks 1 to 9",
     "t ≤ m    no cabinet refuses, cables",
     "a gap past Lemma 16, cables",
+    "any t    sum   document all",
+    "any t    sum   exact    FCA",
+    "any t    sum   exact    CCA",
+    "any t    sum   exact    cables",
+    "a new value is the mean by distances",
+    "a sum past N spans",
 ];
 
 fn hostile(words: &[&str]) -> (Option<i32>, String) {
@@ -68,6 +74,7 @@ fn a_station_without_runs_fails() {
     }
     assert_eq!(text.matches("the exact limits not met").count(), 6, "{text}");
     assert_eq!(text.matches("): the limits not met").count(), 5, "{text}");
+    assert_eq!(text.matches("): the greatest sum not met").count(), 5, "{text}");
 }
 
 #[test]
@@ -149,5 +156,44 @@ fn spreads_are_held() {
     for (name, limit) in held {
         let found = broken(name);
         assert!(found.iter().any(|broken| broken == limit), "{name}, {limit}: {found:?}");
+    }
+}
+
+/// N spans would be too tight a limit of a sum: eight of them are met where N is 7 and m is 2.
+#[test]
+fn sums_pass_n_spans() {
+    let (status, text) = hostile(&["--engine", "reference", "--runs", "3000"]);
+    assert_eq!(status, Some(0), "{text}");
+    let before = text.split_once(" past N spans").expect("the sums are counted").0;
+    let passed: u64 = before.rsplit(' ').next().unwrap().parse().unwrap();
+    assert!(passed > 100, "N spans are passed {passed} times");
+    let table = text.split_once("2N spans     N spans").expect("a table of sums").1;
+    let rows: Vec<Vec<u32>> = table
+        .lines()
+        .map(|line| line.split_whitespace().map_while(|word| word.parse().ok()).collect())
+        .filter(|row: &Vec<u32>| row.len() == 7)
+        .collect();
+    assert_eq!(rows.len(), 5, "{table}");
+    for row in &rows {
+        let (n, m, span, met) = (row[0], row[1], row[2], row[3]);
+        assert_eq!(met, (n + m - 1) * span);
+        assert_eq!(met > n * span, m > 1);
+    }
+    assert_eq!(rows[4], [64, 21, 1_100_000, 92_400_000, 92_400_000, 140_800_000, 70_400_000]);
+}
+
+/// Readings accepted too far out and an estimate over all of them pass each limit of a sum; a sum that ends at
+/// N spans gives another mean.
+#[test]
+fn sums_are_held() {
+    for name in ["span-wide", "all-readings"] {
+        let found = broken(name);
+        for limit in &HELD[30..34] {
+            assert!(found.iter().any(|broken| broken == limit), "{name}, {limit}: {found:?}");
+        }
+    }
+    for name in ["sum-cut", "sum-end"] {
+        let found = broken(name);
+        assert!(found.iter().any(|broken| broken == HELD[34]), "{name}: {found:?}");
     }
 }

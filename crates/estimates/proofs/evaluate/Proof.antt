@@ -1,11 +1,14 @@
--- `estimates::evaluate` meets its contract: where nothing is counted all is 0, and else the lists fit.
+-- `estimates::evaluate` meets its contract: where nothing is counted all is 0, and else the distances of all used values
+-- from the lowest reading add up to a number of 32 bits.
 -- Assumes nothing.
-use native.Mathlib.Nat.{pos-of-ne-zero}
 use native.Mathlib.Omega.{arith}
 use borrow.Author.Needs.{needs}
-use Rattle.summaries.specs.Summaries.{Fitting, Summarizes}
-use Rattle.summaries.proofs.Fits.{fitting, counted-fit}
-use Rattle.estimates.proofs.Evaluating.{count-few, replaced-small, used-small, evaluate-empty, evaluate-some}
+use mathlib.Core.Bool.{false}
+use mathlib.Core.Path.{_≡_}
+use Rattle.summaries.specs.Summaries.{Fitting, Summarizes, ungathered}
+use Rattle.summaries.proofs.Fits.{counted-gathered}
+use Rattle.estimates.proofs.Evaluating.{count-few, sum-most, sum-fits, estimate-most}
+use Rattle.estimates.proofs.Evaluating.{value-most, evaluate-empty, evaluate-some}
 use Rattle.estimates.proofs.evaluate.Statement.{statement}
 use Rattle.estimates.proofs.evaluate.Tie as tie
 
@@ -17,19 +20,17 @@ module _ (c : tie.Else1) where
   abbrev start : tie.Start
   start = gathered .before .before .before
 
-  fit : Fitting (start .args .marks .now) (start .args .values .now)
-  fit =
-      fitting (start .args .marks .now) (start .args .values .now)
-      (counted-fit (start .args .marks .now) (start .args .values .now) (gathered .summarize .result)
+  some : ungathered (start .args .marks .now) (start .args .values .now) ≡ false
+  some =
+      counted-gathered (start .args .marks .now) (start .args .values .now) (gathered .summarize .result)
       (gathered .summarize .ensures)
-      (c .if1 .left))
+      (c .if1 .left)
+
+  fit : Fitting (start .args .marks .now) (start .args .values .now)
+  fit = gathered .summarize .ensures .all some .0
 
   due : Summarizes (gathered .summarize .result) (start .args .marks .now) (start .args .values .now)
-  due =
-      gathered .summarize .ensures .fit
-      (counted-fit (start .args .marks .now) (start .args .values .now) (gathered .summarize .result)
-      (gathered .summarize .ensures)
-      (c .if1 .left))
+  due = gathered .summarize .ensures .all some .1
 
 summarize-requires : tie.Need-summarize-requires
 summarize-requires c κs = search needs
@@ -50,49 +51,79 @@ sub-missing c =
     let a = start some .args in
     count-few (a .marks .now) (a .values .now) (fit some) (gathered some .summarize .result) (due some)
 
-cast-missing : tie.Need-cast-missing
-cast-missing c = search needs
-
 estimate-requires : tie.Need-estimate-requires
-estimate-requires c κs = let some = c .before in ((fit some, pos-of-ne-zero (some .if1 .left)), due some)
+estimate-requires c κs = let some = c .before in (fit some, due some)
 
-cast-nearest-mean : tie.Need-cast-nearest-mean
-cast-nearest-mean c = search needs
-
-mul-nearest-mean : tie.Need-mul-nearest-mean
-mul-nearest-mean c =
+mul-sum : tie.Need-mul-sum
+mul-sum c =
     let some = c .before .before in
     let a = start some .args in
     let r = gathered some .summarize .result in
-    let e = c .estimate .result in
+    let e = c .estimate in
     omega (
       arith,
-      fit some .few,
-      replaced-small (a .marks .now) (a .values .now) (fit some) r (due some) e (omega arith),
+      sum-most (a .marks .now) (a .values .now) (fit some) r (due some) (a .kind) (e .result) (e .ensures),
+      sum-fits (a .marks .now) (a .values .now) (fit some) r (due some) (a .kind) (e .result) (e .ensures),
     )
 
-add-nearest-mean : tie.Need-add-nearest-mean
-add-nearest-mean c =
+add-sum : tie.Need-add-sum
+add-sum c =
     let estimated = c .before in
     let some = estimated .before .before in
     let a = start some .args in
     let r = gathered some .summarize .result in
-    let e = estimated .estimate .result in
-    omega (arith, fit some .few, used-small (a .marks .now) (a .values .now) (fit some) r (due some) e (omega arith))
+    let e = estimated .estimate in
+    omega (
+      arith,
+      sum-most (a .marks .now) (a .values .now) (fit some) r (due some) (a .kind) (e .result) (e .ensures),
+      sum-fits (a .marks .now) (a .values .now) (fit some) r (due some) (a .kind) (e .result) (e .ensures),
+    )
 
-nearest-mean-requires : tie.Need-nearest-mean-requires
-nearest-mean-requires c κs = search needs
-
-returns-2 : tie.Need-returns-2
-returns-2 c =
+add-t11 : tie.Need-add-t11
+add-t11 c =
     let estimated = c .before .before in
     let some = estimated .before .before in
     let a = start some .args in
     let r = gathered some .summarize .result in
+    let e = estimated .estimate in
+    omega (
+      arith,
+      c .struct-known4 .given,
+      estimate-most (a .marks .now) (a .values .now) (fit some) r (due some) (a .kind) (e .result) (e .ensures),
+    )
+
+nearest-mean-requires : tie.Need-nearest-mean-requires
+nearest-mean-requires c κs = search needs
+
+add-t13 : tie.Need-add-t13
+add-t13 c =
+    let mean = c .before in
+    let estimated = mean .before .before .before in
+    let some = estimated .before .before in
+    let a = start some .args in
+    let r = gathered some .summarize .result in
+    let e = estimated .estimate in
+    omega (
+      arith,
+      c .struct-known5 .given,
+      value-most (a .marks .now) (a .values .now) (fit some) r (due some) (a .kind) (e .result) (e .ensures)
+          (mean .nearest-mean .result)
+          (mean .nearest-mean .ensures),
+    )
+
+returns-2 : tie.Need-returns-2
+returns-2 c =
+    let mean = c .before in
+    let estimated = mean .before .before .before in
+    let some-here = estimated .before .before in
+    let a = start some-here .args in
+    let r = gathered some-here .summarize .result in
     let e = estimated .estimate in (
-      evaluate-some (a .marks .now) (a .values .now) (fit some) r (due some) (a .kind) (some .if1 .left)
-          (e .result) (c .nearest-mean .result) (omega arith) (e .ensures) (c .nearest-mean .ensures),
-      omega (arith, fit some .few, count-few (a .marks .now) (a .values .now) (fit some) r (due some)),
+      evaluate-some (a .marks .now) (a .values .now) (fit some-here) r (due some-here) (a .kind) (e .result) (e .ensures)
+          (some some-here)
+          (mean .nearest-mean .result)
+          (mean .nearest-mean .ensures),
+      omega (arith, fit some-here .few, count-few (a .marks .now) (a .values .now) (fit some-here) r (due some-here)),
     )
 
 pub evaluate-spec : {M : Type 1} → statement M
@@ -103,10 +134,10 @@ evaluate-spec =
     returns
     cast-n
     sub-missing
-    cast-missing
     estimate-requires
-    cast-nearest-mean
-    mul-nearest-mean
-    add-nearest-mean
+    mul-sum
+    add-sum
+    add-t11
     nearest-mean-requires
+    add-t13
     returns-2)

@@ -1,40 +1,18 @@
--- `means::floor_mean` meets its contract: numbers that can have the sum may be divided, and their quotient fits.
+-- `means::floor_mean` meets its contract: some numbers are divided.
 -- Assumes nothing.
 use borrow.Author.Needs.{needs}
-use native.Mathlib.Omega.{arith}
-use Rattle.means.proofs.Means.{some, few, small, floor-fits, floor-due, floor-none}
+use Rattle.means.proofs.Means.{floor-none, floor-is}
 use Rattle.means.proofs.floor_mean.Statement.{statement}
 use Rattle.means.proofs.floor_mean.Tie as tie
 
-summable-requires : tie.Need-summable-requires
-summable-requires c κs = search needs
-
-divide-requires : tie.Need-divide-requires
-divide-requires c κs =
-    let a = c .before .before .args in
-    let tested = c .before .summable .ensures in
-    let passed = c .if1 .taken in
-    let l = few (a .n) (a .sum) tested passed in
-    (some (a .n) (a .sum) tested passed, omega arith, omega (arith, small (a .n) (a .sum) tested passed))
-
-cast-result : tie.Need-cast-result
-cast-result c =
-    let test = c .before in
-    let a = test .before .before .args in
-    let l = floor-fits (a .n) (a .sum) (test .before .summable .ensures) (test .if1 .taken) in
-    omega (arith, c .divide .ensures)
+div-result : tie.Need-div-result
+div-result c = search needs
 
 returns : tie.Need-returns
-returns c =
-    let test = c .before in
-    let a = test .before .before .args in
-    floor-due (a .n) (a .sum) (test .before .summable .ensures) (test .if1 .taken) (c .divide .result)
-    (c .divide .ensures)
+returns c = floor-none (c .before .args .n) (c .before .args .sum) (c .if1 .taken)
 
 returns-2 : tie.Need-returns-2
-returns-2 c =
-    let a = c .before .before .args in
-    floor-none (a .n) (a .sum) (c .before .summable .ensures) (c .if1 .left)
+returns-2 c = floor-is (c .before .args .n) (c .before .args .sum) (c .if1 .left)
 
 pub floor-mean-spec : {M : Type 1} → statement M
-floor-mean-spec = tie.close (tie.spec summable-requires divide-requires cast-result returns returns-2)
+floor-mean-spec = tie.close (tie.spec div-result returns returns-2)

@@ -1,70 +1,53 @@
--- `means::nearest_mean` meets its contract: numbers that can have the sum may be divided, and their quotient fits.
+-- `means::nearest_mean` meets its contract: the whole part, and 1 more by the remainder, is the nearest, and fits.
 -- Assumes nothing.
 use borrow.Author.Needs.{needs}
+use mathlib.Core.Path.{_≡_, ap, _∙_}
+use Prim.Native.Nat.{ℕ, _+_, _/_}
+use native.Mathlib.Nat.{mod-lt, pos-of-ne-zero}
 use native.Mathlib.Omega.{arith}
-use Rattle.means.proofs.Means.{some, few, small, nearest-fits, nearest-due, nearest-none}
+use mir.Val.{boolByte}
+use Rattle.arithmetic.specs.Counting.{bit}
+use Rattle.loop_laws.proofs.Loops.{flag}
+use Rattle.round_laws.specs.Naturals.{mean-nat}
+use Rattle.value_laws.proofs.Means.{mean-split}
+use Rattle.means.proofs.Means.{mean-small, nearest-none, nearest-is}
 use Rattle.means.proofs.nearest_mean.Statement.{statement}
 use Rattle.means.proofs.nearest_mean.Tie as tie
 
-summable-requires : tie.Need-summable-requires
-summable-requires c κs = search needs
-
-add-divide : tie.Need-add-divide
-add-divide c =
+-- what is added up
+nearest : (c : tie.After-rounds-up) → let a = c .before .before .args in
+    a .sum / a .n + boolByte (c .rounds-up .result) ≡ mean-nat (a .n) (a .sum)
+nearest c =
     let a = c .before .before .args in
-    let tested = c .before .summable .ensures in
-    let passed = c .if1 .taken in
-    omega (arith, few (a .n) (a .sum) tested passed, small (a .n) (a .sum) tested passed)
-
-add-divide-2 : tie.Need-add-divide-2
-add-divide-2 c =
-    let a = c .before .before .args in
-    let tested = c .before .summable .ensures in
-    let passed = c .if1 .taken in
-    omega (arith, few (a .n) (a .sum) tested passed, small (a .n) (a .sum) tested passed)
-
-mul-divide : tie.Need-mul-divide
-mul-divide c = search needs
-
-divide-requires : tie.Need-divide-requires
-divide-requires c κs =
-    let a = c .before .before .args in
-    let tested = c .before .summable .ensures in
-    let passed = c .if1 .taken in
-    let l = few (a .n) (a .sum) tested passed in (
-      omega (arith, some (a .n) (a .sum) tested passed),
-      omega arith,
-      omega (arith, small (a .n) (a .sum) tested passed),
-    )
-
-cast-result : tie.Need-cast-result
-cast-result c =
-    let test = c .before in
-    let a = test .before .before .args in
-    let l = nearest-fits (a .n) (a .sum) (test .before .summable .ensures) (test .if1 .taken) in
-    omega (arith, c .divide .ensures)
+    ap (λ (k : ℕ). a .sum / a .n + k) (flag (c .rounds-up .result) ∙ ap bit (c .rounds-up .ensures))
+    ∙ mean-split (a .n) (pos-of-ne-zero (c .before .if1 .left)) (a .sum)
 
 returns : tie.Need-returns
-returns c =
-    let test = c .before in
-    let a = test .before .before .args in
-    nearest-due (a .n) (a .sum) (test .before .summable .ensures) (test .if1 .taken) (c .divide .result)
-    (c .divide .ensures)
+returns c = nearest-none (c .before .args .n) (c .before .args .sum) (c .if1 .taken)
+
+div-result : tie.Need-div-result
+div-result c = search needs
+
+rem-rounds-up : tie.Need-rem-rounds-up
+rem-rounds-up c = search needs
+
+rounds-up-requires : tie.Need-rounds-up-requires
+rounds-up-requires c κs = mod-lt (c .before .args .sum) (pos-of-ne-zero (c .if1 .left))
+
+cast-result : tie.Need-cast-result
+cast-result c = search needs
+
+add-result : tie.Need-add-result
+add-result c =
+    let a = c .before .before .args in
+    omega (arith, nearest c, mean-small (a .n) (a .sum) (pos-of-ne-zero (c .before .if1 .left)))
 
 returns-2 : tie.Need-returns-2
 returns-2 c =
     let a = c .before .before .args in
-    nearest-none (a .n) (a .sum) (c .before .summable .ensures) (c .if1 .left)
+    nearest c ∙ nearest-is (a .n) (a .sum) (c .before .if1 .left)
 
 pub nearest-mean-spec : {M : Type 1} → statement M
 nearest-mean-spec =
     tie.close
-    (tie.spec
-    summable-requires
-    add-divide
-    add-divide-2
-    mul-divide
-    divide-requires
-    cast-result
-    returns
-    returns-2)
+    (tie.spec returns div-result rem-rounds-up rounds-up-requires cast-result add-result returns-2)

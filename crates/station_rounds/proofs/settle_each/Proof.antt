@@ -6,7 +6,6 @@ use mathlib.Core.Path.{_≡_, refl, sym, _∙_}
 use Prim.Native.Nat.{_-_}
 use native.Mathlib.Omega.{arith}
 use lib.ListN.{length}
-use Rattle.station_rounds.specs.Settling.{Fits}
 use Rattle.station_rounds.proofs.Passing.{Passing, begin, pass, stopped, ended}
 use Rattle.station_rounds.proofs.settle_each.Statement.{statement}
 use Rattle.station_rounds.proofs.settle_each.Tie as tie
@@ -35,6 +34,7 @@ settle-one-requires c κs =
       record {
         cabinets = f .cabinets;
         faults = f .faults;
+        narrow = f .narrow;
         few = f .few;
         values-held = f .values-held;
         pairs = f .pairs;

@@ -3,7 +3,7 @@
 -- Assumes nothing.
 use borrow.Author.Needs.{needs}
 use borrow.Author.Tests.{not-true, not-false}
-use mathlib.Core.Bool.{true, false}
+use mathlib.Core.Bool.{true}
 use mathlib.Core.Path.{_≡_, sym, _∙_}
 use Prim.Native.Nat.{_≤_}
 use lib.ListN.{length}
@@ -16,7 +16,7 @@ use Rattle.station_rounds.proofs.settle_round.Statement.{statement}
 use Rattle.station_rounds.proofs.settle_round.Tie as tie
 
 abbrev call : tie.After-fits2 → tie.Start
-call c = c .before .before .before .before .before .before .before .before
+call c = c .before .before .before .before .before .before .before .before .before
 
 fits-here :
     (c : tie.Else1)
@@ -41,6 +41,9 @@ cast-cabinets c = search needs
 
 cast-faults : tie.Need-cast-faults
 cast-faults c = search needs
+
+mul-planned : tie.Need-mul-planned
+mul-planned c = search needs
 
 fits-requires : tie.Need-fits-requires
 fits-requires c κs = search needs
@@ -118,6 +121,7 @@ settle-round-spec =
     (tie.spec
     cast-cabinets
     cast-faults
+    mul-planned
     fits-requires
     returns
     array-borrow-prefix-marks

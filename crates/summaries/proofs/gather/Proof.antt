@@ -9,16 +9,16 @@ use lib.ListN.{length, getD}
 use mathlib.Core.Logic.{⊎-elim}
 use Rattle.loop_laws.proofs.Loops.{count-small}
 use Rattle.held.specs.Held.{presentIn}
-use Rattle.summaries.proofs.Gathering.{Gathered, gather-none, gather-present, gather-missing, gather-all}
+use Rattle.summaries.proofs.Gathering.{SoFar, gather-none, gather-present, gather-missing, gather-all}
 use Rattle.summaries.proofs.gather.Statement.{statement}
 use Rattle.summaries.proofs.gather.Tie as tie
 
 abbrev Inv-readings : tie.InvT-readings
-Inv-readings marks values count₀ sum₀ low₀ high₀ t₀ count sum low high t =
-    Gathered marks values count sum low high t
+Inv-readings marks values count₀ total₀ low₀ high₀ t₀ count total low high t =
+    SoFar marks values count total low high t
 
 abbrev μ-readings : tie.MeasureT-readings
-μ-readings marks values count₀ sum₀ low₀ high₀ t₀ count sum low high t = length marks - t
+μ-readings marks values count₀ total₀ low₀ high₀ t₀ count total low high t = length marks - t
 
 readings-holds : tie.Need-readings-holds Inv-readings μ-readings
 readings-holds c =
@@ -41,15 +41,8 @@ add-count c =
     let a = at .before .before .before .args .marks .now in
     omega (arith, count-small (presentIn a) (length a) (at .readings .inv .counts))
 
-cast-sum : tie.Need-cast-sum Inv-readings μ-readings
-cast-sum c =
-    let read = c .before .before in
-    omega (arith, read .shared-slice-known3 .given (read .before .before .readings .t))
-
-add-sum : tie.Need-add-sum Inv-readings μ-readings
-add-sum c =
-    let read = c .before .before in
-    omega (arith, read .shared-slice-known3 .given (read .before .before .readings .t))
+wrapping-add-u32-requires : tie.Need-wrapping-add-u32-requires Inv-readings μ-readings
+wrapping-add-u32-requires c κs = search needs
 
 lower-requires : tie.Need-lower-requires Inv-readings μ-readings
 lower-requires c κs = search needs
@@ -76,15 +69,13 @@ readings-again c =
     let mark = getD marks (r .t) 0 in
     ⊎-elim
     (λ w.
-    rw (w .3, w .4, w .5, w .6)
-    (gather-present marks values (λ j. known .shared-slice-known2 .given j .fits)
-    (r .count) (r .sum) (r .low) (r .high) (r .t) (r .inv) room
+    rw (w .4, w .5, w .6, w .7)
+    (gather-present marks values (r .count) (r .total) (r .low) (r .high) (r .t) (r .inv) room
     (eq-eqb mark 1 (w .0 .taken))
-    (w .1 .result) (w .2 .result) (w .1 .ensures) (w .2 .ensures)))
+    (w .1 .result) (w .2 .result) (w .3 .result) (w .1 .ensures) (w .2 .ensures) (w .3 .ensures)))
     (λ w.
     rw (w .1, w .2, w .3, w .4)
-    (gather-missing marks values (λ j. known .shared-slice-known2 .given j .fits)
-    (r .count) (r .sum) (r .low) (r .high) (r .t) (r .inv) room
+    (gather-missing marks values (r .count) (r .total) (r .low) (r .high) (r .t) (r .inv) room
     (ne-eqb mark 1 (w .0 .left))))
     (c .if1 .came)
 
@@ -94,8 +85,9 @@ returns c =
     let known = at .before in
     let a = known .before .before .args in
     let r = at .readings in
-    gather-all (a .marks .now) (a .values .now) (λ j. known .shared-slice-known2 .given j .fits)
-    (r .count) (r .sum) (r .low) (r .high) (r .t) (r .inv) (c .readings-test .left)
+    gather-all (a .marks .now) (a .values .now) (r .count) (r .total) (r .low) (r .high) (r .t) (r .inv)
+    (λ j. known .shared-slice-known2 .given j .fits)
+    (c .readings-test .left)
 
 pub gather-spec : {M : Type 1} → statement M
 gather-spec =
@@ -108,8 +100,7 @@ gather-spec =
     shared-slice-read-v
     shared-slice-read-if1
     add-count
-    cast-sum
-    add-sum
+    wrapping-add-u32-requires
     lower-requires
     higher-requires
     add-t

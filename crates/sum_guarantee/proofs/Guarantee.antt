@@ -1,0 +1,216 @@
+-- The theorem of specs/Guarantee.antt: the readings moved up are naturals, of which crates/value_laws/proofs/Apart.antt
+-- says how far they lie apart.
+-- Assumes nothing.
+use mathlib.Core.Bool.{Bool, true}
+use mathlib.Core.List.{List}
+use mathlib.Core.Option.{none}
+use mathlib.Core.Path.{_≡_, refl, sym, ap, _∙_, subst}
+use Prim.Native.Nat.{ℕ, _+_, _*_, _-_, _≤_, _<_, zero-le}
+use native.Mathlib.Nat.{le-refl, mul-zero, mul-comm, mul-assoc, mul-le-mul, add-comm, add-mul, one-mul}
+use native.Mathlib.Omega.{arith}
+use borrow.Author.Tests.{le-leb}
+use Rattle.arithmetic.proofs.Bools.{clash, to-T}
+use lib.IntN.{ℤ, pos, _+ℤ_, _-ℤ_}
+use lib.ListN.{length}
+use lib.Signed.{_≤ℤ_}
+use Rattle.arithmetic.specs.Counting.{count, sum}
+use Rattle.arithmetic.specs.Naturals.{down, total}
+use Rattle.arithmetic.proofs.Shift.{down-cong, pos-down, add-down, add-pos-down, neg-down, down-up}
+use Rattle.arithmetic.proofs.Sums.{total-ext, total-add, total-const, sum-ext, sum-down}
+use Rattle.model.specs.declared.Settings.{Settings}
+use Rattle.model.specs.Ensemble.{Reading, missing, present, Readings, isPresent, ticks, quorum, maxCabinets, maxWindow, maxSpread}
+use Rattle.model.specs.RoundSheet.{settingsAt}
+use Rattle.model.specs.AnswerSheet.{answerLength}
+use Rattle.model.specs.Steps.{acceptedAt, roundAt, spanWidth}
+use Rattle.model.specs.Refusals.{firstOf, settleChecks}
+use Rattle.model.specs.Calls.{granted, settleSpread}
+use Rattle.refusal_laws.proofs.Limits.{Limits}
+use Rattle.sheet_laws.proofs.Outcomes.{granted-none}
+use Rattle.round_laws.specs.Naturals.{shifted, mean-nat}
+use Rattle.round_laws.proofs.Local.{EqualBelow}
+use Rattle.round_laws.proofs.Represent.{reach, reach-above, raise, represented}
+use Rattle.round_laws.proofs.Natural.{accepted-present, acc-of, used-of, round-count, round-used, round-value}
+use Rattle.value_laws.proofs.Extremes.{LeastOf, least}
+use Rattle.value_laws.proofs.Means.{mean-shift, mean-split}
+use Rattle.value_laws.proofs.Apart as apart
+use Rattle.value_laws.proofs.Sheets.{settled-limits, settled-spread, settled-some}
+use Rattle.demand_1_2.specs.Demand2.{LowestAccepted}
+use Rattle.demand_1_2.proofs.Represented.{le-of-down, accepted-up}
+use Rattle.sum_guarantee.specs.Guarantee.{readings, width, distance, rounded, apartLimit, sumLimit, widestSum, closeLimit, SumLimits, SumGuarantee}
+
+-- the difference of two numbers that were moved down alike
+sub-down : (k a b : ℕ) → b ≤ a → down k a -ℤ down k b ≡ pos (a - b)
+sub-down k a b l =
+    ap (λ z. down k a +ℤ z) (neg-down k b) ∙ add-down k a b k ∙ down-cong (k + b) (a + k) 0 (a - b) (omega arith)
+    ∙ sym (pos-down (a - b))
+
+-- a present reading
+reading-is : (v : Reading) → isPresent v ≡ true → v ≡ present (ticks v)
+reading-is (present z) e = refl
+reading-is missing e = clash e refl
+
+le-pos : (a b : ℕ) → a ≤ b → pos a ≤ℤ pos b
+le-pos a b h = record { le = to-T (le-leb a b h) }
+
+module _ (s : List ℕ) (D : ℕ) (answer : List ℕ) (size : ℕ) (ok : settleSpread s D answer .verdict ≡ granted size) where
+  passes : firstOf (settleChecks s D (length answer)) ≡ none
+  unfolding settleSpread
+  passes = granted-none (firstOf (settleChecks s D (length answer))) (answerLength (settingsAt s .n)) size ok
+
+  abbrev own : Settings
+  own = settingsAt s
+
+  abbrev v : Readings
+  v = readings s
+
+  abbrev n : ℕ
+  n = settingsAt s .n
+
+  within : Limits (settingsAt s)
+  within = settled-limits s D answer passes
+
+  -- ---- the readings as naturals
+
+  k : ℕ
+  k = reach v n
+
+  abbrev here : ℕ → Bool
+  here r = isPresent (readings s r)
+
+  abbrev x : ℕ → ℕ
+  x = raise k v
+
+  same : EqualBelow n v (shifted k here x)
+  unfolding k
+  same = represented k v n (le-refl k)
+
+  abbrev acc : ℕ → Bool
+  acc = acc-of own D here x
+
+  some-acc : 0 < count acc n
+  unfolding roundAt
+  some-acc = subst (λ (a : ℕ). 0 < a) (round-count own D here x v k same) (settled-some s D answer passes)
+
+  lo : LeastOf acc x n
+  lo = least acc x n some-acc
+
+  abbrev low : ℕ
+  low = x (lo .index)
+
+  most : n < 2 * quorum own
+  most = omega (arith, within .faults)
+
+  abbrev d : ℕ → ℕ
+  d = apart.distance (spanWidth own D) here x (quorum own) n most k (own .estimator) lo
+
+  used-above : (r : ℕ) → r < n → low ≤ used-of own D here x k r
+  used-above r l = apart.used-near (spanWidth own D) here x (quorum own) n most k (own .estimator) lo r l .low
+
+  -- ---- the lowest accepted reading
+
+  ticks-are : (r : ℕ) → r < n → ticks (v r) ≡ down k (x r)
+  unfolding k
+  ticks-are r l = sym (down-up k (ticks (v r)) (reach-above v n r l))
+
+  accepted-is : (r : ℕ) → r < n → acceptedAt own D v r ≡ acc r
+  unfolding acceptedAt k
+  accepted-is r l = accepted-up v n k (le-refl k) (spanWidth own D) (quorum own) r l
+
+  lowest : LowestAccepted own D v (down k low)
+  lowest =
+      record {
+        reading =
+            record {
+              cabinet = lo .index;
+              inRange = lo .inRange;
+              accepted = accepted-is (lo .index) (lo .inRange) ∙ lo .passes;
+              reads =
+                  reading-is (v (lo .index))
+                  (accepted-present (spanWidth own D) here x (quorum own) n (lo .index) (lo .passes))
+                  ∙ ap present (ticks-are (lo .index) (lo .inRange));
+            };
+        noneBelow = λ r l e.
+            subst (λ z. down k low ≤ℤ z) (sym (ticks-are r l))
+            (le-of-down k low (x r) (lo .first r l (sym (accepted-is r l) ∙ e)));
+      }
+
+  -- ---- the distances
+
+  distance-is : (r : ℕ) → r < n → distance s D (down k low) r ≡ pos (d r)
+  unfolding roundAt
+  distance-is r l =
+      ap (λ z. z -ℤ down k low) (round-used own D here x v k same some-acc r l)
+      ∙ sub-down k (used-of own D here x k r) low (used-above r l)
+
+  sum-is : sum (distance s D (down k low)) n ≡ pos (total d n)
+  sum-is =
+      sum-ext (distance s D (down k low)) (λ r. down 0 (d r)) n (λ r l. distance-is r l ∙ pos-down (d r))
+      ∙ sum-down 0 d n
+      ∙ ap (λ (j : ℕ). down j (total d n)) (mul-zero n)
+      ∙ sym (pos-down (total d n))
+
+  used-total : total (used-of own D here x k) n ≡ total d n + low * n
+  used-total =
+      total-ext (used-of own D here x k) (λ r. d r + low) n (λ r l. omega (arith, used-above r l))
+      ∙ total-add d (λ _. low) n
+      ∙ ap (λ (j : ℕ). total d n + j) (total-const low n ∙ mul-comm n low)
+
+  value-is : roundAt s D .value ≡ down k low +ℤ pos (rounded n (total d n))
+  unfolding roundAt
+  value-is =
+      round-value own D here x v k same (within .someCabinet) some-acc
+      ∙ ap (λ (t : ℕ). down k (mean-nat n t)) used-total
+      ∙ ap (down k)
+      (mean-shift n (within .someCabinet) (total d n) low
+      ∙ add-comm (mean-nat n (total d n)) low
+      ∙ ap (λ (j : ℕ). low + j) (sym (mean-split n (within .someCabinet) (total d n))))
+      ∙ sym (add-pos-down k low (rounded n (total d n)))
+
+  -- ---- the limits of their sum
+
+  twice-most : total d n ≤ sumLimit s D
+  twice-most =
+      omega (
+        arith,
+        apart.distances-twice (spanWidth own D) here x (quorum own) n most k (own .estimator) lo,
+        ap (λ (j : ℕ). j * width s D) (mul-comm 2 n) ∙ mul-assoc n 2 (width s D),
+      )
+
+  widest-most : sumLimit s D ≤ widestSum
+  widest-most =
+      let cabinets : 2 * n ≤ 2 * maxCabinets = omega (arith, within .cabinets) in
+      let span : width s D ≤ maxWindow + maxSpread = omega (arith, within .window, settled-spread s D answer passes) in
+      mul-le-mul {n₂ = 2 * maxCabinets} {m₂ = maxWindow + maxSpread} cabinets span
+
+  closer-most : total d n ≤ closeLimit s D
+  closer-most =
+      let rest : n - quorum own ≡ own .m = omega (arith, within .faults) in
+      let scaled = ap (λ (j : ℕ). (n + j) * width s D) rest in
+      let one : n + own .m ≡ n + own .m - 1 + 1 = omega (arith, within .someCabinet) in
+      let split = ap (λ (j : ℕ). j * width s D) one ∙ add-mul (n + own .m - 1) 1 (width s D) in
+      omega (
+        arith,
+        apart.distances-most (spanWidth own D) here x (quorum own) n most k (own .estimator) lo,
+        one-mul (width s D),
+      )
+
+  pub limits : SumLimits s D
+  limits =
+      record {
+        low = down k low;
+        isLowest = lowest;
+        above = λ r l. subst (λ z. pos 0 ≤ℤ z) (sym (distance-is r l)) (le-pos 0 (d r) zero-le);
+        within = λ r l.
+            subst (λ z. z ≤ℤ pos (apartLimit s D)) (sym (distance-is r l))
+            (le-pos (d r) (apartLimit s D)
+            (apart.distance-most (spanWidth own D) here x (quorum own) n most k (own .estimator) lo r l));
+        total = total d n;
+        isTotal = sum-is;
+        atMost = twice-most;
+        narrow = widest-most;
+        closer = closer-most;
+        value = value-is;
+      }
+
+pub sum-guarantee : SumGuarantee
+sum-guarantee s D answer size ok = limits s D answer size ok

@@ -1,0 +1,3 @@
+pub mod Computed
+pub mod Guarantee
+pub mod Sanity

@@ -18,9 +18,10 @@ pub fn check_parts(marks: &[u8], readings: &[u8]) -> Screened
         ⌜ checkOf r
         ≡ orNext (marksIn (now (marks .entry))) (missingIn (now (marks .entry)) (now (readings .entry))) ⌝ }
 {
-    let eighth = mark_checks::check(marks);
-    let ninth = missing_checks::check(marks, readings);
-    refusals::first_of(eighth, ninth)
+    match mark_checks::check(marks) {
+        Screened::Refused(r) => Screened::Refused(r),
+        Screened::Passed => missing_checks::check(marks, readings),
+    }
 }
 
 // Checks 6, 8 and 9 of a sheet with these settings.

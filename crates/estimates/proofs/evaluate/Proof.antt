@@ -5,6 +5,9 @@ use native.Mathlib.Omega.{arith}
 use borrow.Author.Needs.{needs}
 use mathlib.Core.Bool.{false}
 use mathlib.Core.Path.{_≡_}
+use Prim.Native.Nat.{_+_, _*_, _-_, _<_}
+use lib.ListN.{length}
+use Rattle.arithmetic.specs.Words.{twoTo32}
 use Rattle.summaries.specs.Summaries.{Fitting, Summarizes, ungathered}
 use Rattle.summaries.proofs.Fits.{counted-gathered}
 use Rattle.estimates.proofs.Evaluating.{count-few, sum-most, sum-fits, estimate-most}
@@ -54,8 +57,13 @@ sub-missing c =
 estimate-requires : tie.Need-estimate-requires
 estimate-requires c κs = let some = c .before in (fit some, due some)
 
-mul-sum : tie.Need-mul-sum
-mul-sum c =
+-- the sum of all distances fits
+sum-small :
+    (c : tie.After-estimate)
+    → let r = gathered (c .before .before) .summarize .result in
+    let marks = start (c .before .before) .args .marks .now in
+    r .sum + (length marks - r .count) * c .estimate .result < twoTo32
+sum-small c =
     let some = c .before .before in
     let a = start some .args in
     let r = gathered some .summarize .result in
@@ -66,18 +74,11 @@ mul-sum c =
       sum-fits (a .marks .now) (a .values .now) (fit some) r (due some) (a .kind) (e .result) (e .ensures),
     )
 
+mul-sum : tie.Need-mul-sum
+mul-sum c = omega (arith, sum-small c)
+
 add-sum : tie.Need-add-sum
-add-sum c =
-    let estimated = c .before in
-    let some = estimated .before .before in
-    let a = start some .args in
-    let r = gathered some .summarize .result in
-    let e = estimated .estimate in
-    omega (
-      arith,
-      sum-most (a .marks .now) (a .values .now) (fit some) r (due some) (a .kind) (e .result) (e .ensures),
-      sum-fits (a .marks .now) (a .values .now) (fit some) r (due some) (a .kind) (e .result) (e .ensures),
-    )
+add-sum c = omega (arith, sum-small (c .before))
 
 add-t11 : tie.Need-add-t11
 add-t11 c =

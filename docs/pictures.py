@@ -4,7 +4,8 @@
     python3 docs/pictures.py            writes docs/answer.svg and docs/windows.svg
     python3 docs/pictures.py check      ends with 1 unless they are what it would write
 
-The round that is drawn is settled here, by document 01's steps, and the windows are worked out by its formula; nothing is copied from the page.
+The round that is drawn is settled here, by document 01's steps with the halves of document 02's request 4, and the windows are worked out by
+the planner's formula; nothing is copied from the page.
 """
 
 import math
@@ -22,9 +23,14 @@ def up(a, n):
     return -(-a // n)
 
 
+def next_window(window, n, m, factor=2):
+    """The planner's: 0 where m or the window is 0, else the whole part of factor × mδ/N plus one."""
+    return factor * m * window // n + 1 if m and window else 0
+
+
 def mean(total):
-    """To the nearest whole number, a half going up."""
-    return math.floor(Fraction(total, N) + Fraction(1, 2))
+    """To the nearest whole number, a half going to the even neighbour; of seven values no mean is a half."""
+    return round(Fraction(total, N))
 
 
 def settle(readings, window):
@@ -142,10 +148,11 @@ def windows():
         page.text(x(0) - 10, y(10**power) + 4, f"{10**power:,}", GREY, "end", 11)
     page.text(20, 56, "ticks", GREY, size=11)
     for name, factor, colour, lift in (("FCA, and CCA with average or midpoint", 2, GOOD, -10), ("CCA with median", 1, TAKEN, 12)):
-        window, points = first, []
-        for k in range(9):
-            points.append((k, window))
-            window = up(factor * M * window, N)
+        window, points = first, [(0, first)]
+        for k in range(1, 9):
+            points.append((k, up(factor * M * window, N)))  # seven is odd
+            window = next_window(window, N, M, factor)
+            assert points[k][1] <= window
         page.parts.append(
             f'<polyline fill="none" stroke="{colour}" stroke-width="2" points="'
             + " ".join(f"{x(k):g},{y(w):.1f}" for k, w in points) + '"/>'

@@ -4,9 +4,9 @@
     target/bin/replay --rounds <TRACE | python3 docs/replay_picture.py TRACE >PICTURE
 
 The values are those that the program wrote, and the claims those of the trace. The window of a round is worked out here, as the planner does
-it: ⌈2mδ/N⌉ of the round before. It is drawn as a band about the middle between the lowest and the highest sound value before the round. A
-claim far outside is drawn as an arrow at the edge. A point of the picture has its numbers as its title. Ends with 1 where the program's words
-do not belong to the trace, or where there is nothing to draw.
+it: the whole part of 2mδ/N plus one, by the window δ of the round before, and 0 where m or δ is 0. It is drawn as a band about the middle between
+the lowest and the highest sound value before the round. A claim far outside is drawn as an arrow at the edge. A point of the picture has its
+numbers as its title. Ends with 1 where the program's words do not belong to the trace, or where there is nothing to draw.
 """
 
 import importlib.util
@@ -17,7 +17,7 @@ import sys
 sys.dont_write_bytecode = True
 HERE = pathlib.Path(__file__).resolve().parent
 sys.path.insert(0, str(HERE))
-from pictures import BAND, GREY, INK, LIAR, Page, up  # noqa: E402
+from pictures import BAND, GREY, INK, LIAR, Page, next_window, up  # noqa: E402
 
 spec = importlib.util.spec_from_file_location("station_trace", HERE.parent / "examples" / "trace.py")
 traces = importlib.util.module_from_spec(spec)
@@ -65,7 +65,7 @@ class Replay:
         """The window of each round, and behind the last the one that would follow."""
         windows = [self.run.window]
         for _ in self.after[1:]:
-            windows.append(up(2 * self.run.m * windows[-1], self.run.n))
+            windows.append(next_window(windows[-1], self.run.n, self.run.m))
         return windows
 
     def values(self, k):

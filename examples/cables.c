@@ -36,7 +36,8 @@ static int show(struct tohiranga_settings settings, uint32_t spread) {
         fprintf(stderr, "refused %" PRIu32 ": %s\n", refused, tohiranga_refusal_text(refused));
         return 1;
     }
-    const int32_t limit = D + (2 * settings.m * span + settings.n - 1) / settings.n; /* the quotient rounded up */
+    /* the quotient's whole part and one more; of an odd N no mean is a half, and the quotient rounded up is enough */
+    const int32_t parts = 2 * settings.m * span, n = settings.n, limit = D + (n % 2 == 0 ? parts / n + 1 : (parts + n - 1) / n);
     printf("N %d, m %d, window %" PRIu32 ", spread %" PRIu32 ": new values %" PRId32 " and %" PRId32 ", %" PRId32
            " apart; at most %" PRId32 "\n",
            settings.n, settings.m, settings.window, spread, low, high, high - low, limit);
@@ -46,5 +47,6 @@ static int show(struct tohiranga_settings settings, uint32_t spread) {
 int main(void) {
     const struct tohiranga_settings four = {4, 1, TOHIRANGA_FCA, TOHIRANGA_MEDIAN, 1};
     const struct tohiranga_settings station = {7, 2, TOHIRANGA_FCA, TOHIRANGA_MEDIAN, 16777};
-    return show(four, 2) || show(station, 0) || show(station, 1677);
+    const struct tohiranga_settings halves = {4, 1, TOHIRANGA_FCA, TOHIRANGA_MEDIAN, 2};
+    return show(four, 2) || show(halves, 4) || show(station, 0) || show(station, 1677);
 }

@@ -1,5 +1,6 @@
 #!/usr/bin/env python3
-"""Write the round sheets of document 01's cases 1 to 10, and the text that the program `settle` is to write for each.
+"""Write the round sheets of document 01's cases 1 to 10, and the text that the program `settle` is to write for each, with the mean's half
+going to the even neighbour (document 02, request 4).
 
     python3 examples/make.py
 
@@ -43,18 +44,18 @@ def accepted(*used):
 SEVEN = [0, 0, 10, 10, 10, 20, 20]
 
 CASES = {
-    # count 3, estimate 4, new 5; the listing that document 01 prints
-    "01": (fca(4, 1, 10, [0, 4, 10, 500]), "round 4 3 4 5\n0 1 0\n1 1 4\n2 1 10\n3 2 4\n"),
+    # count 3, estimate 4, new 4 (18/4); the listing that document 01 prints, of which request 4 says: "The listing's new value becomes 4"
+    "01": (fca(4, 1, 10, [0, 4, 10, 500]), "round 4 3 4 4\n0 1 0\n1 1 4\n2 1 10\n3 2 4\n"),
     # refusal 10
     "02": (fca(4, 1, 9, [0, 4, 10, 500]), "refused 10 0\n"),
-    # estimate 5, new 5
+    # estimate 5, new 5 (19/4)
     "03": (fca(4, 1, 10, [0, 4, 10, 500], MIDPOINT), text("round 4 3 5 5", accepted(0, 4, 10) + [(2, 5)])),
     # new -3
     "04": (fca(1, 0, 0, [-3]), text("round 1 1 -3 -3", accepted(-3))),
-    # new 0; the median of two is the lower
+    # new 0 (-1/2); the median of two is the lower
     "05a": (fca(2, 0, 1, [-1, 0]), text("round 2 2 -1 0", accepted(-1, 0))),
-    # new 1
-    "05b": (fca(2, 0, 1, [0, 1]), text("round 2 2 0 1", accepted(0, 1))),
+    # new 0 (1/2); request 4: "and 0, 1 gives 0"
+    "05b": (fca(2, 0, 1, [0, 1]), text("round 2 2 0 0", accepted(0, 1))),
     # new 6: 0, 0, 10 and 20 are accepted, the median of four is 0, and 30/5 is 6
     "06a": (fca(5, 1, 20, [0, 0, 10, 20, 30]), text("round 5 4 0 6", accepted(0, 0, 10, 20) + [(2, 0)])),
     # new 32: 20, 30, 40 and 40 are accepted, the median of four is 30, and 160/5 is 32

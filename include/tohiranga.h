@@ -28,7 +28,8 @@
  *   10   hold a missing reading for the next round; do not use an old value. More cabinets are bad than planned for, or the
  *        window is too narrow
  *   11   start from a smaller accuracy, or for fewer rounds; a plan that has run out is made anew by tohiranga_plan
- *   12   raise the target: a window of 1 and more falls below 1 only where m is 0
+ *   12   raise the target: a window above 0 becomes 0 only where m is 0, and with N at most 4m one of 2 or more falls below 2 by
+ *        rule 1 with the median alone
  *   13   rule 0, at most 32 rounds and TOHIRANGA_TRACE_SIZE bytes: fetch the trace again; a longer run is not supported
  *   14   mark the entries of sound senders missing, since the replay supplies them
  *   15   place / 64 is the round and place % 64 the cabinet: look at what it heard. More are faulty than planned for, or the
@@ -47,10 +48,10 @@ extern "C" {
 
 /* The version. tohiranga_version() is that of the archive; as one number it is major * 2^16 + minor * 2^8 + patch. */
 #define TOHIRANGA_VERSION_MAJOR 0
-#define TOHIRANGA_VERSION_MINOR 4
+#define TOHIRANGA_VERSION_MINOR 5
 #define TOHIRANGA_VERSION_PATCH 0
 #define TOHIRANGA_VERSION (TOHIRANGA_VERSION_MAJOR * 65536 + TOHIRANGA_VERSION_MINOR * 256 + TOHIRANGA_VERSION_PATCH)
-#define TOHIRANGA_VERSION_TEXT "0.4.0"
+#define TOHIRANGA_VERSION_TEXT "0.5.0"
 
 #define TOHIRANGA_MAX_CABINETS 64
 #define TOHIRANGA_MAX_WINDOW 1000000
@@ -154,7 +155,9 @@ uint32_t tohiranga_version(void);
  * (1 present, 0 missing); E readings of four bytes, signed, 0 where missing. Entry r * N + s of rule 1 is the copy of
  * cabinet r's value that s relayed.
  * The answer sheet: byte 0 N, 1 the number accepted, 2 to 5 the estimate, 6 to 9 the new value; N marks (0 missing or known
- * faulty, 1 accepted, 2 present and not accepted); N used values of four bytes. */
+ * faulty, 1 accepted, 2 present and not accepted); N used values of four bytes. The new value is the mean of the used values to
+ * the nearest whole number, a half going to the even neighbour: 1/2 and -1/2 give 0, 3/2 gives 2. Average and midpoint are
+ * rounded down. */
 uint64_t tohiranga_settle(const uint8_t *sheet, size_t sheet_len, uint8_t *answer, size_t answer_len);
 
 /* Settles a round sheet of rule 0 where cable runs differ: two sound cabinets' readings of a good one differ by up to the
@@ -164,8 +167,8 @@ uint64_t tohiranga_settle(const uint8_t *sheet, size_t sheet_len, uint8_t *answe
  * All cabinets of a station give the same spread. It is no part of the sheet, and no call can tell whether it is true. Let w be
  * the window, D the spread, t at most m the number of bad cabinets, and let each sound cabinet's readings of the good ones lie
  * within w + D of each other and within k of true time. Then no sound cabinet is refused under 10, after one round two new values are
- * at most D + 2t(w + D)/N apart, and each is within k + t(w + D)/N of true time, both quotients rounded up. More rounds, or more
- * than m bad, are promised for the spread 0 alone. */
+ * at most D + 2t(w + D)/N apart, by the quotient's whole part plus one (for an odd N: the quotient rounded up), and each is within
+ * k + t(w + D)/N of true time, by the quotient rounded up. More rounds, or more than m bad, are promised for the spread 0 alone. */
 uint64_t tohiranga_settle_spread(const uint8_t *sheet, size_t sheet_len, uint32_t spread, uint8_t *answer, size_t answer_len);
 
 /* The fields of an answer sheet of any bytes: N, the number accepted, the estimate, the new value; a cabinet's mark and used
@@ -202,7 +205,8 @@ static inline size_t tohiranga_row_start(uint64_t row) { return (size_t)(row >> 
 static inline size_t tohiranga_row_length(uint64_t row) { return (size_t)(uint32_t)row; }
 
 /* The plan that many rounds on from the settings and the accuracy at the start. Answers the rounds done. Refuses under 2 to
- * 5 and 11. A fresh plan is the one for 0 rounds. */
+ * 5 and 11. A fresh plan is the one for 0 rounds. One round on from the window w, the window is 0 where m or w is 0, and else the
+ * whole part of 2mw/N plus one, or of mw/N plus one for rule 1 with the median; the accuracy grows by mw/N, rounded up. */
 struct tohiranga_planning tohiranga_plan(struct tohiranga_settings settings, uint32_t accuracy, uint32_t rounds);
 
 /* The plan one round on. Answers the rounds done. Refuses under 2 to 5 and 11. */

@@ -119,6 +119,9 @@ sabotage "numbers: a number word" "sed -i 's/^- three bad:/- four bad:/' README.
 sabotage "numbers: a row of a table" "sed -i '/^| 167,772/d' docs/ANSWER.md" tests/check_answer "a table"
 sabotage "numbers: README's limit" "sed -i 's/^1 to 64 cabinets/1 to 63 cabinets/' README.md" tests/check_answer "64 cabinets"
 sabotage "numbers: the kit" "sed -i 's/rattle-kit-5b-plain/rattle-kit-5c-plain/' README.md" tests/check_answer "rattle-kit"
+sabotage "numbers: a half of docs/FORMAT.md" "sed -i 's|3/2 becomes 2,|3/2 becomes 1,|' docs/FORMAT.md" tests/check_answer "3/2 becomes 2"
+sabotage "numbers: the next window of docs/FORMAT.md" "sed -i 's|⌊2mδ/N⌋ + 1, or|⌈2mδ/N⌉, or|' docs/FORMAT.md" tests/check_answer "the window becomes"
+sabotage "numbers: a run that does not need the tick more" "sed -i 's/window 2$/window 3/' examples/halves.run && python3 examples/trace.py examples/halves.run examples/halves.trace" tests/check_answer "halves.trace"
 sabotage "numbers: a definition" "sed -i 's/^maxRounds = 32/maxRounds = 31/' crates/model/specs/Planner.antt" tests/check_answer "31"
 if asked "numbers: each in turn"; then
     tried=$((tried + 1))
@@ -172,10 +175,22 @@ sabotage "edits: an ill-typed contract" 'edited "$ill_typed"' tests/check_must_f
 sabotage "edits: one not tried" "sed -i 's/^new: /new: 0 + /' crates/words/must-fail/base_255.edit" tests/check_must_fail_reasons "words/base_255: not tried as it is"
 sabotage "edits: one not in the table" "sed -i '/words.base_255/d' docs/MUST-FAIL.md" tests/check_must_fail_table "words/base_255"
 
+# ---- sheets and plans
+sheets=tests/check_examples
+sound "$sheets" sheets
+sabotage "sheets: a half that goes up" "sed -i 's/^round 2 2 0 0$/round 2 2 0 1/' examples/case-05b.txt" "$sheets" "case-05b.sheet: WRONG"
+sabotage "sheets: make.py's half goes up" "sed -i 's/round 4 3 4 4/round 4 3 4 5/' examples/make.py" "$sheets" "make.py writes otherwise: WRONG"
+sabotage "sheets: a byte of the answer sheet of docs/FORMAT.md" "sed -i 's/^      04   03   04   00   00   00   04/      04   03   04   00   00   00   05/' docs/FORMAT.md" "$sheets" "the answer sheet: WRONG"
+sabotage "sheets: what that byte is said to be" "sed -i 's/new value 4 [.]/new value 5 ./' docs/FORMAT.md" "$sheets" "the answer sheet's bytes mean: WRONG"
+sabotage "sheets: the listing of docs/FORMAT.md" "sed -i 's/^round 4 3 4 4$/round 4 3 4 5/' docs/FORMAT.md" "$sheets" "the listing: WRONG"
+sabotage "sheets: a window of docs/FORMAT.md" "sed -i 's/windows are 51, 26, 14, 8,/windows are 51, 26, 14, 7,/' docs/FORMAT.md" tests/check_plan "does not say"
+
 # ---- the replay
 replay=tests/check_replay
 sound "$replay" replay
 sabotage "replay: another final value" "sed -i 's/^0 1 3583$/0 1 3584/' examples/two-faced.txt" "$replay" "two-faced.trace, --rounds: WRONG"
+sabotage "replay: a half that goes up" "sed -i 's/^after 1 2 0 1 0$/after 1 2 1 1 0/' examples/halves.txt" "$replay" "halves.trace, --rounds: WRONG"
+sabotage "replay: windows rounded up" "sed -i 's|return factor \* m \* window // n + 1|return -(-factor * m * window // n)|' docs/pictures.py" "$replay" "the windows: WRONG"
 sabotage "replay: a round left out of a text" "sed -i '/^after 2 /d' examples/too-many-faults.txt" "$replay" "too-many-faults.trace, --rounds: WRONG"
 sabotage "replay: a run whose trace is old" "sed -i 's/0: -1400/0: -1401/' examples/two-faced.run" "$replay" "two-faced.trace as trace.py writes it: WRONG"
 sabotage "replay: a trace without its text" "rm examples/all-well.run" "$replay" "a text and an answer for each .trace: WRONG"
@@ -187,7 +202,7 @@ sabotage "replay: a byte of docs/FORMAT.md" "sed -i 's/^      f4   01/      f4  
 sabotage "replay: a listing of docs/FORMAT.md" "sed -i 's/^2 1 6$/2 1 5/' docs/FORMAT.md" "$replay" "the listings: WRONG"
 sabotage "replay: an old picture" "sed -i 's/cabinet 0 after 1: 1600/cabinet 0 after 1: 1601/' docs/replay.svg" "$replay" "docs/replay.svg is the picture"
 sabotage "replay: a picture of other values" "sed -i 's/{replay.after\[k\]\[p\]}/{replay.after[k][p] + 1}/' docs/replay_picture.py" "$replay" "the values: WRONG"
-sabotage "replay: a picture of the first window" "sed -i 's/windows.append(up(.*/windows.append(windows[0])/' docs/replay_picture.py" "$replay" "the windows: WRONG"
+sabotage "replay: a picture of the first window" "sed -i 's/windows.append(next_window(.*/windows.append(windows[0])/' docs/replay_picture.py" "$replay" "the windows: WRONG"
 sabotage "replay: a picture of what another was told" "sed -i 's/yield k, s, p, sent\[s\]\[p\]/yield k, s, p, sent[s][self.sound[0]]/' docs/replay_picture.py" "$replay" "the claims: WRONG"
 sabotage "replay: a picture with points out of scale" "sed -i 's/self.y(held\[p\])/self.y(held[p]) - k/' docs/replay_picture.py" "$replay" "values out of scale: WRONG"
 sabotage "replay: a picture with bands out of place" "sed -i 's/replay.middle(k) + side \* window \/ 2) for side in (1, -1)/replay.middle(0) + side * window \/ 2) for side in (1, -1)/' docs/replay_picture.py" "$replay" "bands out of scale: WRONG"

@@ -77,7 +77,7 @@ sabotage "header: values of 5N" $header "VALUES_SIZE(n) (4 *" "VALUES_SIZE(n) (5
 sabotage "header: the longest trace" $header "MAX_TRACE 655689" "MAX_TRACE 655688"
 sabotage "header: answer sheets of 9 + 5N" $header "ANSWER_SIZE(n) (10 +" "ANSWER_SIZE(n) (9 +"
 sabotage "header: -1 read as -2" $header "(4294967295u - bits) - 1" "(4294967295u - bits) - 2"
-sabotage "header: another version" $header "VERSION_MINOR 3" "VERSION_MINOR 4"
+sabotage "header: another version" $header "VERSION_MINOR 5" "VERSION_MINOR 6"
 sabotage "header: a call that is not in the archive" $header "uint32_t tohiranga_version(void);" "uint32_t tohiranga_versions(void);"
 sabotage "header: a number that nothing holds" $header "#define TOHIRANGA_MAX_ROUNDS 32" "#define TOHIRANGA_MAX_ROUNDS 32
 #define TOHIRANGA_LEAST_CABINETS 4"
@@ -105,7 +105,7 @@ sabotage "wrapper: no spread is given on" $wrapper "            spread,
             answer.as_mut_ptr(),"
 sabotage "wrapper: estimate and new value swapped" $wrapper "self.field(tohiranga_answer_value)" "self.field(tohiranga_answer_estimate)"
 sabotage "wrapper: mark and used value swapped" $wrapper "self.field_of(tohiranga_answer_mark, cabinet)" "self.field_of(tohiranga_answer_used, cabinet)"
-sabotage "wrapper: another version" bindings/rust/Cargo.toml 'version = "0.4.0"' 'version = "0.4.1"'
+sabotage "wrapper: another version" bindings/rust/Cargo.toml 'version = "0.5.0"' 'version = "0.5.1"'
 sabotage "README: the text of refusal 8" README.md "| 8 | a mark is not 0 or 1;" "| 8 | a mark is not 1 or 2;"
 sabotage "definitions: a spread of 100001" crates/model/specs/Ensemble.antt "maxSpread = 100_000" "maxSpread = 100_001"
 sabotage "definitions: 63 cabinets" crates/model/specs/Ensemble.antt "maxCabinets = 64" "maxCabinets = 63"

@@ -184,10 +184,13 @@ static void spreads(void) {
     const int32_t low[4] = {0, 0, 0, -3}, high[4] = {2, 2, 2, 5};
     EXPECT(four_give(1, low, 2, -1) && four_give(1, high, 2, 3));
     EXPECT(four_give(1, low, 1, 0) && four_give(1, high, 1, 2));
+    /* request 4: where the quotient is whole and the means are halves, 8 apart, as 28/4 plus one allows */
+    const int32_t lowest[4] = {0, 0, 0, -6}, highest[4] = {4, 4, 4, 10};
+    EXPECT(four_give(2, lowest, 4, -2) && four_give(2, highest, 4, 6));
     /* cases 1 and 2 of the scope: the span is window and spread together, also for too many faults */
     const int32_t cases[4] = {0, 4, 10, 500};
     int32_t none;
-    EXPECT(four_give(10, cases, 0, 5) && four_give(9, cases, 1, 5) && four_give(0, cases, 10, 5));
+    EXPECT(four_give(10, cases, 0, 4) && four_give(9, cases, 1, 4) && four_give(0, cases, 10, 4));
     EXPECT(settle_four(9, cases, 0, &none) == REFUSED(10, 0) && settle_four(0, cases, 9, &none) == REFUSED(10, 0));
     /* the widest span, at either end of the readings */
     const int32_t bottom[4] = {INT32_MIN, INT32_MIN, INT32_MIN + 1100000, 0}, top[4] = {0, INT32_MAX, INT32_MAX, INT32_MAX - 1100000};
@@ -196,6 +199,24 @@ static void spreads(void) {
     EXPECT(settle_four(TOHIRANGA_MAX_WINDOW, bottom, TOHIRANGA_MAX_SPREAD - 1, &none) == REFUSED(10, 0));
     EXPECT(settle_four(TOHIRANGA_MAX_WINDOW, top, TOHIRANGA_MAX_SPREAD - 1, &none) == REFUSED(10, 0));
     EXPECT(settle_four(TOHIRANGA_MAX_WINDOW, bottom, TOHIRANGA_MAX_SPREAD + 1, &none) == REFUSED(16, 0));
+}
+
+/* ---- Halves */
+
+/* Request 4: a half goes to the even neighbour of the new value, at either end of the readings and below zero too. */
+static void halves(void) {
+    const int32_t lows[] = {INT32_MIN, INT32_MIN + 1, -4, -3, -2, -1, 0, 1, 2, 3, INT32_MAX - 2, INT32_MAX - 1};
+    for (size_t i = 0; i < sizeof lows / sizeof *lows; i++) {
+        const int32_t low = lows[i], even = low % 2 == 0 ? low : low + 1, of_two[4] = {low, low, low + 1, low + 1};
+        EXPECT(four_give(1, of_two, 0, even));
+        const int32_t under[4] = {low, low, low, low + 1}, over[4] = {low, low + 1, low + 1, low + 1};
+        EXPECT(four_give(1, under, 0, low) && four_give(1, over, 0, low + 1));
+    }
+    /* the liar says 3 to one and -1 to the other: 6/4 goes to 2, 2/4 to 0, as far apart as the next window, 2 */
+    const int32_t one[4] = {0, 1, 2, 3}, another[4] = {0, 1, 2, -1};
+    EXPECT(four_give(2, one, 0, 2) && four_give(2, another, 0, 0));
+    const struct tohiranga_settings c = {4, 1, TOHIRANGA_FCA, TOHIRANGA_MEDIAN, 2};
+    EXPECT(tohiranga_plan(c, 0, 1).plan.settings.window == 2);
 }
 
 /* ---- The reader and the writer */
@@ -307,9 +328,27 @@ static int refused_planning(struct tohiranga_planning p, uint64_t answer) {
            p.plan.settings.estimator == 0 && p.plan.settings.window == 0 && p.plan.accuracy == 0 && p.plan.rounds == 0;
 }
 
+/* The next window is by 2mw/N, or by mw/N for CCA with median: the whole part and one more, and 0 where m or w is 0. After 32 rounds
+ * it is what the header says of refusal 12. */
+static void next_windows(void) {
+    const uint32_t windows[] = {0, 1, 2, 3, 4, 7, 64, 100, 999999, TOHIRANGA_MAX_WINDOW};
+    for (uint8_t n = 1; n <= TOHIRANGA_MAX_CABINETS; n++)
+        for (uint8_t m = 0; 3 * m < n; m++)
+            for (uint8_t method = 0; method < 6; method++)
+                for (size_t i = 0; i < sizeof windows / sizeof *windows; i++) {
+                    const struct tohiranga_settings c = {n, m, method / 3, method % 3, windows[i]};
+                    const int narrow = c.rule == TOHIRANGA_CCA && c.estimator == TOHIRANGA_MEDIAN;
+                    const uint32_t w = windows[i], share = m * w, whole = (narrow ? share : 2 * share) / n;
+                    const struct tohiranga_plan next = tohiranga_plan(c, 5, 1).plan;
+                    EXPECT(next.settings.window == (m == 0 || w == 0 ? 0 : whole + 1) && next.accuracy == 5 + (share + n - 1) / n);
+                    const uint32_t last = tohiranga_plan(c, 5, 32).plan.settings.window;
+                    EXPECT((last == 0) == (m == 0 || w == 0) && (last >= 2 || w < 2 || narrow || n > 4 * m));
+                }
+}
+
 static void plans(void) {
     struct tohiranga_settings c = {4, 1, TOHIRANGA_FCA, TOHIRANGA_MEDIAN, 100}, bad = c;
-    const uint32_t windows[4] = {100, 50, 25, 13}, accuracies[4] = {100, 125, 138, 145};
+    const uint32_t windows[4] = {100, 51, 26, 14}, accuracies[4] = {100, 125, 138, 145};
     struct tohiranga_plan p = tohiranga_plan(c, 100, 0).plan;
     for (uint32_t k = 0; k < 4; k++) {
         struct tohiranga_planning at = tohiranga_plan(c, 100, k);
@@ -336,16 +375,17 @@ static void plans(void) {
     bad = c, bad.window = TOHIRANGA_MAX_WINDOW + 1;
     EXPECT(refused_planning(tohiranga_plan(bad, 100, 0), REFUSED(5, 0)) && tohiranga_target(bad, 100, 1) == REFUSED(5, 0));
     EXPECT(tohiranga_target(c, TOHIRANGA_MAX_ACCURACY + 1, 1) == REFUSED(11, 0));
-    EXPECT(tohiranga_target(c, 100, 0) == REFUSED(12, 0));
-    uint64_t rounds = tohiranga_target(c, 100, 1);
-    EXPECT(rounds <= 32 && tohiranga_plan(c, 100, (uint32_t)rounds).plan.settings.window <= 1);
+    EXPECT(tohiranga_target(c, 100, 0) == REFUSED(12, 0) && tohiranga_target(c, 100, 1) == REFUSED(12, 0));
+    uint64_t rounds = tohiranga_target(c, 100, 2);
+    EXPECT(rounds <= 32 && tohiranga_plan(c, 100, (uint32_t)rounds).plan.settings.window <= 2);
+    EXPECT(tohiranga_plan(c, 100, 32).plan.settings.window == 2);
 }
 
 /* ---- Case 1 of the scope, with old bytes behind the answer sheet */
 
 static void case_1(void) {
     const uint8_t sheet[28] = {4, 1, 0, 1, 10, 0, 0, 0, 1, 1, 1, 1, 0, 0, 0, 0, 4, 0, 0, 0, 10, 0, 0, 0, 0xf4, 1, 0, 0};
-    const uint8_t wanted[31] = {4, 3, 4, 0, 0, 0, 5, 0, 0, 0, 1, 1, 1, 2, 0, 0, 0, 0, 4, 0, 0, 0, 10, 0, 0, 0, 4, 0, 0, 0, OLD};
+    const uint8_t wanted[31] = {4, 3, 4, 0, 0, 0, 4, 0, 0, 0, 1, 1, 1, 2, 0, 0, 0, 0, 4, 0, 0, 0, 10, 0, 0, 0, 4, 0, 0, 0, OLD};
     uint8_t answer[31];
     memset(answer, OLD, sizeof answer);
     EXPECT(tohiranga_settle(sheet, sizeof sheet, answer, sizeof answer) == 30 && memcmp(answer, wanted, sizeof answer) == 0);
@@ -513,7 +553,9 @@ int main(void) {
     EXPECT(tohiranga_version() == TOHIRANGA_VERSION);
     case_1();
     plans();
+    next_windows();
     spreads();
+    halves();
     replay_stops();
     static uint8_t sheet[LARGEST], trace[LONGEST];
     const uint8_t sizes[] = {1, 2, 4, 7, 16, 33, 64}, rounds[] = {0, 1, 2, 6, 32};

@@ -57,7 +57,9 @@ impl Settings {
         }
     }
 
-    /// The plan that many rounds on from an accuracy at the start. A fresh plan is the one for 0 rounds.
+    /// The plan that many rounds on from an accuracy at the start. A fresh plan is the one for 0 rounds. A round on, the
+    /// window w becomes the whole part of 2mw/N plus one (of mw/N for CCA with median), and 0 where m or w is 0; the
+    /// accuracy grows by mw/N, rounded up.
     pub fn plan(&self, accuracy: u32, rounds: u32) -> Result<Plan, Refusal> {
         // SAFETY: no pointer is handed over.
         let given = unsafe { tohiranga_plan(*self, accuracy, rounds) };
@@ -195,7 +197,7 @@ impl<'a> Answer<'a> {
         self.field(tohiranga_answer_estimate).unwrap_or_default() as i32
     }
 
-    /// The new value, in ticks.
+    /// The new value, in ticks: the mean of the used values, to the nearest, a half going to the even neighbour.
     pub fn value(&self) -> i32 {
         self.field(tohiranga_answer_value).unwrap_or_default() as i32
     }
@@ -291,6 +293,7 @@ pub fn settle(sheet: &[u8], answer: &mut [u8]) -> Result<usize, Refusal> {
 
 /// Settles a round sheet where two sound cabinets' readings of a good one differ by up to a spread, 0 to `MAX_SPREAD`
 /// ticks. All cabinets of a station give the same one; above 0 it is for FCA alone. `settle` is this with the spread 0.
+/// include/tohiranga.h says how far two new values can then be apart.
 pub fn settle_spread(sheet: &[u8], spread: u32, answer: &mut [u8]) -> Result<usize, Refusal> {
     // SAFETY: each pointer goes with its slice's length, and the borrows keep the slices apart.
     granted(unsafe {

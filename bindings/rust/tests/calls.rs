@@ -45,9 +45,11 @@ fn settles_with_a_spread() {
     // request 2's own numbers; a tick less, and the liar's reading is not accepted
     assert_eq!((settled(1, [0, 0, 0, -3], 2), settled(1, [2, 2, 2, 5], 2)), (Ok(-1), Ok(3)));
     assert_eq!((settled(1, [0, 0, 0, -3], 1), settled(1, [2, 2, 2, 5], 1)), (Ok(0), Ok(2)));
+    // request 4: means of -6/4 and 22/4, as far apart as 28/4 plus one allows
+    assert_eq!((settled(2, [0, 0, 0, -6], 4), settled(2, [4, 4, 4, 10], 4)), (Ok(-2), Ok(6)));
     assert_eq!(
         (settled(9, [0, 4, 10, 500], 0), settled(9, [0, 4, 10, 500], 1)),
-        (refused(10, 0), Ok(5))
+        (refused(10, 0), Ok(4))
     );
     assert_eq!(settled(MAX_WINDOW, [0, 0, 1_100_000, i32::MIN], MAX_SPREAD), Ok(275_000));
     assert_eq!(settled(MAX_WINDOW, [0, 0, 1_100_000, i32::MIN], MAX_SPREAD - 1), refused(10, 0));
@@ -58,6 +60,17 @@ fn settles_with_a_spread() {
     let (mut plain, mut answer) = ([0xa5; 31], [0xa5; 31]);
     assert_eq!(settle(&wide, &mut plain), settle_spread(&wide, 0, &mut answer));
     assert_eq!(plain, answer);
+}
+
+/// Request 4: a half goes to the even neighbour, below zero too; the liar of [0, 1, 2, 3] and [0, 1, 2, -1] parts two by it.
+#[test]
+fn settles_halves_to_the_even_tick() {
+    for low in [i32::MIN, -3, -2, -1, 0, 1, 2, i32::MAX - 1] {
+        let even = if low % 2 == 0 { low } else { low + 1 };
+        assert_eq!(settled(1, [low, low + 1, low, low + 1], 0), Ok(even));
+    }
+    assert_eq!(settled(10, [0, 4, 10, 500], 0), Ok(4));
+    assert_eq!((settled(2, [0, 1, 2, 3], 0), settled(2, [0, 1, 2, -1], 0)), (Ok(2), Ok(0)));
 }
 
 /// 16 comes after 5, and before 6 and 7.
@@ -121,7 +134,7 @@ fn shows_rows() {
 fn plans() {
     let settings = Settings { window: 100, ..SETTINGS };
     let mut plan = settings.plan(100, 0).unwrap();
-    for (rounds, window, accuracy) in [(1, 50, 125), (2, 25, 138), (3, 13, 145)] {
+    for (rounds, window, accuracy) in [(1, 51, 125), (2, 26, 138), (3, 14, 145)] {
         plan = plan.step().unwrap();
         assert_eq!((plan.rounds, plan.settings.window, plan.accuracy), (rounds, window, accuracy));
         assert_eq!(settings.plan(100, rounds), Ok(plan));
@@ -131,8 +144,14 @@ fn plans() {
     assert_eq!(settings.plan(100, 32).unwrap().step(), refused(11, 0));
     assert_eq!(Plan::default().step(), refused(2, 0));
     assert_eq!(settings.rounds_for(100, 0), refused(12, 0));
-    let rounds = settings.rounds_for(100, 1).unwrap();
-    assert!(settings.plan(100, rounds).unwrap().settings.window <= 1);
+    assert_eq!(settings.rounds_for(100, 1), refused(12, 0));
+    let rounds = settings.rounds_for(100, 2).unwrap();
+    assert!(settings.plan(100, rounds).unwrap().settings.window <= 2);
+    // no fault, or no window: 0
+    let none = Settings { m: 0, ..settings };
+    assert_eq!(none.plan(100, 1).unwrap().settings.window, 0);
+    let none = Settings { window: 0, ..settings };
+    assert_eq!(none.plan(100, 1).unwrap().settings.window, 0);
 }
 
 #[test]
@@ -180,7 +199,7 @@ fn trace() -> Vec<u8> {
 fn replays() {
     let mut values = [0xa5; 17];
     assert_eq!(replay(&trace(), &mut values), Ok(16));
-    assert_eq!(values[..16], [7i32, 2, 5, 0].map(i32::to_le_bytes).concat());
+    assert_eq!(values[..16], [7i32, 2, 4, 0].map(i32::to_le_bytes).concat());
     assert_eq!(values[16], 0xa5);
 }
 

@@ -15,7 +15,7 @@ use Rattle.arithmetic.proofs.Shift.{up-down}
 use Rattle.arithmetic.specs.Words.{twoTo31}
 use Rattle.model.specs.Steps.{mean, usedValue}
 use Rattle.round_laws.specs.Naturals.{estimate-nat, mean-nat, used-nat}
-use Rattle.round_laws.proofs.Shifted.{estimate-shifted, value-shifted}
+use Rattle.round_laws.proofs.Shifted.{estimate-shifted, value-shifted, even-31}
 use Rattle.held.specs.Held.{presentIn, valueAt, readingsIn}
 use Rattle.acceptance.specs.Values.{acceptedIn, acceptedCount}
 use Rattle.acceptance.proofs.Spans.{held-present}
@@ -59,4 +59,4 @@ module _ (w need kind : ℕ) (marks values : List ℕ) (some : 0 < acceptedCount
       let there = held-present w need marks values in
       moved-back round-value (mean-nat n (total (used-nat acc (valueAt values) est) n))
       (ap (λ z. mean n (sum (usedValue acc (readingsIn marks values) z) n)) estimate-down
-      ∙ value-shifted twoTo31 (presentIn marks) (valueAt values) acc n there est some-reading)
+      ∙ value-shifted twoTo31 (presentIn marks) (valueAt values) acc n there est some-reading even-31)

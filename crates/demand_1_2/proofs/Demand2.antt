@@ -3,9 +3,9 @@
 -- Assumes nothing.
 use mathlib.Core.Bool.{Bool, true, false, cond, _&&_}
 use mathlib.Core.List.{List}
-use mathlib.Core.Logic.{_↔_}
+use mathlib.Core.Logic.{_↔_, inl, inr}
 use mathlib.Core.Option.{none}
-use mathlib.Core.Path.{_≡_, refl, sym, ap, _∙_, subst⁻¹}
+use mathlib.Core.Path.{_≡_, refl, sym, ap, _∙_, subst, subst⁻¹}
 use Prim.Native.Nat.{ℕ, _+_, _*_, _≤_, _<_}
 use native.Mathlib.Nat.{one-mul, lt-of-not-le}
 use native.Mathlib.Omega.{arith}
@@ -21,7 +21,7 @@ use Rattle.model.specs.Ensemble.{missing, present, Readings, quorum}
 use Rattle.model.specs.RoundSheet.{cca, median, settingsAt}
 use Rattle.model.specs.AnswerSheet.{answerLength, answerBytes}
 use Rattle.model.specs.Steps.{Decision, knownFaulty, decidedReading, decideRow, readingsOf, Round, roundOf, roundAt}
-use Rattle.model.specs.Planner.{Plan, planFrom, ceilDiv, windowFactor, nextWindow, growth, advance, after}
+use Rattle.model.specs.Planner.{Plan, planFrom, windowFactor, nextWindow, growth, advance, after}
 use Rattle.model.specs.Refusals.{Check, firstOf, settleChecks, stepChecks}
 use Rattle.model.specs.Calls.{granted, lent, settleSpread, step}
 use Rattle.decision_laws.proofs.Decision.{decided-need, decide-value, decide-none}
@@ -30,14 +30,15 @@ use Rattle.decision_laws.proofs.Rows.{reading-decided, read-direct, read-decide
 use Rattle.planner_laws.proofs.Checks.{none-may-step}
 use Rattle.planner_laws.proofs.Steps.{plan-granted-check, plan-steps}
 use Rattle.planner_laws.proofs.Verdicts.{granted-check}
+use Rattle.planner_laws.proofs.Windows.{next-past, next-none}
 use Rattle.sheet_laws.proofs.Answer.{answer-cabinets, answer-count, answer-estimate, answer-value, answer-mark, answer-used}
 use Rattle.sheet_laws.proofs.Outcomes.{granted-none}
 use Rattle.sheet_laws.proofs.RoundTrips.{read-write, write-read}
-use Rattle.demand_1_2.specs.Demand2.{Accepted, copiesEqual, Decided, Used, Bytes, Shown, RoundedUp, Forward}
+use Rattle.demand_1_2.specs.Demand2.{Accepted, copiesEqual, Decided, Used, Bytes, Shown, PastWhole, Forward}
 use Rattle.demand_1_2.specs.Demand2.{PlannedRounds, Demand2}
 use Rattle.demand_1_2.proofs.Estimated.{estimated}
 use Rattle.demand_1_2.proofs.Refused.{too-many-said}
-use Rattle.demand_1_2.proofs.Roundings.{mean-nearest-whole, rounded-up}
+use Rattle.demand_1_2.proofs.Roundings.{mean-nearest-whole, rounded-up, past-whole}
 use Rattle.value_laws.proofs.Sheets.{settled-estimate, settled-value, settled-used}
 use Rattle.demand_1_2.proofs.Spans.{accepted-span}
 
@@ -138,37 +139,43 @@ module _ (p : Plan) where
   abbrev c : Settings
   c = p .settings
 
+  by-factor : (f : ℕ) → 0 < c .n → windowFactor c ≡ f → (c .m ≡ 0 → ⊥) → (c .window ≡ 0 → ⊥)
+      → PastWhole (f * (c .m * c .window)) (c .n) (nextWindow c)
+  by-factor f some-n e a b =
+      rw (next-past c a b, e) (past-whole (f * (c .m * c .window)) (c .n) some-n)
+
+  factor-two : ((c .rule ≡ cca) × (c .estimator ≡ median) → ⊥) → windowFactor c ≡ 2
+  unfolding windowFactor
+  factor-two other = go (eqb (c .rule) cca && eqb (c .estimator) median) refl
+    where
+      go : (b : Bool) → (eqb (c .rule) cca && eqb (c .estimator) median) ≡ b → _≡_ {A = ℕ} (cond b 1 2) 2
+      go false e = refl
+      go true e =
+          absurd (other (
+            eqb-true (c .rule) cca (and-left (eqb (c .rule) cca) _ e),
+            eqb-true (c .estimator) median (and-right (eqb (c .rule) cca) _ e),
+          ))
+
+  factor-one : c .rule ≡ cca → c .estimator ≡ median → windowFactor c ≡ 1
+  unfolding windowFactor
+  factor-one a b = rw (and-intro (eq-eqb (c .rule) cca a) (eq-eqb (c .estimator) median b))
+
   advanced : 0 < p .settings .n → Forward p (advance p)
-  unfolding advance nextWindow windowFactor growth
+  unfolding advance growth
   advanced some-n =
       record {
-        window = λ other. direct (eqb (c .rule) cca && eqb (c .estimator) median) refl other;
-        medianWindow = λ a b.
-            crusaders (eqb (c .rule) cca && eqb (c .estimator) median)
-            (and-intro (eq-eqb (c .rule) cca a) (eq-eqb (c .estimator) median b));
+        noFaults = λ e. next-none c (inl e);
+        noWindow = λ e. next-none c (inr e);
+        window = λ a b other. by-factor 2 some-n (factor-two other) a b;
+        medianWindow = λ a b i j.
+            subst (λ (q : ℕ). PastWhole q (c .n) (nextWindow c)) (one-mul (c .m * c .window))
+            (by-factor 1 some-n (factor-one i j) a b);
         growth = growth c;
         accuracy = refl;
         share = rounded-up (c .m * c .window) (c .n) some-n;
         rounds = refl;
         kept = refl;
       }
-    where
-      direct :
-          (b : Bool) → (eqb (c .rule) cca && eqb (c .estimator) median) ≡ b
-          → ((c .rule ≡ cca) × (c .estimator ≡ median) → ⊥)
-          → RoundedUp (2 * (c .m * c .window)) (c .n) (ceilDiv (cond b 1 2 * (c .m * c .window)) (c .n))
-      direct false e other = rounded-up (2 * (c .m * c .window)) (c .n) some-n
-      direct true e other =
-          absurd (other (
-            eqb-true (c .rule) cca (and-left (eqb (c .rule) cca) _ e),
-            eqb-true (c .estimator) median (and-right (eqb (c .rule) cca) _ e),
-          ))
-
-      crusaders :
-          (b : Bool) → b ≡ true
-          → RoundedUp (c .m * c .window) (c .n) (ceilDiv (cond b 1 2 * (c .m * c .window)) (c .n))
-      crusaders true e = rw (one-mul (c .m * c .window)) (rounded-up (c .m * c .window) (c .n) some-n)
-      crusaders false e = clash e refl
 
   forward : (q : Plan) → step p ≡ granted q → Forward p q
   unfolding step

@@ -3,8 +3,9 @@
 -- Assumes nothing.
 use mathlib.Core.Bool.{Bool, true}
 use mathlib.Core.Path.{_≡_, refl, _∙_, subst, subst⁻¹}
-use Prim.Native.Nat.{ℕ, _<_}
-use native.Mathlib.Nat.{le-refl}
+use Prim.Native.Nat.{ℕ, _+_, _≤_, _<_}
+use native.Mathlib.Nat.{lt-of-lt-of-le}
+use native.Mathlib.Omega.{arith}
 use lib.IntN.{ℤ}
 use lib.Signed.{_≤ℤ_}
 use Rattle.arithmetic.specs.Counting.{count}
@@ -17,7 +18,7 @@ use Rattle.model.specs.Steps.{acceptedAt, roundOf, spanWidth}
 use Rattle.round_laws.proofs.Local.{EqualBelow}
 use Rattle.round_laws.proofs.Natural.{acc-of, used-of, round-count, round-estimate, round-used, round-value}
 use Rattle.round_laws.proofs.Represent.{reach, reach-above, represented, raise}
-use Rattle.round_laws.specs.Naturals.{shifted}
+use Rattle.round_laws.specs.Naturals.{Even, shifted}
 use Rattle.value_laws.proofs.Estimates.{estimate-between}
 use Rattle.value_laws.proofs.Extremes.{least, greatest}
 use Rattle.value_laws.proofs.Means.{mean-above, mean-below}
@@ -42,25 +43,31 @@ pub record AmongUsed (c : Settings) (D : ℕ) (v : Readings) (z : ℤ) : Type 0 
   pub below : z ≤ℤ roundOf c D v .used highest
 
 module _ (c : Settings) (D : ℕ) (v : Readings) (some-acc : 0 < roundOf c D v .count) where
-  -- the readings moved up far enough for all of them
+  -- the readings moved up far enough for all of them, and by an even number
   abbrev k : ℕ
-  k = reach v (c .n)
+  k = reach v (c .n) + reach v (c .n)
+
+  even-k : Even (reach v (c .n) + reach v (c .n))
+  even-k = record { half = reach v (c .n); twice = refl }
+
+  far : reach v (c .n) ≤ reach v (c .n) + reach v (c .n)
+  far = omega arith
 
   abbrev pres : ℕ → Bool
   pres r = isPresent (v r)
 
-  same : EqualBelow (c .n) v (shifted (reach v (c .n)) (λ r. isPresent (v r)) (raise (reach v (c .n)) v))
-  same = represented k v (c .n) (le-refl k)
+  same : EqualBelow (c .n) v (shifted k (λ r. isPresent (v r)) (raise k v))
+  same = represented k v (c .n) far
 
   counted : 0 < count (acc-of c D pres (raise k v)) (c .n)
   counted = subst (λ (a : ℕ). 0 < a) (round-count c D pres (raise k v) v k same) some-acc
 
   accepts : (r : ℕ) → r < c .n → acceptedAt c D v r ≡ acc-of c D pres (raise k v) r
   unfolding acceptedAt
-  accepts r l = accepted-up v (c .n) k (le-refl k) (spanWidth c D) _ r l
+  accepts r l = accepted-up v (c .n) k far (spanWidth c D) _ r l
 
   raised : (r : ℕ) → r < c .n → down k (raise k v r) ≡ ticks (v r)
-  raised r l = down-up k (ticks (v r)) (reach-above v (c .n) r l)
+  raised r l = down-up k (ticks (v r)) (lt-of-lt-of-le (reach-above v (c .n) r l) far)
 
   pub estimate-among : AmongAccepted c D v (roundOf c D v .estimate)
   estimate-among =
@@ -86,7 +93,7 @@ module _ (c : Settings) (D : ℕ) (v : Readings) (some-acc : 0 < roundOf c D v .
       let all : 0 < count (λ _. true) (c .n) = count-pos (λ _. true) (c .n) 0 some-n refl in
       let lo = least (λ _. true) (used-of c D pres (raise k v) k) (c .n) all in
       let hi = greatest (λ _. true) (used-of c D pres (raise k v) k) (c .n) all in
-      let e = round-value c D pres (raise k v) v k same some-n counted in
+      let e = round-value c D pres (raise k v) v k same some-n even-k counted in
       let low =
       mean-above (c .n) some-n (used-of c D pres (raise k v) k) (used-of c D pres (raise k v) k (lo .index))
       (λ r l. lo .first r l refl) in

@@ -12,7 +12,8 @@
 --
 --   FullSpan, SpanWith               a span that holds N-m readings; one that holds a given reading too
 --   Accepted                         which readings are accepted, their count, their marks
---   RoundedDown, RoundedUp, NearestWhole     quotients
+--   RoundedDown, RoundedUp, PastWhole        quotients
+--   Twice, NearestWhole              a whole number that is even; the nearest one
 --   AcceptedReading, FromBelow, LowestAccepted, HighestAccepted, Midpoint     words for the estimators
 --   Estimate                         average, median or midpoint
 --   copiesEqual, Decided             the crusaders decision
@@ -132,13 +133,21 @@ pub record Decided (c : Settings) (entry : Readings) (r : ℕ) : Type 0 where
 
 -- ---- The rounded mean
 
--- q is the whole number nearest to s / n, a half going up: q - 1/2 ≤ s / n < q + 1/2, times 2n
+-- q is twice a whole number
+pub record Twice (q : ℤ) : Type 0 where
+  pub half : ℤ
+  pub twice : q ≡ half +ℤ half
+
+-- q is the whole number nearest to s / n: q - 1/2 ≤ s / n ≤ q + 1/2, times 2n. Document 02, request 4: "The mean's half
+-- now goes to the even neighbour", so that q is even where s / n is at either end
 pub record NearestWhole (s : ℤ) (n : ℕ) (q : ℤ) : Type 0 where
   pub atMost : (pos (2 * n) *ℤ q) ≤ℤ (s +ℤ s +ℤ pos n)
-  pub next : (s +ℤ s +ℤ pos n) <ℤ (pos (2 * n) *ℤ q +ℤ pos (2 * n))
+  pub atLeast : (s +ℤ s) ≤ℤ (pos (2 * n) *ℤ q +ℤ pos n)
+  pub halfBelow : (pos (2 * n) *ℤ q) ≡ s +ℤ s +ℤ pos n → Twice q
+  pub halfAbove : s +ℤ s ≡ pos (2 * n) *ℤ q +ℤ pos n → Twice q
 
 -- "Missing or unaccepted readings are replaced by the estimate. The new value is the mean of N used values to the
--- nearest whole number, a half going up"
+-- nearest whole number"
 pub record Used (c : Settings) (D : ℕ) (v : Readings) : Type 0 where
   pub accepted : (r : ℕ) → acceptedAt c D v r ≡ true → roundOf c D v .used r ≡ ticks (v r)
   pub replaced : (r : ℕ) → acceptedAt c D v r ≡ false → roundOf c D v .used r ≡ roundOf c D v .estimate
@@ -167,15 +176,25 @@ pub record RoundedUp (a n q : ℕ) : Type 0 where
   pub covers : a ≤ n * q
   pub least : n * q < a + n
 
+-- q is "the whole part of" a / n "plus one": n (q - 1) ≤ a < n q
+pub record PastWhole (a n q : ℕ) : Type 0 where
+  pub above : a < n * q
+  pub next : n * q ≤ a + n
+
 -- "A plan goes forward one round at a time and hands back the plan that follows": from p to q
 pub record Forward (p q : Plan) : Type 0 where
-  -- "The next window is ⌈2mδ/N⌉, or ⌈mδ/N⌉ for CCA with median"
+  -- document 02, request 4: "The next window is 0 when m or δ is 0"
+  pub noFaults : p .settings .m ≡ 0 → q .settings .window ≡ 0
+  pub noWindow : p .settings .window ≡ 0 → q .settings .window ≡ 0
+  -- "and otherwise follows the same change", from "⌈2mδ/N⌉, or ⌈mδ/N⌉ for CCA with median"
   pub window :
-      ((p .settings .rule ≡ cca) × (p .settings .estimator ≡ median) → ⊥)
-      → RoundedUp (2 * (p .settings .m * p .settings .window)) (p .settings .n) (q .settings .window)
+      (p .settings .m ≡ 0 → ⊥) → (p .settings .window ≡ 0 → ⊥)
+      → ((p .settings .rule ≡ cca) × (p .settings .estimator ≡ median) → ⊥)
+      → PastWhole (2 * (p .settings .m * p .settings .window)) (p .settings .n) (q .settings .window)
   pub medianWindow :
-      p .settings .rule ≡ cca → p .settings .estimator ≡ median
-      → RoundedUp (p .settings .m * p .settings .window) (p .settings .n) (q .settings .window)
+      (p .settings .m ≡ 0 → ⊥) → (p .settings .window ≡ 0 → ⊥)
+      → p .settings .rule ≡ cca → p .settings .estimator ≡ median
+      → PastWhole (p .settings .m * p .settings .window) (p .settings .n) (q .settings .window)
   -- "κ grows each round by ⌈mδ/N⌉ with that round's δ"
   pub growth : ℕ
   pub accuracy : q .accuracy ≡ p .accuracy + growth

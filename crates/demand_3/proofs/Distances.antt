@@ -2,7 +2,7 @@
 -- of a sum above or below 0 as a mean of naturals.
 -- Assumes nothing.
 use mathlib.Core.Path.{_≡_, sym, ap, ap₂, _∙_}
-use Prim.Native.Nat.{ℕ, _+_, _*_, _-_, _≤_, _<_}
+use Prim.Native.Nat.{ℕ, suc, _+_, _*_, _-_, _≤_, _<_}
 use native.Mathlib.Omega.{arith}
 use lib.IntN.{ℤ, pos, _+ℤ_, _-ℤ_}
 use lib.Signed.{mag}
@@ -12,7 +12,7 @@ use Rattle.arithmetic.specs.Naturals.{down, up}
 use Rattle.arithmetic.proofs.Shift.{down-cong, pos-down, neg-down, add-down, down-up, dist-down}
 use Rattle.arithmetic.specs.Words.{twoTo31}
 use Rattle.model.specs.Steps.{mean}
-use Rattle.round_laws.specs.Naturals.{mean-nat}
+use Rattle.round_laws.specs.Naturals.{Even, mean-nat}
 use Rattle.round_laws.proofs.Shifted.{mean-down}
 use Rattle.demand_3.specs.Guarantee.{apart}
 
@@ -36,6 +36,19 @@ dist-of k d a b h i = let e = dist-down k a b in omega arith
 pub fits-mag : (z : ℤ) → SFits w32 z → mag z < twoTo31
 fits-mag z h = h .sfits
 
+-- an even number to move by, far enough for numbers of 32 bits and for another
+abbrev pub even-far : ℤ → ℕ
+even-far z = twoTo31 + (suc (mag z) + suc (mag z))
+
+pub far-most : (z : ℤ) → twoTo31 ≤ even-far z
+far-most z = omega arith
+
+pub far-near : (z : ℤ) → mag z < even-far z
+far-near z = omega arith
+
+pub far-twice : (z : ℤ) → Even (even-far z)
+far-twice z = record { half = 1_073_741_824 + suc (mag z); twice = omega arith }
+
 -- ---- the mean
 
 pub difference-down : (a b : ℕ) → pos a -ℤ pos b ≡ down b a
@@ -45,12 +58,12 @@ difference-down a b =
     ∙ add-down 0 a b 0
     ∙ down-cong (0 + b) (a + 0) b a (omega arith)
 
--- as a mean of naturals moved up by K
-module _ (n K : ℕ) (some-n : 0 < n) where
+-- as a mean of naturals moved up by an even K
+module _ (n K : ℕ) (some-n : 0 < n) (even : Even K) where
   pub mean-above-zero : (e : ℕ) → mean n (pos e) ≡ down K (mean-nat n (n * K + e))
   mean-above-zero e =
-      ap (mean n) (pos-down e ∙ down-cong 0 e (n * K) (n * K + e) (omega arith)) ∙ mean-down K n (n * K + e) some-n
+      ap (mean n) (pos-down e ∙ down-cong 0 e (n * K) (n * K + e) (omega arith)) ∙ mean-down K n (n * K + e) some-n even
 
   pub mean-below-zero : (e s : ℕ) → s + e ≡ n * K → mean n (pos 0 -ℤ pos e) ≡ down K (mean-nat n s)
   mean-below-zero e s h =
-      ap (mean n) (difference-down 0 e ∙ down-cong e 0 (n * K) s (omega arith)) ∙ mean-down K n s some-n
+      ap (mean n) (difference-down 0 e ∙ down-cong e 0 (n * K) s (omega arith)) ∙ mean-down K n s some-n even

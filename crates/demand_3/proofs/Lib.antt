@@ -5,5 +5,7 @@ pub mod Orderly
 pub mod Round
 pub mod Exact
 pub mod Guarantee
+pub mod Odd
+pub mod OneValue
 pub mod Regulator
 pub mod Sanity

@@ -14,6 +14,7 @@ use Rattle.model.specs.declared.Settings.{Settings}
 use Rattle.model.specs.Ensemble.{present, ticks}
 use Rattle.model.specs.Planner.{withWindow, maxRounds}
 use Rattle.model.specs.Calls.{granted}
+use Rattle.round_laws.specs.Naturals.{Even}
 use Rattle.limit_laws.proofs.Settled.{valueBy}
 use Rattle.run.specs.Run.{Station, N, m, Start, Sends, Allowed, State, next}
 use Rattle.run.proofs.Entries.{seen, reading-fits}
@@ -36,14 +37,14 @@ module _ (st : Station) (begins : Start st) (j : ℕ) (now : State) (ready : Rea
 
   -- p's new value as a natural, moved down by k
   pub new-value :
-      (p : ℕ) → 0 < found st now x w p .count → (k : ℕ) → twoTo31 ≤ k
+      (p : ℕ) → 0 < found st now x w p .count → (k : ℕ) → twoTo31 ≤ k → Even k
       → next st now x .held p
       ≡ present
       (down k (valueBy (N st) (m st) w (received c (seen st now x w p) k)))
-  new-value p some-acc k h =
+  new-value p some-acc k h even =
       holds-value st begins j now ready x allowed p some-acc
       ∙ ap present
-      (received-value c 0 w (add-zero w) (seen st now x w p) (seen-fits p) k h (some-n st begins j now ready) some-acc)
+      (received-value c 0 w (add-zero w) (seen st now x w p) (seen-fits p) k h (some-n st begins j now ready) even some-acc)
 
   pub orderly : j < maxRounds → Orderly st now x
   orderly early =

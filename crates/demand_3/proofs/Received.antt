@@ -14,7 +14,7 @@ use Rattle.model.specs.Steps.{roundOf, spanWidth}
 use Rattle.round_laws.proofs.Local.{EqualBelow}
 use Rattle.round_laws.proofs.Natural.{round-count, round-value}
 use Rattle.round_laws.proofs.Represent.{shift-raise}
-use Rattle.round_laws.specs.Naturals.{shifted}
+use Rattle.round_laws.specs.Naturals.{Even, shifted}
 use Rattle.limit_laws.proofs.Settled.{Receiver, accepts, valueBy}
 use Rattle.demand_3.proofs.Distances.{fits-mag}
 
@@ -34,10 +34,10 @@ module _ (c : Settings) (D w : ℕ) (wide : spanWidth c D ≡ w) (v : Readings)
       ∙ ap (λ (y : ℕ). count (accepts (c .n) (c .m) y (received c v k)) (c .n)) wide
 
   pub received-value :
-      0 < c .n → 0 < roundOf c D v .count
+      0 < c .n → Even k → 0 < roundOf c D v .count
       → roundOf c D v .value ≡ down k (valueBy (c .n) (c .m) w (received c v k))
-  received-value some-n some-acc =
-      round-value c D (λ r. isPresent (v r)) (λ r. up k (ticks (v r))) v k represented some-n
+  received-value some-n even some-acc =
+      round-value c D (λ r. isPresent (v r)) (λ r. up k (ticks (v r))) v k represented some-n even
       (subst (λ (a : ℕ). 0 < a)
       (round-count c D (λ r. isPresent (v r)) (λ r. up k (ticks (v r))) v k represented)
       some-acc)

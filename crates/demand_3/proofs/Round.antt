@@ -6,11 +6,11 @@
 -- Assumes nothing.
 use mathlib.Core.Bool.{Bool, true, false, not, cond, _&&_}
 use mathlib.Core.Logic.{⊎-elim}
-use mathlib.Core.Path.{_≡_, refl, ap, subst, subst⁻¹}
-use Prim.Native.Nat.{ℕ, suc, _+_, _*_, _-_, _≤_, _<_}
-use native.Mathlib.Nat.{le-trans, lt-of-lt-of-le, lt-of-le-of-lt, one-mul, add-zero}
+use mathlib.Core.Path.{_≡_, refl, ap, _∙_, subst, subst⁻¹}
+use Prim.Native.Nat.{ℕ, _+_, _*_, _-_, _%_, _≤_, _<_}
+use native.Mathlib.Nat.{le-trans, lt-of-lt-of-le, lt-of-le-of-lt, one-mul, zero-mul, mul-zero, add-zero}
 use native.Mathlib.Omega.{arith}
-use borrow.Author.Tests.{eqb-true}
+use borrow.Author.Tests.{eqb-true, eqb-false}
 use lib.Dec.{eqb}
 use lib.IntN.{ℤ}
 use lib.Signed.{mag}
@@ -27,14 +27,16 @@ use Rattle.model.specs.RoundSheet.{cca, median}
 use Rattle.model.specs.AnswerSheet.{answerLength}
 use Rattle.model.specs.Planner.{ceilDiv, windowFactor, nextWindow, growth, withWindow}
 use Rattle.model.specs.Calls.{granted}
-use Rattle.limit_laws.proofs.Means.{rise, fall}
+use Rattle.planner_laws.proofs.Windows.{next-past}
+use Rattle.round_laws.specs.Naturals.{Even}
+use Rattle.limit_laws.proofs.Means.{MeansClose, rise, fall}
 use Rattle.limit_laws.proofs.Settled.{Receiver, accepts, valueBy, CloseValues, GoodAlike, BothAlike, Spread, ReadsSome, Few}
 use Rattle.limit_laws.proofs.Settled.{Reads, Truth}
 use Rattle.limit_laws.proofs.Limits.{Accurate, accuracy-many, precision-many, unrefused, accuracy-few, precision-few}
 use Rattle.limit_laws.proofs.Limits.{precision-median}
 use Rattle.run.specs.Run.{IsReading, Station, N, m, Start, Sends, Allowed, State, settled, next}
 use Rattle.demand_3.specs.Guarantee.{newValue, Unrefused, apart, Good, bad}
-use Rattle.demand_3.proofs.Distances.{dist-above, dist-below, dist-of, fits-mag}
+use Rattle.demand_3.proofs.Distances.{dist-above, dist-below, dist-of, fits-mag, even-far, far-most, far-near, far-twice}
 use Rattle.run.proofs.Entries.{seen, seen-held, seen-held-or-not, seen-alike}
 use Rattle.run.proofs.Link.{found}
 use Rattle.run.proofs.Ready.{Ready, planned, grants, accepts-some}
@@ -71,6 +73,23 @@ faults-bad st now good truth stand =
     count-mono (λ s. not (st .sound s)) (λ s. not (good s)) (N st)
     (λ s l. not-mono (st .sound s) (good s) (stand .sound s l))
 
+-- means that are as close as two rounds' are lie within the next window
+by-window :
+    (c : Settings) (a b : ℕ) → MeansClose (c .n) a b (windowFactor c * (c .m * c .window)) → a ≤ b + nextWindow c
+by-window c a b h = go (eqb (c .m) 0) refl (eqb (c .window) 0) refl
+  where
+    go : (i : Bool) → eqb (c .m) 0 ≡ i → (j : Bool) → eqb (c .window) 0 ≡ j → a ≤ b + nextWindow c
+    go true ei j ej =
+        let z : c .m * c .window ≡ 0 = ap (λ (y : ℕ). y * c .window) (eqb-true (c .m) 0 ei) ∙ zero-mul (c .window) in
+        let e = h .equal (ap (λ (y : ℕ). windowFactor c * y) z ∙ mul-zero (windowFactor c)) in
+        omega arith
+    go false ei true ej =
+        let z : c .m * c .window ≡ 0 = ap (λ (y : ℕ). c .m * y) (eqb-true (c .window) 0 ej) ∙ mul-zero (c .m) in
+        let e = h .equal (ap (λ (y : ℕ). windowFactor c * y) z ∙ mul-zero (windowFactor c)) in
+        omega arith
+    go false ei false ej =
+        rw (next-past c (eqb-false (c .m) 0 ei) (eqb-false (c .window) 0 ej)) (h .past)
+
 module _ (st : Station) (begins : Start st) (j : ℕ) (now : State) (ready : Ready st j now) (x : Sends)
     (allowed : Allowed st x) (good : ℕ → Bool) (truth : ℤ) (stand : Good (stationAt st now) good truth) where
   -- the window and the settings of the round
@@ -80,16 +99,19 @@ module _ (st : Station) (begins : Start st) (j : ℕ) (now : State) (ready : Rea
   abbrev c : Settings
   c = withWindow (st .settings) w
 
-  -- ---- the round in the naturals, moved up far enough for every reading and for true time
+  -- ---- the round in the naturals, moved up by an even number, far enough for every reading and for true time
 
   abbrev far : ℕ
-  far = twoTo31 + suc (mag truth)
+  far = even-far truth
 
-  far-enough : twoTo31 ≤ twoTo31 + suc (mag truth)
-  far-enough = omega arith
+  far-even : Even (even-far truth)
+  far-even = far-twice truth
 
-  truth-near : mag truth < twoTo31 + suc (mag truth)
-  truth-near = omega arith
+  far-enough : twoTo31 ≤ even-far truth
+  far-enough = far-most truth
+
+  truth-near : mag truth < even-far truth
+  truth-near = far-near truth
 
   abbrev has : ℕ → Receiver
   has p = received c (seen st now x w p) far
@@ -143,7 +165,7 @@ module _ (st : Station) (begins : Start st) (j : ℕ) (now : State) (ready : Rea
 
   -- p's new value, where some reading is accepted
   holds : (p : ℕ) → 0 < found st now x w p .count → next st now x .held p ≡ present (down far (value p))
-  holds p some-acc = new-value st begins j now ready x allowed p some-acc far far-enough
+  holds p some-acc = new-value st begins j now ready x allowed p some-acc far far-enough far-even
 
   module _ (p : ℕ) (some-acc : 0 < found st now x w p .count) where
     near-true : (d : ℕ) → Accurate (up far truth) d (value p) → apart (newValue st now x p) truth ≤ d
@@ -196,17 +218,17 @@ module _ (st : Station) (begins : Start st) (j : ℕ) (now : State) (ready : Rea
         (present-ticks (seen st now x w p r) ep)
         (present-ticks (seen st now x w q r) eq))
 
-    -- the next window, for each rule and estimator
-    window-limit : (p q : ℕ) → value p ≤ value q + nextWindow c
-    unfolding nextWindow windowFactor
-    window-limit p q = go (eqb (st .settings .rule) cca) refl (eqb (st .settings .estimator) median) refl
+    -- for each rule and estimator
+    means-close : (p q : ℕ) → MeansClose (N st) (value p) (value q) (windowFactor (st .settings) * (m st * w))
+    unfolding windowFactor
+    means-close p q = go (eqb (st .settings .rule) cca) refl (eqb (st .settings .estimator) median) refl
       where
-        both : value p ≤ value q + ceilDiv (2 * (m st * w)) (N st)
+        both : MeansClose (N st) (value p) (value q) (2 * (m st * w))
         both = precision-few (N st) (m st) w good g few-sheets (has p) (has q) (all-read p) (all-read q)
 
         go :
             (a : Bool) → eqb (st .settings .rule) cca ≡ a → (b : Bool) → eqb (st .settings .estimator) median ≡ b
-            → value p ≤ value q + ceilDiv (cond (a && b) 1 2 * (m st * w)) (N st)
+            → MeansClose (N st) (value p) (value q) (cond (a && b) 1 2 * (m st * w))
         go true ea true eb =
             rw (one-mul (m st * w))
             (precision-median (N st) (m st) w good g few-sheets (has p) (has q) (all-read p) (all-read q) (agree ea p q)
@@ -215,9 +237,24 @@ module _ (st : Station) (begins : Start st) (j : ℕ) (now : State) (ready : Rea
         go true ea false eb = both
         go false ea b eb = both
 
+    -- the next window: where it is 0 the sums are equal
+    window-limit : (p q : ℕ) → value p ≤ value q + nextWindow c
+    unfolding windowFactor
+    window-limit p q = by-window c (value p) (value q) (means-close p q)
+
     pub round-precise : (p q : ℕ) → apart (newValue st now x p) (newValue st now x q) ≤ nextWindow c
     round-precise p q =
         near-other p (some-accepted p) q (nextWindow c) (some-accepted q) (window-limit p q) (window-limit q p)
+
+    -- an odd N
+    pub round-odd :
+        N st % 2 ≡ 1 → (p q : ℕ)
+        → apart (newValue st now x p) (newValue st now x q)
+        ≤ ceilDiv (windowFactor (st .settings) * (m st * w)) (N st)
+    round-odd odd p q =
+        near-other p (some-accepted p) q (ceilDiv (windowFactor (st .settings) * (m st * w)) (N st)) (some-accepted q)
+        (means-close p q .odd odd)
+        (means-close q p .odd odd)
 
     pub round-accurate : (p : ℕ) → apart (newValue st now x p) truth ≤ now .plan .accuracy + growth c
     unfolding growth
@@ -245,9 +282,9 @@ module _ (st : Station) (begins : Start st) (j : ℕ) (now : State) (ready : Rea
 
     pub many-precise :
         (p q : ℕ) → Unrefused st now x p → Unrefused st now x q
-        → apart (newValue st now x p) (newValue st now x q) ≤ w + (rise (N st) excess + fall (N st) excess)
+        → apart (newValue st now x p) (newValue st now x q) ≤ w + (rise (N st) excess + fall (N st) w excess)
     many-precise p q ep eq =
-        near-other p (some-of p ep) q (w + (rise (N st) excess + fall (N st) excess)) (some-of q eq)
+        near-other p (some-of p ep) q (w + (rise (N st) excess + fall (N st) w excess)) (some-of q eq)
         (precision-many (N st) (m st) w good g spread (has p) (has q) (reads-some p ep) (reads-some q eq))
         (precision-many (N st) (m st) w good g spread (has q) (has p) (reads-some q eq) (reads-some p ep))
 

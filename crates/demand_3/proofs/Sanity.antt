@@ -1,10 +1,11 @@
--- The theorems are not empty: `guarantee`, `exact-limits` and `regulators-case` apply to runs of specs/Witnesses.antt,
+-- The theorems are not empty: `guarantee`, `exact-limits`, `odd-limits`, `one-value` and `regulators-case` apply to runs of specs/Witnesses.antt,
 -- of which all their hypotheses hold.
 -- Assumes nothing.
 use mathlib.Core.Bool.{Bool, false}
 use mathlib.Core.List.{List, [], _∷_}
 use mathlib.Core.Path.{refl}
-use Prim.Native.Nat.{ℕ, _≤_}
+use mathlib.Core.Logic.{inl, inr}
+use Prim.Native.Nat.{ℕ, _≤_, zero-le}
 use lib.Dec.{lit<, lit≤}
 use lib.IntN.{ℤ, pos}
 use lib.ListN.{length}
@@ -13,16 +14,22 @@ use Rattle.model.specs.Planner.{maxRounds}
 use Rattle.run.specs.Run.{Station, Start, Sends, Allowed, start}
 use Rattle.demand_3.specs.Guarantee.{Each, Good}
 use Rattle.demand_3.specs.Guarantee.{Every, First, Orderly, Close, Wide, Guarantee}
+use Rattle.demand_3.specs.OneValue.{AllEqual}
+use Rattle.demand_3.specs.Odd.{OddGuarantee}
 use Rattle.demand_3.specs.Exact.{ExactFirst}
 use Rattle.demand_3.specs.Regulator.{SevenPlannedForTwo, ThreeBad}
 use Rattle.run.specs.Rounds.{below, wideStation, wideSends, exactStation, exactSends}
 use Rattle.demand_3.specs.Witnesses.{Meets}
-use Rattle.run.specs.Rounds.{directStation, directFirst, directSecond}
+use Rattle.run.specs.Rounds.{directStation, directFirst, directSecond, oddCloseStation, oddCloseSends, pairStation, pairSends}
+use Rattle.run.specs.Rounds.{stillStation, stillSends}
 use Rattle.run.specs.Rounds.{crusadersStation, crusadersFirst, crusadersSecond}
 use Rattle.demand_3.proofs.Exact.{exact-limits}
 use Rattle.demand_3.proofs.Guarantee.{guarantee}
+use Rattle.demand_3.proofs.Odd.{odd-limits}
+use Rattle.demand_3.proofs.OneValue.{one-value}
 use Rattle.demand_3.proofs.Regulator.{regulators-case}
-use Rattle.demand_3.proofs.Computed.Witnesses.{wide-reached, exact-reached, direct-rounds, crusaders-rounds}
+use Rattle.demand_3.proofs.Computed.Witnesses.{wide-reached, exact-reached, odd-reached, pair-alike, still-alike, direct-rounds}
+use Rattle.demand_3.proofs.Computed.Witnesses.{crusaders-rounds}
 
 promised :
     (st : Station) (rounds : List Sends) (good : ℕ → Bool) (truth : ℤ)
@@ -86,3 +93,27 @@ wide-answered =
     regulators-case
     wideStation seven (m .starts) (wideSends ∷ []) (m .most) (m .allowed) (below 4) (pos 0) (m .goodness)
     .three (wide-reached .counts)
+
+-- an odd number of cabinets; and m 0, and a window of 0
+pub seven-promised : OddGuarantee oddCloseStation (oddCloseSends ∷ []) (below 5)
+seven-promised =
+    let m : Meets oddCloseStation (oddCloseSends ∷ []) (below 5) (pos 0) = odd-reached .meets in
+    odd-limits
+    oddCloseStation (unfold oddCloseStation in refl) (m .starts) (oddCloseSends ∷ []) (m .most) (m .allowed) (below 5) (pos 0)
+    (m .goodness)
+
+pub pair-promised : Every pairStation (AllEqual pairStation) (start pairStation) (pairSends ∷ [])
+pair-promised =
+    let m : Meets pairStation (pairSends ∷ []) (below 2) (pos 0) = pair-alike .meets in
+    one-value
+    pairStation (m .starts) (pairSends ∷ []) (m .most) (m .allowed) (below 2) (pos 0) (m .goodness)
+    (rw (pair-alike .counts) zero-le)
+    (inl (unfold pairStation in refl))
+
+pub still-promised : Every stillStation (AllEqual stillStation) (start stillStation) (stillSends ∷ [])
+still-promised =
+    let m : Meets stillStation (stillSends ∷ []) (below 3) (pos 5) = still-alike .meets in
+    one-value
+    stillStation (m .starts) (stillSends ∷ []) (m .most) (m .allowed) (below 3) (pos 5) (m .goodness)
+    (rw (still-alike .counts) (unfold stillStation in lit≤ tt))
+    (inr (unfold stillStation in refl))

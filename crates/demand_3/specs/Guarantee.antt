@@ -1,12 +1,14 @@
 -- Demand 3 and document 01, "Limits for sound cabinets" (docs/FORMAT.md, 10): how far sound cabinets can be from each
 -- other and from true time, over a whole run of 0 to 32 rounds, whatever faulty cabinets send. The run is that of
 -- crates/run/specs/Run.antt. The theorem is `guarantee` of proofs/Guarantee.antt. Beside this file, Exact.antt has the
--- limits for m < t < N-m to the tick, Regulator.antt has it for seven cabinets, and Witnesses.antt has rounds that
--- reach its limits.
+-- limits for m < t < N-m to the tick, Odd.antt has tighter ones for an odd N, OneValue.antt says what a window of 0
+-- means, Regulator.antt has it for seven cabinets, and Witnesses.antt has rounds that reach its limits.
+-- Document 02, "Paper 4. Halves go to the even tick", rewrites its precision limits: ⌈q/N⌉ is now the whole part of q/N
+-- plus one, and the next window is the planner's.
 --
 -- Where this departs from the paper (document 004): t counts every cabinet outside the good set, faulty or sound with a
--- bad first reading (the paper's Theorem 2 counts the faulty ones only); limits are whole numbers, rounded up; a
--- reading may be missing; nothing is said of values that two cabinets share (Lemmas 5 and 7, the sharing half of
+-- bad first reading (the paper's Theorem 2 counts the faulty ones only); limits are whole numbers; a reading may be
+-- missing; nothing is said of values that two cabinets share (Lemmas 5 and 7, the sharing half of
 -- Theorem 8, Theorem 10).
 -- What is not claimed: anything about networks or times of delivery; limits after the first round where more than m are
 -- bad; what the program prints.
@@ -28,7 +30,7 @@ use lib.ListN.{length}
 use Rattle.arithmetic.specs.Counting.{count}
 use Rattle.model.specs.Ensemble.{isPresent, ticks}
 use Rattle.model.specs.AnswerSheet.{answerLength}
-use Rattle.model.specs.Planner.{ceilDiv, maxRounds}
+use Rattle.model.specs.Planner.{ceilDiv, pastDiv, maxRounds}
 use Rattle.model.specs.Refusals.{refusal, tooManyFaultsNumber}
 use Rattle.model.specs.Calls.{granted, refused, step}
 use Rattle.run.specs.Run.{Station, N, m, δ, κ, Start, Sends, Allowed, State, start, settled, next, Sound}
@@ -100,13 +102,13 @@ pub record Close (st : Station) (true-value : ℤ) (now : State) (x : Sends) : T
       → apart (newValue st now x p) (newValue st now x q) ≤ closeGap st now x
   pub accurate : (p : ℕ) → Sound st p → apart (newValue st now x p) true-value ≤ closeError st now x
 
--- m < t < N-m, first round: "an unrefused value is within κ + ⌈(m+t)δ/N⌉ of true, and two differ by at most
--- ⌈(N+2t+2m)δ/N⌉"
+-- m < t < N-m, first round: "an unrefused value is within κ + ⌈(m+t)δ/N⌉ of true, and two differ by at most"
+-- (N+2t+2m)δ/N, "the whole part", "plus one"
 abbrev pub wideError : Station → ℕ → ℕ
 wideError st t = κ st + ceilDiv ((m st + t) * δ st) (N st)
 
 abbrev pub wideGap : Station → ℕ → ℕ
-wideGap st t = ceilDiv ((N st + 2 * t + 2 * m st) * δ st) (N st)
+wideGap st t = pastDiv ((N st + 2 * t + 2 * m st) * δ st) (N st)
 
 pub record Wide (st : Station) (t : ℕ) (true-value : ℤ) (now : State) (x : Sends) : Type 0 where
   pub accurate :

@@ -1,17 +1,20 @@
 -- The regulator's question: "How far apart can the time stamps of two sound cabinets be when three of the seven clocks
 -- at a station lie, each telling every cabinet something else?" The theorem is `regulators-case` of
--- proofs/Regulator.antt; it follows from `exact-limits` and `guarantee`.
+-- proofs/Regulator.antt; it follows from `exact-limits`, `guarantee` and `odd-limits`.
 --
--- The answer, for seven cabinets planned for two faults, by either rule with any estimator:
+-- The answer, for seven cabinets planned for two faults, by either rule with any estimator. Seven is odd, so that no mean
+-- is a half and the limits are those of Odd.antt:
 --   three bad        after the first round two sound cabinets that do not refuse are at most δ + 2 near(5δ) apart, and
 --                    each is within κ + near(5δ) of true, near(5δ) being the nearest whole number to 5δ/7. No smaller
 --                    numbers would be true: crates/sharpness/specs/Sharpness.antt has a round that reaches both, at
 --                    every window of at most 2κ (good readings cannot be further apart). Document 01's own limits,
 --                    ⌈17δ/7⌉ and κ + ⌈5δ/7⌉, are the same or one tick more
 --   four bad         the same with 6δ for 5δ and 19δ for 17δ
---   at most two bad  no sound cabinet refuses, and after round 1, 2, 3, .. they are at most δ₁, δ₂, δ₃, .. apart, where
---                    δ₁ is ⌈4δ/7⌉, δ₂ is ⌈4δ₁/7⌉ and so on (⌈2δ/7⌉, ⌈2δ₁/7⌉, .. for CCA with median), and within
---                    κ + ⌈2δ/7⌉, then ⌈2δ₁/7⌉ more, .. of true
+--   at most two bad  no sound cabinet refuses, and after round 1, 2, 3, .. they are at most ⌈4δ/7⌉, ⌈4δ₁/7⌉, ⌈4δ₂/7⌉, ..
+--                    apart (⌈2δ/7⌉, ⌈2δ₁/7⌉, .. for CCA with median), where δ₁, δ₂, .. are the planned windows: δ₁ is
+--                    the whole part of 4δ/7 (2δ/7) plus one, or 0 where δ is, and so on. They are within κ + ⌈2δ/7⌉, then
+--                    ⌈2δ₁/7⌉ more, .. of true. The windows are document 02's, so that from round 2 on these limits can be
+--                    a tick more than document 01's, by its windows, were
 --
 --   SevenPlannedForTwo            the station: N 7 and m 2
 --   nearestSeventh                the nearest whole number to a seventh
@@ -28,7 +31,7 @@ use lib.IntN.{ℤ}
 use lib.ListN.{length}
 use Rattle.model.specs.RoundSheet.{cca, median}
 use Rattle.model.specs.AnswerSheet.{answerLength}
-use Rattle.model.specs.Planner.{ceilDiv, planFrom, after, maxRounds}
+use Rattle.model.specs.Planner.{ceilDiv, pastDiv, planFrom, after, maxRounds}
 use Rattle.model.specs.Calls.{granted}
 use Rattle.run.specs.Run.{Station, N, m, δ, κ, Start, Sends, Allowed, State, start, next}
 use Rattle.demand_3.specs.Guarantee.{Each}
@@ -45,7 +48,7 @@ pub record SevenPlannedForTwo (st : Station) : Type 0 where
 unfoldable pub nearestSeventh : ℕ → ℕ
 nearestSeventh a = (2 * a + 7) / 14
 
--- the first round, with `more` and `wide` sevenths of the window: first to the tick, then document 01's own limits
+-- the first round, with `more` and `wide` sevenths of the window: first to the tick, then as document 01 has it
 pub record ManyBad (st : Station) (more wide : ℕ) (true-value : ℤ) (now : State) (x : Sends) : Type 0 where
   pub precise :
       (p q : ℕ) → Sound st p → Sound st q → Unrefused st now x p → Unrefused st now x q
@@ -75,7 +78,7 @@ sevenths st = cond (eqb (st .settings .rule) cca && eqb (st .settings .estimator
 -- the window after k rounds
 unfoldable pub windowOf : Station → ℕ → ℕ
 windowOf st zero = δ st
-windowOf st (suc k) = ceilDiv (sevenths st * windowOf st k) 7
+windowOf st (suc k) = cond (eqb (windowOf st k) 0) 0 (pastDiv (sevenths st * windowOf st k) 7)
 
 -- the accuracy after k rounds
 unfoldable pub accuracyOf : Station → ℕ → ℕ
@@ -91,7 +94,9 @@ pub record AtMostTwoBad (st : Station) (true-value : ℤ) (k : ℕ) (now : State
   pub unrefused : (p : ℕ) → Sound st p → settled st now x p .verdict ≡ granted (answerLength 7)
   pub precise :
       (p q : ℕ) → Sound st p → Sound st q
-      → apart (newValue st now x p) (newValue st now x q) ≤ windowOf st (suc k)
+      → apart (newValue st now x p) (newValue st now x q) ≤ ceilDiv (sevenths st * windowOf st k) 7
+  -- which is at most the next window
+  pub narrower : ceilDiv (sevenths st * windowOf st k) 7 ≤ windowOf st (suc k)
   pub accurate : (p : ℕ) → Sound st p → apart (newValue st now x p) true-value ≤ accuracyOf st (suc k)
 
 -- a claim about every round of a list, with the number of rounds done before it

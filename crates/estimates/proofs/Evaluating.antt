@@ -6,7 +6,7 @@ use mathlib.Core.List.{List}
 use mathlib.Core.Logic.{⊎-elim}
 use mathlib.Core.Path.{_≡_, refl, sym, ap, ap₂, _∙_}
 use Prim.Native.Nat.{ℕ, _+_, _*_, _-_, _/_, _≤_, _<_}
-use native.Mathlib.Nat.{mul-le-mul, mul-le-mul-left, mul-comm, add-mul, add-comm, add-mul-div-right, pos-of-ne-zero}
+use native.Mathlib.Nat.{mul-le-mul, mul-le-mul-left, mul-comm, mul-add, add-mul, add-comm, add-mul-div-right, pos-of-ne-zero}
 use native.Mathlib.Omega.{arith}
 use borrow.Author.Tests.{eq-eqb, ne-eqb}
 use lib.ListN.{length}
@@ -20,9 +20,9 @@ use Rattle.arithmetic.specs.Words.{twoTo31, twoTo32}
 use Rattle.model.specs.Ensemble.{maxCabinets}
 use Rattle.model.specs.Steps.{mean, usedValue}
 use Rattle.round_laws.specs.Naturals.{average-nat, median-nat, midpoint-nat, estimate-nat, mean-nat}
-use Rattle.round_laws.proofs.Shifted.{estimate-shifted, value-shifted}
+use Rattle.round_laws.proofs.Shifted.{estimate-shifted, value-shifted, even-31}
 use Rattle.value_laws.proofs.Estimates.{Between, estimate-within}
-use Rattle.value_laws.proofs.Means.{mean-shift, mean-upper}
+use Rattle.value_laws.proofs.Means.{mean-upper}
 use Rattle.held.specs.Held.{presentIn, valueAt, readingsIn}
 use Rattle.held.proofs.Held.{fit-intro}
 use Rattle.means.specs.Means.{floorMean, nearestMean}
@@ -61,7 +61,8 @@ module _ (marks values : List ℕ) where
         ap (λ z. up twoTo31 (mean n (sum (usedValue (presentIn marks) (readingsIn marks values) z) n))) estimate-down
         ∙ ap (up twoTo31)
         (value-shifted twoTo31 (presentIn marks) (valueAt values) (presentIn marks) n (λ r p. p) e
-        (omega (arith, count-le (presentIn marks) n)))
+        (omega (arith, count-le (presentIn marks) n))
+        even-31)
         ∙ up-down twoTo31 (mean-nat n (total (usedAt marks values e) n))
 
   module _ (fit : Fitting marks values) (r : Summary) (gathered : Summarizes r marks values) where
@@ -192,17 +193,25 @@ module _ (marks values : List ℕ) where
             omega arith
 
         pub value-most :
-            (v : ℕ) → v ≡ nearestMean (length marks) (r .sum + (length marks - r .count) * a) → r .low + v ≤ r .high
+            (v : ℕ) → v ≡ nearestMean (length marks) (r .sum + (length marks - r .count) * a) (r .low) → r .low + v ≤ r .high
         value-most v q =
-            let used = r .sum + (length marks - r .count) * a in
-            let l = mean-upper (length marks) (pos-of-ne-zero has-some) used wide sum-most in
-            let d = nearest-is (length marks) used has-some in
-            omega (arith, q, gathered .ordered)
+            let n = length marks in
+            let used = r .sum + (n - r .count) * a in
+            let parts : wide + r .low ≡ r .high = omega (arith, gathered .ordered) in
+            let scaled = ap (λ (k : ℕ). n * k) parts in
+            let most : used + r .low * n ≤ n * r .high =
+            omega (arith, sum-most, mul-add n wide (r .low), mul-comm n (r .low)) in
+            omega (
+              arith,
+              mean-upper n (pos-of-ne-zero has-some) (used + r .low * n) (r .high) most,
+              nearest-is n used has-some (r .low),
+              q,
+            )
 
         pub evaluate-some :
             ungathered marks values ≡ false
             → (v : ℕ)
-            → v ≡ nearestMean (length marks) (r .sum + (length marks - r .count) * a)
+            → v ≡ nearestMean (length marks) (r .sum + (length marks - r .count) * a) (r .low)
             → _≡_ {A = Estimated} (record { count = r .count; estimate = r .low + a; value = r .low + v })
             (evaluatedOf kind marks values)
         unfolding evaluatedOf
@@ -211,9 +220,8 @@ module _ (marks values : List ℕ) where
             let e = estimateAt kind marks values in
             let used = r .sum + (n - r .count) * a in
             let due : r .low + v ≡ mean-nat n (total (usedAt marks values e) n) =
-            ap (λ (k : ℕ). r .low + k) (q ∙ sym (nearest-is n used has-some))
-            ∙ add-comm (r .low) (mean-nat n used)
-            ∙ sym (mean-shift n (pos-of-ne-zero has-some) used (r .low))
+            ap (λ (k : ℕ). r .low + k) q
+            ∙ sym (nearest-is n used has-some (r .low))
             ∙ ap (λ (k : ℕ). mean-nat n (r .sum + (n - r .count) * k + r .low * n)) is
             ∙ ap (mean-nat n) (sym (total-used e (between .low))) in
             rw (f, estimate-moved kind some-present, value-moved kind some-present, due, estimate-is, gathered .counted)

@@ -51,6 +51,6 @@ pub fn evaluate(kind: u8, marks: &[u8], values: &[u32]) -> Estimated
     Estimated {
         count: summary.count,
         estimate: summary.low + above,
-        value: summary.low + means::nearest_mean(n, sum),
+        value: summary.low + means::nearest_mean(n, sum, summary.low),
     }
 }

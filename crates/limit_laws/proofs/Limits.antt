@@ -1,7 +1,7 @@
 -- The limits of one round. With at most m bad nobody is refused, a new value strays from the true one by at most the
--- growth planned, and two new values differ by at most the next window. With more, but fewer than n - m, bad the wider
--- limits hold, to the tick. By counting: each used value is bounded row by row, the bounds are summed, and the mean of
--- n follows.
+-- growth planned, and the sums of two differ by at most two windows for each bad one, or one. With more, but fewer than
+-- n - m, bad the wider limits hold, to the tick. By counting: each used value is bounded row by row, the bounds are
+-- summed, and the mean of n follows.
 --   unrefused                              every good reading is accepted
 --   accuracy-bad, precision-spread         any estimators, by how many are bad, where readings of a good one differ by
 --                                          at most D
@@ -11,9 +11,9 @@
 -- Assumes nothing.
 use mathlib.Core.Bool.{Bool, true, false, not, _&&_}
 use mathlib.Core.Logic.{⊎-elim}
-use mathlib.Core.Path.{_≡_, refl, sym, ap, _∙_}
+use mathlib.Core.Path.{_≡_, refl, sym, ap, _∙_, subst}
 use Prim.Native.Nat.{ℕ, _+_, _*_, _-_, _/_, _≤_, _<_}
-use native.Mathlib.Nat.{le-trans, mul-assoc, mul-comm, mul-le-mul-right, one-mul}
+use native.Mathlib.Nat.{le-trans, mul-assoc, mul-comm, mul-le-mul-right, one-mul, zero-mul}
 use native.Mathlib.Omega.{arith}
 use Rattle.arithmetic.specs.Counting.{bit, count}
 use Rattle.arithmetic.proofs.Bools.{both-ways, clash, and-right, and-intro}
@@ -22,11 +22,9 @@ use Rattle.arithmetic.specs.Naturals.{total}
 use Rattle.arithmetic.proofs.Sums.{total-add, total-const, total-scale, count-total}
 use Rattle.model.specs.Planner.{ceilDiv}
 use Rattle.model.specs.RoundSheet.{median}
-use Rattle.round_laws.specs.Naturals.{mean-nat}
-use Rattle.value_laws.proofs.Means.{mean-shift}
 use Rattle.value_laws.proofs.Extremes.{LeastOf, GreatestOf, least, greatest}
-use Rattle.limit_laws.proofs.Means.{rise, fall, mean-rise, mean-fall, fall-rise, rise-ceil}
-use Rattle.limit_laws.proofs.Means.{total-close, mean-stray}
+use Rattle.limit_laws.proofs.Means.{MeansClose, rise, fall, mean-close, mean-rise, mean-fall, mean-apart}
+use Rattle.limit_laws.proofs.Means.{rise-ceil, total-close}
 use Rattle.value_laws.proofs.Acceptance.{insideSpan, inside-intro, NatSpan, span-accepted}
 use Rattle.value_laws.proofs.Ranks.{Numbered}
 use Rattle.value_laws.proofs.Estimates.{Between, used-within, median-numbered}
@@ -58,24 +56,29 @@ module _ (n m w : ℕ) (good : ℕ → Bool) (g : ℕ → ℕ) where
         row : (r : ℕ) → r < n → Strays n m w good v a b r
         row = used-strays n m w good g v h s a b low high
 
-        value-above : valueBy n m w v ≤ b + rise n (most * w)
-        value-above =
-            let c = total-close n some-n w (astray n m w good v) most sums (usedBy n m w v) (λ _. b)
-            (λ r l. row r l .above) in
-            mean-rise n some-n (total (usedBy n m w v) n) b (most * w) (omega (arith, total-const b n))
+        total-above : total (usedBy n m w v) n ≤ n * b + most * w
+        total-above =
+            omega (
+              arith,
+              total-close n some-n w (astray n m w good v) most sums (usedBy n m w v) (λ _. b) (λ r l. row r l .above),
+              total-const b n,
+            )
 
-        value-below : a ≤ valueBy n m w v + fall n (most * w)
-        value-below =
-            let c = total-close n some-n w (astray n m w good v) most sums (λ _. a) (usedBy n m w v)
-            (λ r l. row r l .below) in
-            mean-fall n some-n (total (usedBy n m w v) n) a (most * w) (omega (arith, total-const a n))
+        total-below : n * a ≤ total (usedBy n m w v) n + most * w
+        total-below =
+            omega (
+              arith,
+              total-close n some-n w (astray n m w good v) most sums (λ _. a) (usedBy n m w v) (λ r l. row r l .below),
+              total-const a n,
+            )
 
       -- a new value is within κ, and what the mean makes of those rows, of the true one
       accurate : (T κ : ℕ) → Truth n good g T κ → Accurate T (κ + rise n (most * w)) (valueBy n m w v)
       accurate T κ truth =
-          let a = value-above (T - κ) (T + κ) low (truth .above) in
-          let b = value-below (T - κ) (T + κ) low (truth .above) in
-          record { above = omega arith; below = omega (arith, fall-rise n some-n (most * w)) }
+          let used = total (usedBy n m w v) n in
+          let a = mean-rise n some-n used (T + κ) (most * w) (total-above (T - κ) (T + κ) low (truth .above)) in
+          let b = mean-fall n some-n used (T - κ) (most * w) (total-below (T - κ) (T + κ) low (truth .above)) in
+          record { above = omega arith; below = omega arith }
         where
           low : (r : ℕ) → r < n → good r ≡ true → T - κ ≤ g r
           low r l e = omega (arith, truth .below r l e)
@@ -97,11 +100,12 @@ module _ (n m w : ℕ) (good : ℕ → Bool) (g : ℕ → ℕ) where
 
     pub precision-many :
         (p q : Receiver) → ReadsSome n m w good g p → ReadsSome n m w good g q
-        → valueBy n m w p ≤ valueBy n m w q + (w + (rise n excess + fall n excess))
+        → valueBy n m w p ≤ valueBy n m w q + (w + (rise n excess + fall n w excess))
     precision-many p q sp sq =
-        let a = value-above p sp most (astray-most p sp) (g (lo .index)) (g (hi .index)) (lo .first) (hi .first) in
-        let b = value-below q sq most (astray-most q sq) (g (lo .index)) (g (hi .index)) (lo .first) (hi .first) in
-        omega (arith, h .close (hi .index) (lo .index) (hi .inRange) (lo .inRange) (hi .passes) (lo .passes))
+        mean-apart n some-n (total (usedBy n m w p) n) (total (usedBy n m w q) n) (g (lo .index)) (g (hi .index)) w excess
+        (total-above p sp most (astray-most p sp) (g (lo .index)) (g (hi .index)) (lo .first) (hi .first))
+        (total-below q sq most (astray-most q sq) (g (lo .index)) (g (hi .index)) (lo .first) (hi .first))
+        (h .close (hi .index) (lo .index) (hi .inRange) (lo .inRange) (hi .passes) (lo .passes))
       where
         some-good : 0 < count good n
         some-good = omega (arith, h .many, count-not good n)
@@ -201,10 +205,17 @@ module _ (n m w D : ℕ) (good : ℕ → Bool) (g g′ : ℕ → ℕ) (h : Few n
   -- used values that differ by at most D, and j windows more at the bad ones
   apart-few :
       (j : ℕ) → ((r : ℕ) → r < n → usedBy n m w p r ≤ usedBy n m w q r + (D + j * w))
-      → valueBy n m w p ≤ valueBy n m w q + (D + ceilDiv (j * (most * w)) n)
+      → MeansClose n (valueBy n m w p) (valueBy n m w q) (D * n + j * (most * w))
   apart-few j far =
-      let s = mean-stray n some w apart (j * most) sums (usedBy n m w p) (λ r. usedBy n m w q r + D) row in
-      omega (arith, s, shifted, ap (λ (y : ℕ). ceilDiv y n) (mul-assoc j most w))
+      mean-close n some (total (usedBy n m w p) n) (total (usedBy n m w q) n) (D * n + j * (most * w))
+      (omega (
+        arith,
+        total-close n some w apart (j * most) sums (usedBy n m w p) (λ r. usedBy n m w q r + D) row,
+        total-add (usedBy n m w q) (λ _. D) n,
+        total-const D n,
+        mul-comm n D,
+        mul-assoc j most w,
+      ))
     where
       some : 0 < n
       some = omega (arith, h .planned)
@@ -227,14 +238,6 @@ module _ (n m w D : ℕ) (good : ℕ → Bool) (g g′ : ℕ → ℕ) (h : Few n
           omega (arith, used-good n m w good g h p sp r l e, used-good n m w good g′ h′ q sq r l e, near-by r l e))
           (λ e. let d : apart r * w ≡ j * w = rw e (ap (λ (y : ℕ). y * w) (one-mul j)) in omega (arith, far r l))
           (both-ways (good r))
-
-      -- D more for each is D more for the mean
-      shifted : mean-nat n (total (λ r. usedBy n m w q r + D) n) ≡ valueBy n m w q + D
-      shifted =
-          ap (mean-nat n)
-          (total-add (usedBy n m w q) (λ _. D) n
-          ∙ ap (λ (y : ℕ). total (usedBy n m w q) n + y) (total-const D n ∙ mul-comm n D))
-          ∙ mean-shift n some (total (usedBy n m w q) n) D
 
   -- H2: an accepted reading at p and one at q lie within w of the values of one good one
   accepted-close :
@@ -271,7 +274,7 @@ module _ (n m w D : ℕ) (good : ℕ → Bool) (g g′ : ℕ → ℕ) (h : Few n
       near′ : Near w g′ q s (shared .0)
       near′ = good-near n m w good g′ q (sq .alike) s (shared .0) span′ (shared .1) (shared .3)
 
-  pub precision-spread : valueBy n m w p ≤ valueBy n m w q + (D + ceilDiv (2 * (most * w)) n)
+  pub precision-spread : MeansClose n (valueBy n m w p) (valueBy n m w q) (D * n + 2 * (most * w))
   precision-spread = apart-few 2 far
     where
       far : (r : ℕ) → r < n → usedBy n m w p r ≤ usedBy n m w q r + (D + 2 * w)
@@ -293,9 +296,13 @@ module _ (n m w : ℕ) (good : ℕ → Bool) (g : ℕ → ℕ) (h : Few n m w go
 
   pub precision-few :
       (p q : Receiver) → Reads n good g p → Reads n good g q
-      → valueBy n m w p ≤ valueBy n m w q + ceilDiv (2 * (m * w)) n
+      → MeansClose n (valueBy n m w p) (valueBy n m w q) (2 * (m * w))
   precision-few p q sp sq =
-      omega (arith, precision-spread n m w 0 good g g h h same-value p q sp sq m (h .few))
+      subst (MeansClose n (valueBy n m w p) (valueBy n m w q)) no-spread
+      (precision-spread n m w 0 good g g h h same-value p q sp sq m (h .few))
+    where
+      no-spread : 0 * n + 2 * (m * w) ≡ 2 * (m * w)
+      no-spread = omega (arith, zero-mul n)
 
   -- where q settles by the median: an accepted reading at p lies within w of it
   module _ (p q : Receiver) (sp : Reads n good g p) (sq : Reads n good g q) (agree : BothAlike n p q)
@@ -336,14 +343,14 @@ module _ (n m w : ℕ) (good : ℕ → Bool) (g : ℕ → ℕ) (h : Few n m w go
   -- rows that neither accepts count too: the median at p is itself an accepted reading there
   pub precision-median :
       (p q : Receiver) → Reads n good g p → Reads n good g q → BothAlike n p q → p .kind ≡ median → q .kind ≡ median
-      → valueBy n m w p ≤ valueBy n m w q + ceilDiv (m * w) n
+      → MeansClose n (valueBy n m w p) (valueBy n m w q) (m * w)
   precision-median p q sp sq agree kp kq =
-      omega (
-        arith,
-        apart-few n m w 0 good g g h h same-value p q sp sq m (h .few) 1 far,
-        ap (λ (y : ℕ). ceilDiv y n) (one-mul (m * w)),
-      )
+      subst (MeansClose n (valueBy n m w p) (valueBy n m w q)) no-spread
+      (apart-few n m w 0 good g g h h same-value p q sp sq m (h .few) 1 far)
     where
+      no-spread : 0 * n + 1 * (m * w) ≡ m * w
+      no-spread = omega (arith, zero-mul n, one-mul (m * w))
+
       agree′ : BothAlike n q p
       agree′ r l a b = sym (agree r l b a)
 

@@ -1,11 +1,11 @@
 -- What the guarantee states, by cases: each outcome of the code, on plain values. Products are small, since the
 -- settings pass.
 -- Assumes nothing.
-use mathlib.Core.Bool.{Bool, true, _&&_}
+use mathlib.Core.Bool.{Bool, true, false, cond, _&&_}
 use mathlib.Core.Option.{none, some}
-use mathlib.Core.Path.{_≡_, refl, sym, ap, ap₂, _∙_, subst}
-use Prim.Native.Nat.{ℕ, _+_, _*_, _-_, _/_, _≤_, _<_}
-use native.Mathlib.Nat.{le-trans, mul-le-mul, mul-le-mul-left, mul-one}
+use mathlib.Core.Path.{_≡_, refl, ap, ap₂, _∙_, subst}
+use Prim.Native.Nat.{ℕ, _+_, _*_, _-_, _/_, _%_, _≤_, _<_}
+use native.Mathlib.Nat.{le-trans, mul-le-mul, mul-le-mul-left, mul-one, div-le-self}
 use native.Mathlib.Omega.{arith}
 use borrow.Author.Tests.{le-leb, lt-leb, leb-true, ltb-true, eqb-true}
 use lib.Dec.{leb, ltb, eqb}
@@ -13,21 +13,19 @@ use Rattle.arithmetic.proofs.Bools.{and-left, and-right}
 use Rattle.model.specs.declared.Settings.{Settings}
 use Rattle.model.specs.declared.Refusal.{Refusal}
 use Rattle.model.specs.RoundSheet.{fca, median}
-use Rattle.model.specs.Planner.{ceilDiv, maxAccuracy}
+use Rattle.model.specs.Planner.{ceilDiv, pastDiv, maxAccuracy}
 use Rattle.model.specs.Cases.{settings}
 use Rattle.model.specs.Refusals.{firstOf, planChecks}
 use Rattle.model.specs.Ensemble.{maxCabinets, maxWindow}
 use Rattle.planner_laws.proofs.Ceiling.{ceil-div-least}
 use Rattle.planner_laws.proofs.Checks.{none-may-start}
 use Rattle.refusal_laws.proofs.Limits.{Limits}
-use Rattle.limit_laws.proofs.Means.{rise, fall}
-use Rattle.demand_3.specs.Exact.{exactGap, exactError}
-use Rattle.demand_3.proofs.Exact.{gap-is, error-is}
+use Rattle.value_laws.proofs.Means.{odd-one}
+use Rattle.demand_3.specs.Exact.{halfUp, halfDown}
 use Rattle.sharpness.specs.Sharpness.{Covered}
 use Rattle.reached_limits.specs.Reached.{reachable}
 use Rattle.limits.specs.Limits.{Stated, planned, wider, nothing, refused}
 use Rattle.limits.specs.Limits.{stationOf, widerAt, bounds, stated}
-use Rattle.limits.proofs.Quotients.{rise-is, fall-is}
 
 ceil-div-le : (n : ℕ) → 0 < n → (a : ℕ) → ceilDiv a n ≤ a
 ceil-div-le n some-n a =
@@ -35,10 +33,28 @@ ceil-div-le n some-n a =
     let l : a * 1 ≤ a * n = mul-le-mul-left a some-n in
     ceil-div-least n some-n (omega arith)
 
+-- a half goes down where the window is odd
+by-half :
+    (x n w d : ℕ) → (x + (n - w % 2)) / d ≡ cond (eqb (w % 2) 0) ((x + n) / d) ((x + (n - 1)) / d)
+by-half x n w d = go (eqb (w % 2) 0) refl
+  where
+    go : (b : Bool) → eqb (w % 2) 0 ≡ b → (x + (n - w % 2)) / d ≡ cond b ((x + n) / d) ((x + (n - 1)) / d)
+    go true e =
+        let z = eqb-true (w % 2) 0 e in
+        let s : x + (n - w % 2) ≡ x + n = omega arith in
+        ap (λ (a : ℕ). a / d) s
+    go false e =
+        let s : x + (n - w % 2) ≡ x + (n - 1) = omega (arith, odd-one w e) in
+        ap (λ (a : ℕ). a / d) s
+
 module _ (c : Settings) where
   module _ (l : Limits c) (parts : ℕ) (few : parts ≤ 256) where
     product-le : parts * c .window ≤ 256000000
     product-le = mul-le-mul {n₂ = 256} {m₂ = maxWindow} few (l .window)
+
+    past-le : pastDiv (parts * c .window) (c .n) ≤ 256000001
+    unfolding pastDiv
+    past-le = omega (arith, div-le-self (parts * c .window) (c .n), product-le)
 
     share-le : ceilDiv (parts * c .window) (c .n) ≤ 256000000
     share-le = le-trans (ceil-div-le (c .n) (l .someCabinet) (parts * c .window)) product-le
@@ -48,7 +64,7 @@ module _ (c : Settings) where
     pub passes : Limits c
     pub accurate : κ ≤ maxAccuracy
     pub few : t ≤ maxCabinets
-    pub gap : ceilDiv ((c .n + 2 * t + 2 * c .m) * c .window) (c .n) ≤ 256000000
+    pub gap : pastDiv ((c .n + 2 * t + 2 * c .m) * c .window) (c .n) ≤ 256000001
     pub growth : ceilDiv ((c .m + t) * c .window) (c .n) ≤ 256000000
     pub excess : (c .m + t) * c .window ≤ 256000000
 
@@ -62,7 +78,7 @@ module _ (c : Settings) where
         passes = l;
         accurate = start .accurate;
         few = omega arith;
-        gap = share-le l (c .n + 2 * t + 2 * c .m) (omega arith);
+        gap = past-le l (c .n + 2 * t + 2 * c .m) (omega arith);
         growth = share-le l (c .m + t) (omega arith);
         excess = product-le l (c .m + t) (omega arith);
       }
@@ -83,23 +99,17 @@ module _ (c : Settings) where
   bounds-wider κ t l h e = rw (lt-leb t (c .m) l, lt-leb (c .n - c .m) t h) e
 
   -- the wider limits, from their parts
-  pub wider-at : (κ t : ℕ) {gap growth above below : ℕ} {known : Bool} → 0 < c .n
-      → gap ≡ ceilDiv ((c .n + 2 * t + 2 * c .m) * c .window) (c .n)
+  pub wider-at : (κ t : ℕ) {gap growth above below : ℕ} {known : Bool}
+      → gap ≡ pastDiv ((c .n + 2 * t + 2 * c .m) * c .window) (c .n)
       → growth ≡ ceilDiv ((c .m + t) * c .window) (c .n)
       → above ≡ (2 * ((c .m + t) * c .window) + c .n) / (2 * c .n)
-      → below ≡ (2 * ((c .m + t) * c .window) + (c .n - 1)) / (2 * c .n)
+      → below ≡ (2 * ((c .m + t) * c .window) + (c .n - c .window % 2)) / (2 * c .n)
       → known ≡ reachable c κ t
       → wider gap (κ + growth) (c .window + (above + below)) (κ + above) known ≡ widerAt c κ t
-  unfolding widerAt
-  wider-at κ t {gap} {growth} {above} {below} {known} any g e a b k =
+  unfolding widerAt halfUp halfDown
+  wider-at κ t {gap} {growth} {above} {below} {known} g e a b k =
       let x : ℕ = (c .m + t) * c .window in
-      let rises : above ≡ rise (c .n) x = a ∙ sym (rise-is (c .n) x) in
-      let falls : below ≡ fall (c .n) x = b ∙ sym (fall-is (c .n) x any) in
-      let widest : c .window + (above + below) ≡ exactGap (stationOf c κ) t =
-      ap₂ (λ (i j : ℕ). c .window + (i + j)) rises falls ∙ sym (gap-is (stationOf c κ) any t) in
-      let farthest : κ + above ≡ exactError (stationOf c κ) t =
-      ap (λ (i : ℕ). κ + i) rises ∙ sym (error-is (stationOf c κ) any t) in
-      rw (g, e, widest, farthest, k)
+      rw (g, e, a, b ∙ by-half (2 * x) (c .n) (c .window) (2 * c .n), k)
 
   -- what is said to be reached is: `always-reached` speaks of it
   pub reachable-covered : (κ t : ℕ) → firstOf (planChecks c κ 0) ≡ none → c .m < t → t < c .n - c .m

@@ -1,6 +1,6 @@
 -- Document 01, "Limits for sound cabinets", in numbers: what the guarantee states for t bad cabinets.
---   Stated       the planned limits, the wider ones, nothing, or a refusal. The wider ones: document 01's gap and
---                error, the exact gap and error, and whether a round is known to reach both of these
+--   Stated       the planned limits, the wider ones, nothing, or a refusal. The wider ones: the gap and error of
+--                documents 01 and 02, the exact gap and error, and whether a round is known to reach both of these
 --   bounds       what is stated of settings and an accuracy that the planner grants
 --   stated       what is stated of any
 --   widerAt      the wider limits

@@ -10,8 +10,8 @@ use model::Refusal;
 use model::Settings;
 use refusals::Screened;
 
-// After the first round, of new values: how far two may be apart and how far one may be from true time, by document
-// 01; both to the tick; and whether a round is known that reaches these.
+// After the first round, of new values: how far two may be apart and how far one may be from true time, by documents 01
+// and 02; both to the tick; and whether a round is known that reaches these.
 pub struct Wider {
     pub gap: u32,
     pub error: u32,
@@ -47,14 +47,14 @@ fn widened(settings: Settings, accuracy: u32, t: u32) -> Wider
     let n = settings.n as u32;
     let bad = t as u8;
     let window = settings.window;
-    let gap = shares::share(
+    let gap = shares::past_share(
         settings,
         limit_terms::gap_parts(settings.n, settings.m, bad),
     ) as u32;
     let growth = shares::share(settings, limit_terms::error_parts(settings.m, bad)) as u32;
     let excess = limit_terms::excess(settings.m, bad, window) as u32;
     let above = nearest(n, excess, n);
-    let below = nearest(n, excess, n - 1);
+    let below = nearest(n, excess, n - window % 2);
     Wider {
         gap,
         error: accuracy + growth,

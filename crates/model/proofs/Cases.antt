@@ -6,16 +6,21 @@ use Rattle.arithmetic.specs.Counting.{count, anyBelow, lowest, sum}
 use Rattle.arithmetic.specs.Writing.{table}
 use Rattle.model.specs.RoundSheet.{word, entryCount, entryAt, rowEntries, rowPart, bytes4, readingBytes, sizeBytes, sheetBytes}
 use Rattle.model.specs.Steps.{decideRow, readingsOf, accepted, acceptedAt, numbered, averageOf, medianOf, midpointOf, estimate, mean, roundOf, roundAt}
-use Rattle.model.specs.Planner.{ceilDiv, windowFactor, nextWindow, growth, advance, after}
+use Rattle.model.specs.Planner.{ceilDiv, pastDiv, windowFactor, nextWindow, growth, advance, after}
 use Rattle.model.specs.Refusals.{firstOf, tooShort, badCabinets, badFaults, badMethod, badWindow, badLength, noRoom, badMark, badMissing, tooManyFaults, badPlan, targetMissed, badSpread, settingsChecks, sheetChecks, spreadChecks, entryChecks, rowChecks, settleChecks, targetChecks}
 use Rattle.model.specs.Calls.{row}
 use Rattle.model.specs.Listing.{digitsUpTo, line, cabinetLines, roundText, refusalText, listing}
-use Rattle.model.specs.Cases.{Case, cases, ask, ofRound, sheet1, listing1, sheet10, rowsShown, rowsWanted, spreadShown, spreadWanted}
+use Rattle.model.specs.Cases.{Case, cases, halves, ask, ofRound, sheet1, listing1, sheet10, rowsShown, rowsWanted, spreadShown, spreadWanted}
 
 -- cases 1 to 12
 pub rounds-on-paper : map (λ (k : Case). ask (k .asks)) cases ≡ map (λ (k : Case). k .answer) cases
-unfolding count anyBelow lowest sum decideRow readingsOf accepted acceptedAt numbered averageOf medianOf midpointOf estimate mean roundOf ceilDiv windowFactor nextWindow growth advance after firstOf badCabinets badFaults badMethod badWindow tooManyFaults badPlan targetMissed settingsChecks targetChecks cases ask ofRound
+unfolding count anyBelow lowest sum decideRow readingsOf accepted acceptedAt numbered averageOf medianOf midpointOf estimate mean roundOf ceilDiv pastDiv windowFactor nextWindow growth advance after firstOf badCabinets badFaults badMethod badWindow tooManyFaults badPlan targetMissed settingsChecks targetChecks cases ask ofRound
 rounds-on-paper = refl
+
+-- document 02, request 4
+pub halves-on-paper : map (λ (k : Case). ask (k .asks)) halves ≡ map (λ (k : Case). k .answer) halves
+unfolding count anyBelow lowest sum decideRow readingsOf accepted acceptedAt numbered averageOf medianOf midpointOf estimate mean roundOf ceilDiv pastDiv windowFactor nextWindow growth advance after firstOf tooManyFaults halves ask ofRound
+halves-on-paper = refl
 
 -- the listing of case 1, from the bytes of its sheet
 pub listing-on-paper : listing sheet1 ≡ listing1

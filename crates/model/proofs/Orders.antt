@@ -13,7 +13,7 @@ use Rattle.model.specs.RoundSheet.{fca, cca, median, word, entryCount, s
 use Rattle.model.specs.RoundSheet.{sizeBytes, sheetBytes}
 use Rattle.model.specs.AnswerSheet.{answerLength}
 use Rattle.model.specs.Steps.{readingsOf, accepted, acceptedAt, roundOf, roundAt}
-use Rattle.model.specs.Planner.{maxAccuracy, maxRounds, ceilDiv, windowFactor, nextWindow, growth, advance, after}
+use Rattle.model.specs.Planner.{maxAccuracy, maxRounds, ceilDiv, pastDiv, windowFactor, nextWindow, growth, advance, after}
 use Rattle.model.specs.Refusals.{Check, refusal, firstOf, tooShort, badCabinets, badFaults, badMethod, badWindow, badLength, noRoom, badMark}
 use Rattle.model.specs.Refusals.{badMissing, tooManyFaults, badPlan, targetMissed, badSpread, settingsChecks, sheetChecks, spreadChecks, entryChecks}
 use Rattle.model.specs.Refusals.{readChecks, writeChecks, rowChecks, settleChecks, planChecks, stepChecks, targetChecks}
@@ -114,5 +114,5 @@ unfoldable pub planWanted : List Check
 planWanted = some (refusal badWindowNumber 0) ∷ some (refusal badWindowNumber 0) ∷ some (refusal badPlanNumber 0) ∷ []
 
 pub plan-order : planFirsts ≡ planWanted
-unfolding ceilDiv windowFactor nextWindow growth advance after firstOf badCabinets badFaults badMethod badWindow badPlan targetMissed settingsChecks planChecks stepChecks targetChecks planFirsts planWanted
+unfolding ceilDiv pastDiv windowFactor nextWindow growth advance after firstOf badCabinets badFaults badMethod badWindow badPlan targetMissed settingsChecks planChecks stepChecks targetChecks planFirsts planWanted
 plan-order = refl

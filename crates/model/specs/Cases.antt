@@ -1,9 +1,11 @@
--- Document 01, "Rounds on paper": cases 1 to 12 as questions with their answers, in its order. `proofs/Cases.antt` has
--- the theorem that the definitions give these answers, computed by the checker.
+-- Document 01, "Rounds on paper": cases 1 to 12 as questions with their answers, in its order; those of cases 1, 5, 11
+-- and 12 as document 02's "Paper 4. Halves go to the even tick" has them. `proofs/Cases.antt` has the theorem that the
+-- definitions give these answers, computed by the checker.
 --   Question, ask    what a case asks, and what the definitions answer
---   Case, cases      a question with the answer that document 01 gives it, and the table of them
---   sheet1, listing1 case 1's sheet in bytes, and the listing that document 01 prints for it
+--   Case, cases      a question with the answer that the documents give it, and the table of them
+--   sheet1, listing1 case 1's sheet in bytes, and the listing of it: document 01's, with document 02's new value
 --   rowsShown        what the row accessor shows of case 1's and of case 10's sheet
+--   halves           document 02, request 4: more halves, and windows that stand still
 use mathlib.Core.List.{List, [], _∷_, map}
 use mathlib.Core.Option.{none, some}
 use Prim.Native.Nat.{ℕ, _-_}
@@ -11,7 +13,7 @@ use lib.ListN.{getD}
 use lib.IntN.{ℤ, pos, negsuc, natAbs, _-ℤ_}
 use Rattle.model.specs.declared.Settings.{Settings}
 use Rattle.model.specs.Ensemble.{Reading, missing, present, ticks}
-use Rattle.model.specs.RoundSheet.{fca, cca, median, midpoint, sheetBytes}
+use Rattle.model.specs.RoundSheet.{fca, cca, average, median, midpoint, sheetBytes}
 use Rattle.model.specs.Steps.{Decision, decided, knownFaulty, decideRow, Round, readingsOf, roundOf}
 use Rattle.model.specs.Planner.{planFrom, after, ceilDiv}
 use Rattle.model.specs.Refusals.{Check, firstOf, tooManyFaults, targetChecks}
@@ -113,8 +115,8 @@ rows10 last =
 
 unfoldable pub cases : List Case
 cases =
-    -- 1: count 3, estimate 4, new 5 (18/4)
-    case 1 (round (settings 4 1 fca median 10) (at 0 ∷ at 4 ∷ at 10 ∷ at 500 ∷ [])) (gives (pos 3 ∷ pos 4 ∷ pos 5 ∷ []))
+    -- 1: count 3, estimate 4, new 4 (18/4)
+    case 1 (round (settings 4 1 fca median 10) (at 0 ∷ at 4 ∷ at 10 ∷ at 500 ∷ [])) (gives (pos 3 ∷ pos 4 ∷ pos 4 ∷ []))
     -- 2: as 1, δ 9: refusal 10
     ∷ case 2 (round (settings 4 1 fca median 9) (at 0 ∷ at 4 ∷ at 10 ∷ at 500 ∷ [])) (refuses 10)
     -- 3: as 1, midpoint: estimate 5, new 5 (19/4)
@@ -122,9 +124,9 @@ cases =
     (gives (pos 3 ∷ pos 5 ∷ pos 5 ∷ []))
     -- 4: N 1, m 0, δ 0; -3: new -3
     ∷ case 4 (settled (settings 1 0 fca median 0) (minus 3 ∷ [])) (gives (negsuc 2 ∷ []))
-    -- 5: N 2, m 0, δ 1; -1, 0: new 0. With 0, 1: new 1
+    -- 5: N 2, m 0, δ 1; -1, 0: new 0. With 0, 1: new 0
     ∷ case 5 (settled (settings 2 0 fca median 1) (minus 1 ∷ at 0 ∷ [])) (gives (pos 0 ∷ []))
-    ∷ case 5 (settled (settings 2 0 fca median 1) (at 0 ∷ at 1 ∷ [])) (gives (pos 1 ∷ []))
+    ∷ case 5 (settled (settings 2 0 fca median 1) (at 0 ∷ at 1 ∷ [])) (gives (pos 0 ∷ []))
     -- 6: N 5, m 1, δ 20; 0, 0, 10, 20, 30: new 6. With 40, 40, 10, 20, 30: new 32
     ∷ case 6 (settled (settings 5 1 fca median 20) (at 0 ∷ at 0 ∷ at 10 ∷ at 20 ∷ at 30 ∷ [])) (gives (pos 6 ∷ []))
     ∷ case 6 (settled (settings 5 1 fca median 20) (at 40 ∷ at 40 ∷ at 10 ∷ at 20 ∷ at 30 ∷ [])) (gives (pos 32 ∷ []))
@@ -141,25 +143,26 @@ cases =
     (gives (pos 0 ∷ []))
     ∷ case 10 (settled (settings 4 1 cca median 20) (rows10 (at 20 ∷ at 20 ∷ at 20 ∷ missing ∷ [])))
     (gives (pos 5 ∷ []))
-    -- 11: plan, N 4, m 1, FCA, δ 100, κ 100: windows 50, 25, 13; κ 125, 138, 145
-    ∷ case 11 (planned plan11 100 1) (gives (pos 50 ∷ pos 125 ∷ []))
-    ∷ case 11 (planned plan11 100 2) (gives (pos 25 ∷ pos 138 ∷ []))
-    ∷ case 11 (planned plan11 100 3) (gives (pos 13 ∷ pos 145 ∷ []))
-    -- 12: that plan, target 0: refusal 12; target 1: granted
+    -- 11: plan, N 4, m 1, FCA, δ 100, κ 100: windows 51, 26, 14; κ 125, 138, 145
+    ∷ case 11 (planned plan11 100 1) (gives (pos 51 ∷ pos 125 ∷ []))
+    ∷ case 11 (planned plan11 100 2) (gives (pos 26 ∷ pos 138 ∷ []))
+    ∷ case 11 (planned plan11 100 3) (gives (pos 14 ∷ pos 145 ∷ []))
+    -- 12: that plan, targets 0 and 1: refusal 12; target 2: granted
     ∷ case 12 (target plan11 100 0) (refuses 12)
-    ∷ case 12 (target plan11 100 1) grants
+    ∷ case 12 (target plan11 100 1) (refuses 12)
+    ∷ case 12 (target plan11 100 2) grants
     ∷ []
 
--- ---- The listing that document 01 gives for case 1, and the rows of a sheet
+-- ---- The listing of case 1, and the rows of a sheet
 
 -- case 1's sheet, in bytes
 unfoldable pub sheet1 : List ℕ
 sheet1 = sheetBytes (settings 4 1 fca median 10) (1 ∷ 1 ∷ 1 ∷ 1 ∷ []) (pos 0 ∷ pos 4 ∷ pos 10 ∷ pos 500 ∷ [])
 
--- its lines: `round 4 3 4 5`, `0 1 0`, `1 1 4`, `2 1 10`, `3 2 4`
+-- its lines: `round 4 3 4 4`, `0 1 0`, `1 1 4`, `2 1 10`, `3 2 4`
 unfoldable pub listing1 : List ℕ
 listing1 =
-    114 ∷ 111 ∷ 117 ∷ 110 ∷ 100 ∷ 32 ∷ 52 ∷ 32 ∷ 51 ∷ 32 ∷ 52 ∷ 32 ∷ 53 ∷ 10
+    114 ∷ 111 ∷ 117 ∷ 110 ∷ 100 ∷ 32 ∷ 52 ∷ 32 ∷ 51 ∷ 32 ∷ 52 ∷ 32 ∷ 52 ∷ 10
     ∷ 48 ∷ 32 ∷ 49 ∷ 32 ∷ 48 ∷ 10
     ∷ 49 ∷ 32 ∷ 49 ∷ 32 ∷ 52 ∷ 10
     ∷ 50 ∷ 32 ∷ 49 ∷ 32 ∷ 49 ∷ 48 ∷ 10
@@ -198,3 +201,21 @@ spreadShown =
 
 unfoldable pub spreadWanted : List ℤ
 spreadWanted = pos 4 ∷ negsuc 0 ∷ pos 4 ∷ pos 3 ∷ []
+
+-- ---- Document 02, request 4: "The mean's half now goes to the even neighbour". None of document 01's cases, so number 0
+
+unfoldable pub halves : List Case
+halves =
+    -- N 2, m 0, δ 1; 1, 2: new 2. With -2, -1: new -2. With -3, -2: new -2
+    case 0 (settled (settings 2 0 fca median 1) (at 1 ∷ at 2 ∷ [])) (gives (pos 2 ∷ []))
+    ∷ case 0 (settled (settings 2 0 fca median 1) (minus 2 ∷ minus 1 ∷ [])) (gives (negsuc 1 ∷ []))
+    ∷ case 0 (settled (settings 2 0 fca median 1) (minus 3 ∷ minus 2 ∷ [])) (gives (negsuc 1 ∷ []))
+    -- N 4, m 1, average, δ 1; 1, 1, 2, 2: the estimate is rounded down as before, 1; new 2 (6/4)
+    ∷ case 0 (round (settings 4 1 fca average 1) (at 1 ∷ at 1 ∷ at 2 ∷ at 2 ∷ [])) (gives (pos 4 ∷ pos 1 ∷ pos 2 ∷ []))
+    -- "The next window is 0 when m or δ is 0"
+    ∷ case 0 (planned (settings 4 0 fca median 100) 100 1) (gives (pos 0 ∷ pos 100 ∷ []))
+    ∷ case 0 (planned (settings 4 1 fca median 0) 100 1) (gives (pos 0 ∷ pos 100 ∷ []))
+    -- "That plan's window now settles at 2": it is there after 7 rounds, and after 32
+    ∷ case 0 (planned plan11 100 7) (gives (pos 2 ∷ pos 154 ∷ []))
+    ∷ case 0 (planned plan11 100 32) (gives (pos 2 ∷ pos 179 ∷ []))
+    ∷ []

@@ -1,11 +1,12 @@
--- Document 01, "The planner" (docs/FORMAT.md, 6).
---   ceilDiv               a quotient rounded up
+-- Document 01, "The planner" (docs/FORMAT.md, 6), with document 02's "Paper 4. Halves go to the even tick", which changes
+-- the next window.
+--   ceilDiv, pastDiv      a quotient rounded up; its whole part plus one
 --   nextWindow, growth    the next window; what a round adds to the accuracy
 --   Plan                  the settings with the next round's window, the accuracy planned by then, the rounds done
 --   planFrom, advance     a fresh plan; the plan one round on
 --   after                 the plan any number of rounds on
 --   Reaches               what a count that is granted for a target means
-use mathlib.Core.Bool.{cond, _&&_}
+use mathlib.Core.Bool.{cond, _&&_, _||_}
 use Prim.Native.Nat.{ℕ, zero, suc, _+_, _*_, _-_, _/_, _≤_}
 use lib.Dec.{eqb}
 use Rattle.model.specs.declared.Settings.{Settings}
@@ -26,12 +27,18 @@ maxStepAccuracy = 1_100_000_000
 unfoldable pub ceilDiv : ℕ → ℕ → ℕ
 ceilDiv a n = (a + (n - 1)) / n
 
--- "⌈2mδ/N⌉, or ⌈mδ/N⌉ for CCA with median"
+-- document 02, request 4: "a precision limit written ⌈q/N⌉ becomes the whole part of q/N plus one"
+unfoldable pub pastDiv : ℕ → ℕ → ℕ
+pastDiv a n = a / n + 1
+
+-- mδ/N once for CCA with median, and else twice: "⌈2mδ/N⌉, or ⌈mδ/N⌉ for CCA with median", as document 01 has it
 unfoldable pub windowFactor : Settings → ℕ
 windowFactor c = cond (eqb (c .rule) cca && eqb (c .estimator) median) 1 2
 
+-- "The next window is 0 when m or δ is 0, and otherwise follows the same change"
 unfoldable pub nextWindow : Settings → ℕ
-nextWindow c = ceilDiv (windowFactor c * (c .m * c .window)) (c .n)
+nextWindow c =
+    cond (eqb (c .m) 0 || eqb (c .window) 0) 0 (pastDiv (windowFactor c * (c .m * c .window)) (c .n))
 
 -- "κ grows each round by ⌈mδ/N⌉ with that round's δ"
 unfoldable pub growth : Settings → ℕ

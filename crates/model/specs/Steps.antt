@@ -1,20 +1,21 @@
--- Document 01, "Steps of a round" (document 004, section 3; docs/FORMAT.md, 5), and document 02, "Paper 2. Cable runs
--- differ": the caller's spread D is added to the window. Without one it is 0.
+-- Document 01, "Steps of a round" (document 004, section 3; docs/FORMAT.md, 5), with what document 02 changes in it:
+-- "Paper 2. Cable runs differ", the caller's spread D is added to the window, and is 0 without one; "Paper 4. Halves go
+-- to the even tick", the mean's rounding.
 --   Decision, decideRow       the crusaders decision of a row
 --   readingsOf                the reading of each cabinet: FCA as sent, CCA as decided
 --   inside, held              a reading lies in a span; how many readings a span holds
 --   accepted                  some span of a width holds the reading and N-m readings
 --   numbered                  the accepted reading numbered h from below, counting from 1
 --   estimate                  average, median or midpoint of the accepted readings
---   mean                      to the nearest whole number, a half going up
+--   mean                      to the nearest whole number, a half going to the even neighbour
 --   spanWidth                 how wide a span may be: the window and the spread
 --   acceptedAt                accepted, by the settings and the spread
 --   Round, roundOf, roundAt   what a settled round has; the round of given readings; the round of a sheet
 use mathlib.Core.Bool.{Bool, false, cond, _&&_}
 use mathlib.Core.Option.{Option, none, some}
-use Prim.Native.Nat.{ℕ, _+_, _*_, _/_}
+use Prim.Native.Nat.{ℕ, _+_, _*_, _-_, _/_, _%_}
 use lib.Dec.{leb, ltb, eqb}
-use lib.IntN.{ℤ, pos, _+ℤ_}
+use lib.IntN.{ℤ, pos, natAbs, _+ℤ_}
 use lib.Signed.{leZ, ltZ}
 use Rattle.arithmetic.specs.Counting.{count, anyBelow, lowest, sum, eqZ, floorDiv}
 use Rattle.model.specs.declared.Settings.{Settings}
@@ -103,9 +104,18 @@ estimate kind acc n v =
     cond (eqb kind average) (averageOf acc n v)
     (cond (eqb kind median) (medianOf acc n v) (midpointOf acc n v))
 
--- "the mean of N used values to the nearest whole number, a half going up": the whole part of (2S + N) / 2N
+-- twice a whole number, below zero too
+abbrev pub isEven : ℤ → Bool
+isEven z = eqb (natAbs z % 2) 0
+
+-- "the mean of N used values to the nearest whole number"; document 02, request 4: "The mean's half now goes to the even
+-- neighbour". With a half going up it is the whole part of (2S + N) / 2N, with one going down that of (2S + N-1) / 2N.
+-- Where S/N is no half they are the same, and where it is one they are its neighbours
 unfoldable pub mean : ℕ → ℤ → ℤ
-mean n s = floorDiv (s +ℤ s +ℤ pos n) (2 * n)
+mean n s =
+    let above = floorDiv (s +ℤ s +ℤ pos n) (2 * n) in
+    let below = floorDiv (s +ℤ s +ℤ pos (n - 1)) (2 * n) in
+    cond (isEven above) above below
 
 -- document 01, "The answer sheet": "0 missing or known faulty, 1 accepted, 2 present and not accepted"
 abbrev pub markOf : Bool → Reading → ℕ

@@ -39,7 +39,7 @@ fn show_reached(reached: bool) -> bool {
 
 fn show_wider(wider: Wider) -> bool {
     let is_first = plan_text::say(b"after the first round, of those that do not refuse:\n");
-    let is_stated = plan_text::show_apart(b"  by document 01", wider.gap, wider.error);
+    let is_stated = plan_text::show_apart(b"  by documents 01 and 02", wider.gap, wider.error);
     let is_exact = plan_text::show_apart(b"\n  to the tick", wider.widest, wider.farthest);
     let is_reached = show_reached(wider.reached);
     let is_later = plan_text::say(b"\n  of later rounds nothing is promised\n");

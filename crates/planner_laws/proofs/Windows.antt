@@ -1,16 +1,19 @@
 -- Windows never grow, and the accuracy grows each round by at most the widest window: so settings that pass go on
 -- passing.
 -- Assumes nothing.
-use mathlib.Core.Bool.{Bool, true, false, cond, _&&_}
-use mathlib.Core.Path.{_≡_, sym, ap, _∙_}
-use Prim.Native.Nat.{ℕ, zero, suc, _+_, _*_, _-_, _≤_, _<_}
+use mathlib.Core.Bool.{Bool, true, false, cond, _&&_, _||_}
+use mathlib.Core.Logic.{_⊎_, inl, inr}
+use mathlib.Core.Path.{_≡_, refl, sym, ap, _∙_}
+use Prim.Native.Nat.{ℕ, zero, suc, _+_, _*_, _-_, _/_, _≤_, _<_}
 use native.Mathlib.Nat.{le-refl, le-trans, mul-assoc, mul-comm, mul-le-mul-right, one-mul}
+use native.Mathlib.Nat.{mul-lt-mul-of-pos-right, div-lt-iff-lt-mul, pos-of-ne-zero, zero-mul, mul-zero}
 use native.Mathlib.Omega.{arith}
+use borrow.Author.Tests.{eqb-true, eqb-false, eq-eqb, ne-eqb}
 use lib.Dec.{eqb}
 use Rattle.model.specs.declared.Settings.{Settings}
-use Rattle.model.specs.Planner.{Plan, ceilDiv, windowFactor, nextWindow, growth, withWindow, advance, after}
+use Rattle.model.specs.Planner.{Plan, ceilDiv, pastDiv, windowFactor, nextWindow, growth, withWindow, advance, after}
 use Rattle.model.specs.Ensemble.{maxWindow}
-use Rattle.planner_laws.proofs.Ceiling.{ceil-div-least}
+use Rattle.planner_laws.proofs.Ceiling.{ceil-div-least, ceil-past}
 use Rattle.refusal_laws.proofs.Limits.{Limits}
 use Rattle.planner_laws.proofs.Rounds.{after-add}
 
@@ -31,11 +34,66 @@ share-le f c h l =
     let b = mul-le-mul-right (c .window) l in
     ceil-div-least (c .n) h (omega arith)
 
-pub next-window-le : (c : Settings) → Limits c → nextWindow c ≤ c .window
+-- the next window, by whether m or δ is 0
+pub next-none : (c : Settings) → (c .m ≡ 0) ⊎ (c .window ≡ 0) → nextWindow c ≡ 0
 unfolding nextWindow
-next-window-le c s =
-    let f = mul-le-mul-right (c .m) (window-factor-le c) in
-    share-le (windowFactor c) c (s .someCabinet) (omega arith)
+next-none c (inl e) = rw (eq-eqb (c .m) 0 e)
+next-none c (inr e) = rw (eq-eqb (c .window) 0 e) (go (eqb (c .m) 0))
+  where
+    go : (a : Bool) → _≡_ {A = ℕ} (cond (a || true) 0 (pastDiv (windowFactor c * (c .m * c .window)) (c .n))) 0
+    go true = refl
+    go false = refl
+
+pub next-past :
+    (c : Settings) → (c .m ≡ 0 → ⊥) → (c .window ≡ 0 → ⊥)
+    → nextWindow c ≡ pastDiv (windowFactor c * (c .m * c .window)) (c .n)
+unfolding nextWindow
+next-past c a b = rw (ne-eqb (c .m) 0 a, ne-eqb (c .window) 0 b)
+
+-- f m δ / N, rounded down, and one are at most δ, where f m is below N and δ is not 0
+past-le : (f n m w : ℕ) → 0 < n → f * m < n → 0 < w → pastDiv (f * (m * w)) n ≤ w
+unfolding pastDiv
+past-le f n m w h l some-w =
+    let e = mul-assoc f m w in
+    let d = mul-comm n w in
+    let b = mul-lt-mul-of-pos-right {k = w} l some-w in
+    let q : f * (m * w) / n < w = div-lt-iff-lt-mul h .1 (omega arith) in
+    omega arith
+
+pub next-window-le : (c : Settings) → Limits c → nextWindow c ≤ c .window
+next-window-le c s = go (eqb (c .m) 0) refl (eqb (c .window) 0) refl
+  where
+    go : (a : Bool) → eqb (c .m) 0 ≡ a → (b : Bool) → eqb (c .window) 0 ≡ b → nextWindow c ≤ c .window
+    go true ea b eb = omega (arith, next-none c (inl (eqb-true (c .m) 0 ea)))
+    go false ea true eb = omega (arith, next-none c (inr (eqb-true (c .window) 0 eb)))
+    go false ea false eb =
+        let f = mul-le-mul-right (c .m) (window-factor-le c) in
+        let faults = s .faults in
+        rw (next-past c (eqb-false (c .m) 0 ea) (eqb-false (c .window) 0 eb))
+        (past-le (windowFactor c) (c .n) (c .m) (c .window) (s .someCabinet) (omega arith)
+        (pos-of-ne-zero (eqb-false (c .window) 0 eb)))
+
+-- the quotient rounded up, which was the next window before document 02's request 4, is at most this one
+pub ceil-next-le : (c : Settings) → 0 < c .n → ceilDiv (windowFactor c * (c .m * c .window)) (c .n) ≤ nextWindow c
+ceil-next-le c some-n = go (eqb (c .m) 0) refl (eqb (c .window) 0) refl
+  where
+    none : windowFactor c * (c .m * c .window) ≤ 0 * c .n → ceilDiv (windowFactor c * (c .m * c .window)) (c .n) ≤ nextWindow c
+    none l = omega (arith, ceil-div-least (c .n) some-n l)
+
+    go :
+        (a : Bool) → eqb (c .m) 0 ≡ a → (b : Bool) → eqb (c .window) 0 ≡ b
+        → ceilDiv (windowFactor c * (c .m * c .window)) (c .n) ≤ nextWindow c
+    go true ea b eb =
+        let z : c .m * c .window ≡ 0 = ap (λ (a : ℕ). a * c .window) (eqb-true (c .m) 0 ea) ∙ zero-mul (c .window) in
+        let y = ap (λ (a : ℕ). windowFactor c * a) z in
+        none (omega (arith, mul-zero (windowFactor c)))
+    go false ea true eb =
+        let z : c .m * c .window ≡ 0 = ap (λ (a : ℕ). c .m * a) (eqb-true (c .window) 0 eb) ∙ mul-zero (c .m) in
+        let y = ap (λ (a : ℕ). windowFactor c * a) z in
+        none (omega (arith, mul-zero (windowFactor c)))
+    go false ea false eb =
+        rw (next-past c (eqb-false (c .m) 0 ea) (eqb-false (c .window) 0 eb))
+        (ceil-past (c .n) some-n (windowFactor c * (c .m * c .window)))
 
 pub growth-le : (c : Settings) → Limits c → growth c ≤ c .window
 unfolding growth

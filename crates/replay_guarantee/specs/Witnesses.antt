@@ -44,15 +44,15 @@ pub record Meets (s : List ℕ) (κ : ℕ) (good : ℕ → Bool) (true-value : �
 pub record OnceReached : Type 0 where
   pub meets : Meets onceTrace 0 (below 3) (pos 0)
   pub few : FewBad onceTrace 0 (below 3)
-  -- 50
+  -- 52
   pub widest : finalApart onceTrace 0 1 ≡ finalGap onceTrace 0
-  -- 25
+  -- 26
   pub farthest : finalFrom onceTrace 0 (pos 0) ≡ finalError onceTrace 0
 
 pub record DirectReached : Type 0 where
   pub meets : Meets directTrace 0 (below 3) (pos 0)
   pub few : FewBad directTrace 0 (below 3)
-  -- 25
+  -- 26
   pub widest : finalApart directTrace 0 1 ≡ finalGap directTrace 0
 
 -- ---- No round
@@ -90,6 +90,6 @@ pub record ToldHeard : Type 0 where
   pub passes : Passes toldTrace lent17
   -- cabinet 2 is sound
   pub not-alike : ¬ AlikeForSound directTrace toldTrace
-  -- 0 and 13
+  -- 0 and 12
   pub value : valueIn (replay directTrace lent17 .buffer) 2 ≡ pos 0
-  pub told-value : valueIn (replay toldTrace lent17 .buffer) 2 ≡ pos 13
+  pub told-value : valueIn (replay toldTrace lent17 .buffer) 2 ≡ pos 12

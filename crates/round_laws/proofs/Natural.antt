@@ -13,7 +13,7 @@ use Rattle.model.specs.declared.Settings.{Settings}
 use Rattle.model.specs.Ensemble.{Readings, quorum}
 use Rattle.model.specs.Steps.{acceptedAt, estimate, mean, roundOf, spanWidth}
 use Rattle.round_laws.proofs.Local.{EqualBelow, EqualRounds, round-local, estimate-local}
-use Rattle.round_laws.specs.Naturals.{shifted, spans, accepted-nat, estimate-nat, mean-nat, used-nat}
+use Rattle.round_laws.specs.Naturals.{shifted, spans, accepted-nat, estimate-nat, Even, mean-nat, used-nat}
 use Rattle.round_laws.proofs.Shifted.{accepted-shifted, estimate-shifted, mean-down, used-shifted}
 
 -- an accepted reading is present
@@ -61,11 +61,11 @@ module _ (c : Settings) (D : ℕ) (pres : ℕ → Bool) (x : ℕ → ℕ) where
     unfolding roundOf
     used-of-round r = rw (accepted-at k r, estimate-of-round) (used-shifted k pres x acc-of (c .n) sub (estimate-of k) r)
 
-    pub value-of-round : 0 < c .n → roundOf c D (shifted k pres x) .value ≡ down k (value-of k)
+    pub value-of-round : 0 < c .n → Even k → roundOf c D (shifted k pres x) .value ≡ down k (value-of k)
     unfolding roundOf
-    value-of-round h =
+    value-of-round h even =
         ap (mean (c .n)) (sum-ext (roundOf c D (shifted k pres x) .used) (λ r. down k (used-of k r)) (c .n) (λ r _. used-of-round r) ∙ sum-down k (used-of k) (c .n))
-        ∙ mean-down k (c .n) (total (used-of k) (c .n)) h
+        ∙ mean-down k (c .n) (total (used-of k) (c .n)) h even
 
   -- the same of any readings that agree with these below N
   module _ (v : Readings) (k : ℕ) (same : EqualBelow (c .n) v (shifted k pres x)) where
@@ -75,8 +75,8 @@ module _ (c : Settings) (D : ℕ) (pres : ℕ → Bool) (x : ℕ → ℕ) where
     pub round-count : roundOf c D v .count ≡ count acc-of (c .n)
     round-count = alike .count ∙ count-shifted k
 
-    pub round-value : 0 < c .n → 0 < count acc-of (c .n) → roundOf c D v .value ≡ down k (value-of k)
-    round-value h some-acc = alike .value ∙ value-of-round k some-acc h
+    pub round-value : 0 < c .n → Even k → 0 < count acc-of (c .n) → roundOf c D v .value ≡ down k (value-of k)
+    round-value h even some-acc = alike .value ∙ value-of-round k some-acc h even
 
     pub round-estimate : 0 < count acc-of (c .n) → roundOf c D v .estimate ≡ down k (estimate-of k)
     round-estimate some-acc = alike .estimate ∙ estimate-of-round k some-acc

@@ -5,7 +5,7 @@
 use mathlib.Core.Bool.{Bool, true, false, cond, _&&_}
 use mathlib.Core.Option.{Option, none, some}
 use mathlib.Core.Path.{_≡_, refl, sym, ap, ap₂, _∙_}
-use Prim.Native.Nat.{ℕ, zero, suc, _+_, _*_, _/_, _<_}
+use Prim.Native.Nat.{ℕ, zero, suc, _+_, _*_, _-_, _/_, _%_, _<_}
 use native.Mathlib.Nat.{zero-mul, suc-mul, add-zero, mul-comm, mul-assoc}
 use native.Mathlib.Numerals.{add-one}
 use native.Mathlib.Omega.{arith}
@@ -16,12 +16,13 @@ use Rattle.arithmetic.specs.Counting.{bit, count, anyBelow, lowest, sum}
 use Rattle.arithmetic.proofs.Bools.{and-left, and-ext}
 use Rattle.arithmetic.proofs.Counting.{count-ext, any-ext, lowest-ext, lowest-found}
 use Rattle.arithmetic.specs.Naturals.{down, total}
-use Rattle.arithmetic.proofs.Shift.{down-cong, pos-down, le-down, lt-down, add-down, add-pos-down, shr-down}
+use Rattle.arithmetic.proofs.Shift.{down-cong, pos-down, le-down, lt-down, add-down, add-pos-down, shr-down, natAbs-down}
 use Rattle.arithmetic.proofs.Sums.{sum-ext, sum-down}
+use Rattle.arithmetic.specs.Words.{twoTo31}
 use Rattle.model.specs.Ensemble.{ticks}
 use Rattle.model.specs.RoundSheet.{average, median}
-use Rattle.model.specs.Steps.{within, accepted, numbered, ticksAt, averageOf, medianOf, midpointOf, estimate, mean, usedValue}
-use Rattle.round_laws.specs.Naturals.{shift, shifted, within-nat, spans, accepted-nat, nat-at, is-numbered, numbered-nat, average-nat, median-nat, midpoint-nat, estimate-nat, mean-nat, used-nat}
+use Rattle.model.specs.Steps.{within, accepted, numbered, ticksAt, averageOf, medianOf, midpointOf, estimate, isEven, mean, usedValue}
+use Rattle.round_laws.specs.Naturals.{shift, shifted, within-nat, spans, accepted-nat, nat-at, is-numbered, numbered-nat, average-nat, median-nat, midpoint-nat, estimate-nat, Even, even-nat, half-up, half-down, mean-nat, used-nat}
 
 -- ---- acceptance
 
@@ -51,20 +52,44 @@ module _ (w : ℕ) (pres : ℕ → Bool) (x : ℕ → ℕ) where
 
 -- ---- the mean
 
-pub mean-down : (k n s : ℕ) → 0 < n → mean n (down (n * k) s) ≡ down k (mean-nat n s)
-unfolding mean mean-nat
-mean-down k n s h =
+-- a half that goes up, or down, by what is added to twice the sum
+quotient-down : (k n s c : ℕ) → 0 < n → shrZ (down (n * k) s +ℤ down (n * k) s +ℤ pos c) (2 * n) ≡ down k ((s + s + c) / (2 * n))
+quotient-down k n s c h =
     ap (λ z. shrZ z (2 * n))
-    (ap (λ z. z +ℤ pos n) (add-down (n * k) s (n * k) s)
-    ∙ add-pos-down (n * k + n * k) (s + s) n
-    ∙ ap (λ (y : ℕ). down y (s + s + n)) moved)
-    ∙ shr-down k (s + s + n) (2 * n) (omega arith)
+    (ap (λ z. z +ℤ pos c) (add-down (n * k) s (n * k) s)
+    ∙ add-pos-down (n * k + n * k) (s + s) c
+    ∙ ap (λ (y : ℕ). down y (s + s + c)) moved)
+    ∙ shr-down k (s + s + c) (2 * n) (omega arith)
   where
     moved : n * k + n * k ≡ k * (2 * n)
     moved =
         let a = mul-comm k (2 * n) in
         let b = mul-assoc 2 n k in
         omega arith
+
+-- moving by an even number keeps what is even
+pub even-down : (k x : ℕ) → Even k → isEven (down k x) ≡ even-nat x
+even-down k x e = ap (λ (y : ℕ). eqb (y % 2) 0) (natAbs-down k x) ∙ ap (λ (y : ℕ). eqb y 0) same
+  where
+    same : (x - k + (k - x)) % 2 ≡ x % 2
+    same =
+        let t = e .twice in
+        omega arith
+
+-- what the code moves by
+pub even-31 : Even twoTo31
+even-31 = record { half = 1_073_741_824; twice = refl }
+
+-- k is even: else a half would go to the other neighbour
+pub mean-down : (k n s : ℕ) → 0 < n → Even k → mean n (down (n * k) s) ≡ down k (mean-nat n s)
+unfolding mean mean-nat half-up half-down
+mean-down k n s h even =
+    rw (quotient-down k n s n h, quotient-down k n s (n - 1) h, even-down k ((s + s + n) / (2 * n)) even)
+    (pick (even-nat ((s + s + n) / (2 * n))) _ _)
+  where
+    pick : (b : Bool) (x y : ℕ) → cond b (down k x) (down k y) ≡ down k (cond b x y)
+    pick true x y = refl
+    pick false x y = refl
 
 -- ---- estimates, over cabinets acc that are present
 
@@ -157,7 +182,7 @@ module _ (k : ℕ) (pres : ℕ → Bool) (x : ℕ → ℕ) where
         go true p = ticks-shift r (sub r p)
         go false p = refl
 
-    pub value-shifted : (e : ℕ) → 0 < n → mean n (sum (usedValue acc (shifted k pres x) (down k e)) n) ≡ down k (mean-nat n (total (used-nat acc x e) n))
-    value-shifted e h =
+    pub value-shifted : (e : ℕ) → 0 < n → Even k → mean n (sum (usedValue acc (shifted k pres x) (down k e)) n) ≡ down k (mean-nat n (total (used-nat acc x e) n))
+    value-shifted e h even =
         ap (mean n) (sum-ext (usedValue acc (shifted k pres x) (down k e)) (λ r. down k (used-nat acc x e r)) n (λ r _. used-shifted e r) ∙ sum-down k (used-nat acc x e) n)
-        ∙ mean-down k n (total (used-nat acc x e) n) h
+        ∙ mean-down k n (total (used-nat acc x e) n) h even

@@ -7,10 +7,13 @@
 --   numbered-nat       the element numbered h from below: `numbered-shifted`
 --   average-nat, median-nat, midpoint-nat, estimate-nat   the estimates: `average-shifted`, .., `estimate-shifted`
 --   used-nat           what a cabinet counts for: `used-shifted`
---   mean-nat           the mean to the nearest, a half going up: `mean-down`
+--   Even, even-nat     a number that is twice another; whether one is: `even-down`
+--   half-up, half-down the mean to the nearest, a half going up, and one going down
+--   mean-nat           the mean to the nearest, a half going to the even neighbour: `mean-down`, where k is even
 use mathlib.Core.Bool.{Bool, true, false, cond, _&&_}
 use mathlib.Core.Option.{Option, none, some}
-use Prim.Native.Nat.{ℕ, _+_, _*_, _/_}
+use mathlib.Core.Path.{_≡_}
+use Prim.Native.Nat.{ℕ, _+_, _*_, _-_, _/_, _%_}
 use lib.Dec.{leb, ltb, eqb}
 use Rattle.arithmetic.specs.Counting.{count, anyBelow, lowest}
 use Rattle.arithmetic.specs.Naturals.{down, total}
@@ -69,9 +72,22 @@ estimate-nat k kind acc n x =
 
 -- ---- the new value
 
+pub record Even (k : ℕ) : Type 0 where
+  pub half : ℕ
+  pub twice : k ≡ half + half
+
+abbrev pub even-nat : ℕ → Bool
+even-nat x = eqb (x % 2) 0
+
 -- the mean of n numbers with the sum s
+unfoldable pub half-up : ℕ → ℕ → ℕ
+half-up n s = (s + s + n) / (2 * n)
+
+unfoldable pub half-down : ℕ → ℕ → ℕ
+half-down n s = (s + s + (n - 1)) / (2 * n)
+
 unfoldable pub mean-nat : ℕ → ℕ → ℕ
-mean-nat n s = (s + s + n) / (2 * n)
+mean-nat n s = cond (even-nat (half-up n s)) (half-up n s) (half-down n s)
 
 abbrev pub used-nat : (ℕ → Bool) → (ℕ → ℕ) → ℕ → ℕ → ℕ
 used-nat acc x e r = cond (acc r) (x r) e

@@ -12,7 +12,7 @@ use Rattle.model.specs.RoundSheet.{word, entryCount, entryAt, bytes4, readingBy
 use Rattle.model.specs.AnswerSheet.{answerHeader, answerBytes}
 use Rattle.model.specs.Steps.{decideRow, readingsOf, accepted, acceptedAt, numbered, averageOf, medianOf, midpointOf}
 use Rattle.model.specs.Steps.{estimate, mean, roundOf, roundAt}
-use Rattle.model.specs.Planner.{ceilDiv, windowFactor, nextWindow, growth, advance}
+use Rattle.model.specs.Planner.{ceilDiv, pastDiv, windowFactor, nextWindow, growth, advance}
 use Rattle.model.specs.Refusals.{firstOf, tooShort, badCabinets, badFaults, badMethod, badWindow, badLength, noRoom}
 use Rattle.model.specs.Refusals.{badMark, badMissing, tooManyFaults, badPlan, badSpread, settingsChecks, spreadChecks}
 use Rattle.model.specs.Refusals.{entryChecks, writeChecks, settleChecks, planChecks, stepChecks}
@@ -20,7 +20,9 @@ use Rattle.model.specs.Calls.{write, settleSpread, settle, step}
 use Rattle.run.specs.Run.{Station, State, Sends, heard, entryOf, sheetOf, settled, next, start, stateAfter}
 use Rattle.model.specs.Cases.{at, minus}
 use Rattle.run.specs.Rounds.{heldAfter, unstepped, listed, wideStation, wideSends, exactStation, exactSends, halfStation, halfSends}
-use Rattle.run.specs.Rounds.{closeStation, closeSends, medianStation, medianSends, averageStation, averageSends}
+use Rattle.run.specs.Rounds.{closeStation, closeSends, oneMoreStation, oneMoreSends, medianStation, medianSends, averageStation, averageSends}
+use Rattle.run.specs.Rounds.{oddWideStation, oddWideSends, oddCloseStation, oddCloseSends, pairStation, pairSends}
+use Rattle.run.specs.Rounds.{oddRowsStation, oddRowsSends, stillStation, stillSends}
 use Rattle.run.specs.Rounds.{bothStation, bothSends, mixedStation, mixedSends}
 use Rattle.run.specs.Rounds.{directStation, directFirst, directSecond, directNext, directSends}
 use Rattle.run.specs.Rounds.{crusadersStation, crusadersFirst, crusadersSecond, crusadersNext, RoundsComputed}
@@ -30,7 +32,7 @@ unfoldable pub computed : Station → State → Sends → State
 unfolding count anyBelow lowest sum table overwrite
     word entryCount entryAt bytes4 readingBytes sizeBytes sheetBytes answerHeader answerBytes
     decideRow readingsOf accepted acceptedAt numbered averageOf medianOf midpointOf estimate mean roundOf roundAt
-    ceilDiv windowFactor nextWindow growth advance
+    ceilDiv pastDiv windowFactor nextWindow growth advance
     firstOf tooShort badCabinets badFaults badMethod badWindow badLength noRoom badMark badMissing tooManyFaults badPlan
     badSpread settingsChecks spreadChecks entryChecks writeChecks settleChecks planChecks stepChecks
     write settleSpread settle step heard entryOf sheetOf settled next listed
@@ -67,26 +69,26 @@ module _ (h : Readings) {a b c : Reading} (e : table h 3 ≡ a ∷ b ∷ c ∷ [
 
 direct-from :
     heldAfter directStation (record { plan = directNext .plan; held = with3 (minus 25) (at 25) (at 0) (directNext .held) }) directSecond 3
-    ≡ minus 12 ∷ at 13 ∷ at 0 ∷ []
+    ≡ minus 13 ∷ at 13 ∷ at 0 ∷ []
 direct-from = unfold computed with3 directStation directFirst directSecond directNext in refl
 
 direct-again :
     heldAfter directStation
     (record { plan = unstepped directStation directNext .plan; held = with3 (minus 25) (at 25) (at 0) (directNext .held) })
     directSecond 3
-    ≡ minus 12 ∷ at 13 ∷ at 23 ∷ []
+    ≡ minus 13 ∷ at 13 ∷ at 22 ∷ []
 direct-again = unfold computed with3 directStation directFirst directSecond directNext in refl
 
 crusaders-from :
     heldAfter crusadersStation
-    (record { plan = crusadersNext .plan; held = with3 (at 25) (at 0) (at 0) (crusadersNext .held) })
+    (record { plan = crusadersNext .plan; held = with3 (at 26) (at 0) (at 0) (crusadersNext .held) })
     crusadersSecond 3
     ≡ at 6 ∷ at 6 ∷ at 6 ∷ []
 crusaders-from = unfold computed with3 crusadersStation crusadersFirst crusadersSecond crusadersNext in refl
 
 crusaders-again :
     heldAfter crusadersStation
-    (record { plan = unstepped crusadersStation crusadersNext .plan; held = with3 (at 25) (at 0) (at 0) (crusadersNext .held) })
+    (record { plan = unstepped crusadersStation crusadersNext .plan; held = with3 (at 26) (at 0) (at 0) (crusadersNext .held) })
     crusadersSecond 3
     ≡ at 6 ∷ at 19 ∷ at 6 ∷ []
 crusaders-again = unfold computed with3 crusadersStation crusadersFirst crusadersSecond crusadersNext in refl
@@ -94,10 +96,10 @@ crusaders-again = unfold computed with3 crusadersStation crusadersFirst crusader
 direct-held : table (directNext .held) 3 ≡ minus 25 ∷ at 25 ∷ at 0 ∷ []
 direct-held = unfold computed directStation directFirst directNext in refl
 
-crusaders-held : table (crusadersNext .held) 3 ≡ at 25 ∷ at 0 ∷ at 0 ∷ []
+crusaders-held : table (crusadersNext .held) 3 ≡ at 26 ∷ at 0 ∷ at 0 ∷ []
 crusaders-held = unfold computed crusadersStation crusadersFirst crusadersNext in refl
 
-direct-next-held : heldAfter directStation directNext directSecond 3 ≡ minus 12 ∷ at 13 ∷ at 0 ∷ []
+direct-next-held : heldAfter directStation directNext directSecond 3 ≡ minus 13 ∷ at 13 ∷ at 0 ∷ []
 direct-next-held = from3 (directNext .held) direct-held directNext directStation directSecond direct-from
 
 two-rounds :
@@ -110,8 +112,14 @@ rounds-computed =
     record {
       wide = unfold computed wideStation wideSends in refl;
       exact = unfold computed exactStation exactSends in refl;
+      oddWide = unfold computed oddWideStation oddWideSends in refl;
       half = unfold computed halfStation halfSends in refl;
       close = unfold computed closeStation closeSends in refl;
+      oneMore = unfold computed oneMoreStation oneMoreSends in refl;
+      oddClose = unfold computed oddCloseStation oddCloseSends in refl;
+      oddRows = unfold computed oddRowsStation oddRowsSends in refl;
+      still = unfold computed stillStation stillSends in refl;
+      pair = unfold computed pairStation pairSends in refl;
       median = unfold computed medianStation medianSends in refl;
       average = unfold computed averageStation averageSends in refl;
       both = unfold computed bothStation bothSends in refl;

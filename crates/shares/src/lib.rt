@@ -1,16 +1,23 @@
-// Document 01, "The planner": the window's shares for some of N cabinets, rounded up, of any settings. All are 0 where
-// N is 0.
+// Document 01, "The planner", and document 02, "Paper 4": the window's shares for some of N cabinets, rounded up, or their
+// whole part plus one, of any settings.
 ghost use mathlib.Core.Bool.{cond, _&&_};
 ghost use mathlib.Core.Path.{_≡_};
 ghost use Prim.Native.Nat.{_*_, _≤_};
 ghost use lib.Dec.{eqb};
-ghost use Rattle.model.specs.Planner.{ceilDiv, nextWindow, growth};
+ghost use Rattle.model.specs.Planner.{ceilDiv, pastDiv, nextWindow, growth};
 ghost use Rattle.model.specs.RoundSheet.{cca, median};
 use model::CCA;
 use model::MEDIAN;
 use model::Settings;
 
-// ⌈parts × window / N⌉
+// parts × window
+fn product(settings: Settings, parts: u32) -> u64
+    ensures { λ r. ⌜ (r ≡ parts * settings .window) × (r ≤ 18446744065119617025) ⌝ }
+{
+    (parts as u64) * (settings.window as u64)
+}
+
+// ⌈parts × window / N⌉; 0 where N is 0.
 pub fn share(settings: Settings, parts: u32) -> u64
     ensures { λ r. ⌜ r ≡ ceilDiv (parts * settings .window) (settings .n) ⌝ }
 {
@@ -18,8 +25,18 @@ pub fn share(settings: Settings, parts: u32) -> u64
     if n == 0 {
         return 0;
     }
-    let product = (parts as u64) * (settings.window as u64);
-    (product + (n - 1)) / n
+    (product(settings, parts) + (n - 1)) / n
+}
+
+// ⌊parts × window / N⌋ + 1; 1 where N is 0.
+pub fn past_share(settings: Settings, parts: u32) -> u64
+    ensures { λ r. ⌜ r ≡ pastDiv (parts * settings .window) (settings .n) ⌝ }
+{
+    let n = settings.n as u64;
+    if n == 0 {
+        return 1;
+    }
+    product(settings, parts) / n + 1
 }
 
 fn window_factor(rule: u8, estimator: u8) -> u32
@@ -32,12 +49,15 @@ fn window_factor(rule: u8, estimator: u8) -> u32
     }
 }
 
-// The next round's window.
+// The next round's window; where N is 0 it is 0 or 1.
 pub fn next_window(settings: Settings) -> u64
     ensures { λ r. ⌜ r ≡ nextWindow settings ⌝ }
 {
+    if (settings.m == 0) | (settings.window == 0) {
+        return 0;
+    }
     let factor = window_factor(settings.rule, settings.estimator);
-    share(settings, factor * (settings.m as u32))
+    past_share(settings, factor * (settings.m as u32))
 }
 
 // What a round adds to the accuracy.

@@ -11,15 +11,16 @@ use Rattle.model.specs.RoundSheet.{word, entryCount, entryAt, bytes4, readingBy
 use Rattle.model.specs.AnswerSheet.{answerHeader, answerBytes}
 use Rattle.model.specs.Steps.{decideRow, readingsOf, accepted, acceptedAt, numbered, averageOf, medianOf, midpointOf}
 use Rattle.model.specs.Steps.{estimate, mean, roundOf, roundAt}
-use Rattle.model.specs.Planner.{ceilDiv, windowFactor, nextWindow, growth, advance}
+use Rattle.model.specs.Planner.{ceilDiv, pastDiv, windowFactor, nextWindow, growth, advance}
 use Rattle.model.specs.Refusals.{firstOf, tooShort, badCabinets, badFaults, badMethod, badWindow, badLength, noRoom}
 use Rattle.model.specs.Refusals.{badMark, badMissing, tooManyFaults, badPlan, badSpread, settingsChecks, spreadChecks}
 use Rattle.model.specs.Refusals.{entryChecks, writeChecks, settleChecks, planChecks, stepChecks}
 use Rattle.model.specs.Calls.{write, settleSpread, settle, step}
 use Rattle.run.specs.Run.{Station, State, Sends, heard, entryOf, sheetOf, settled, next}
 use Rattle.run.specs.Rounds.{below, listed}
+use Rattle.demand_3.specs.Exact.{halfUp, halfDown}
 use Rattle.sharpness.specs.Sharpness.{Covered, Reached}
-use Rattle.sharpness.proofs.Worst.{spread, firstReading, worstStation, worstSends, trueValue}
+use Rattle.sharpness.proofs.Worst.{spread, base, firstReading, worstStation, worstSends, trueValue}
 use Rattle.sharpness.proofs.Run.{meets}
 
 -- a round, with all that it computes by: whoever unfolds it unfolds its line
@@ -27,10 +28,11 @@ computed : Station → State → Sends → State
 unfolding count anyBelow lowest sum table overwrite
     word entryCount entryAt bytes4 readingBytes sizeBytes sheetBytes answerHeader answerBytes
     decideRow readingsOf accepted acceptedAt numbered averageOf medianOf midpointOf estimate mean roundOf roundAt
-    ceilDiv windowFactor nextWindow growth advance
+    ceilDiv pastDiv windowFactor nextWindow growth advance
     firstOf tooShort badCabinets badFaults badMethod badWindow badLength noRoom badMark badMissing tooManyFaults badPlan
     badSpread settingsChecks spreadChecks entryChecks writeChecks settleChecks planChecks stepChecks
-    write settleSpread settle step heard entryOf sheetOf settled next listed spread firstReading worstStation worstSends
+    write settleSpread settle step heard entryOf sheetOf settled next listed spread base firstReading worstStation worstSends
+    halfUp halfDown
 computed = next
 
 -- three of seven bad: two good ones at 0 and two at 7
@@ -58,7 +60,7 @@ three-reached =
       widest = λ _. refl;
     }
 
--- four of seven bad: good ones at 0, 7 and 4
+-- four of seven bad: good ones at 1, 8 and 5
 four-covered : Covered 7 2 4 7 4
 unfolding computed
 four-covered = record { grants = refl; more = lit< tt; fewer = lit< tt; crowded = lit≤ tt; inexact = omega arith }

@@ -31,7 +31,7 @@ use Rattle.run.specs.Rounds.{below, listed}
 use Rattle.demand_3.specs.Witnesses.{Meets}
 use Rattle.run.proofs.Entries.{heard-sound, seen, seen-direct}
 use Rattle.sharpness.specs.Sharpness.{Covered}
-use Rattle.sharpness.proofs.Worst.{needed, spread, firstReading, worstStation, worstSends, trueValue}
+use Rattle.sharpness.proofs.Worst.{needed, spread, base, firstReading, worstStation, worstSends, trueValue}
 use Rattle.sharpness.proofs.Intervals.{count-below}
 use Rattle.demand_3.proofs.Distances.{difference-down}
 
@@ -77,7 +77,11 @@ module _ (n m t δ κ : ℕ) where
 
   -- what the faulty ones tell cabinets 0, 1, ..
   abbrev pub told : Readings
-  told = listed (present (pos 0 -ℤ pos δ) ∷ at (spread δ κ + δ) ∷ [])
+  told = listed (present (pos (base n m t δ κ) -ℤ pos δ) ∷ at (base n m t δ κ + spread δ κ + δ) ∷ [])
+
+  pub base-small : base n m t δ κ ≤ 1
+  unfolding base
+  base-small = omega arith
 
   -- ---- first readings
 
@@ -124,24 +128,25 @@ module _ (n m t δ κ : ℕ) (h : Covered n m t δ κ) where
 
   -- ---- the hypotheses of demand 3
 
-  small-fits : (z : ℤ) → mag z ≤ 2_000_000 → SFits w32 z
+  small-fits : (z : ℤ) → mag z ≤ 2_000_001 → SFits w32 z
   small-fits z l = record { sfits = omega arith }
 
-  first-fits : (p : ℕ) → IsReading (at (firstReading n m t δ κ p))
+  first-fits : (p : ℕ) → IsReading (at (base n m t δ κ + firstReading n m t δ κ p))
   first-fits p =
-      small-fits (pos (firstReading n m t δ κ p))
-      (omega (arith, reads-most n m t δ κ p, spread-window δ κ, may-start .passes .window))
+      small-fits (pos (base n m t δ κ + firstReading n m t δ κ p))
+      (omega (arith, base-small n m t δ κ, reads-most n m t δ κ p, spread-window δ κ, may-start .passes .window))
 
   told-fits : (p : ℕ) → IsReading (told n m t δ κ p)
   unfolding listed
   told-fits zero =
-      small-fits (pos 0 -ℤ pos δ)
-      (subst⁻¹ (λ (z : ℤ). mag z ≤ 2_000_000) (difference-down 0 δ)
-      (down-ind δ 0 (λ z. mag z ≤ 2_000_000)
-      (λ l. omega (arith, may-start .passes .window))
-      (λ l. omega (arith, may-start .passes .window))))
+      small-fits (pos (base n m t δ κ) -ℤ pos δ)
+      (subst⁻¹ (λ (z : ℤ). mag z ≤ 2_000_001) (difference-down (base n m t δ κ) δ)
+      (down-ind δ (base n m t δ κ) (λ z. mag z ≤ 2_000_001)
+      (λ l. omega (arith, base-small n m t δ κ, may-start .passes .window))
+      (λ l. omega (arith, base-small n m t δ κ, may-start .passes .window))))
   told-fits (suc zero) =
-      small-fits (pos (spread δ κ + δ)) (omega (arith, spread-window δ κ, may-start .passes .window))
+      small-fits (pos (base n m t δ κ + spread δ κ + δ))
+      (omega (arith, base-small n m t δ κ, spread-window δ κ, may-start .passes .window))
   told-fits (suc (suc p)) = tt
 
   pub starts : Start (worstStation n m t δ κ)
@@ -157,18 +162,18 @@ module _ (n m t δ κ : ℕ) (h : Covered n m t δ κ) where
         room = λ p. rw (length-replicate {A = ℕ} (answerLength n) 255) (le-refl (answerLength n));
       }
 
-  -- true time is within κ of every reading from 0 to the highest
-  accurate : (y : ℕ) → y ≤ spread δ κ → natAbs (pos y -ℤ (pos (spread δ κ) -ℤ pos κ)) ≤ κ
-  accurate y l =
-      subst⁻¹ (λ (z : ℤ). natAbs (pos y -ℤ z) ≤ κ) (difference-down (spread δ κ) κ)
-      (subst⁻¹ (λ (z : ℤ). natAbs (z -ℤ down κ (spread δ κ)) ≤ κ)
-      (pos-down y ∙ down-cong 0 y κ (y + κ) (omega arith))
-      (rw (dist-down κ (y + κ) (spread δ κ)) (omega (arith, spread-accuracy δ κ))))
+  -- true time is within κ of every reading from the base to the highest
+  accurate : (b y : ℕ) → y ≤ spread δ κ → natAbs (pos (b + y) -ℤ (pos (b + spread δ κ) -ℤ pos κ)) ≤ κ
+  accurate b y l =
+      subst⁻¹ (λ (z : ℤ). natAbs (pos (b + y) -ℤ z) ≤ κ) (difference-down (b + spread δ κ) κ)
+      (subst⁻¹ (λ (z : ℤ). natAbs (z -ℤ down κ (b + spread δ κ)) ≤ κ)
+      (pos-down (b + y) ∙ down-cong 0 (b + y) κ (b + y + κ) (omega arith))
+      (rw (dist-down κ (b + y + κ) (b + spread δ κ)) (omega (arith, spread-accuracy δ κ))))
 
-  precise : (y z : ℕ) → y ≤ spread δ κ → z ≤ spread δ κ → natAbs (pos y -ℤ pos z) ≤ δ
-  precise y z k l =
-      rw (difference-down y z)
-      (down-ind z y (λ a. natAbs a ≤ δ) (λ i. omega (arith, spread-window δ κ)) (λ i. omega (arith, spread-window δ κ)))
+  precise : (b y z : ℕ) → y ≤ spread δ κ → z ≤ spread δ κ → natAbs (pos (b + y) -ℤ pos (b + z)) ≤ δ
+  precise b y z k l =
+      rw (difference-down (b + y) (b + z))
+      (down-ind (b + z) (b + y) (λ a. natAbs a ≤ δ) (λ i. omega (arith, spread-window δ κ)) (λ i. omega (arith, spread-window δ κ)))
 
   good : Good (worstStation n m t δ κ) (below (n - t)) (trueValue n m t δ κ)
   unfolding worstStation
@@ -176,9 +181,9 @@ module _ (n m t δ κ : ℕ) (h : Covered n m t δ κ) where
       record {
         sound = λ p l g. g;
         present = λ p l g. refl;
-        accurate = λ p l g. accurate (firstReading n m t δ κ p) (reads-most n m t δ κ p);
+        accurate = λ p l g. accurate (base n m t δ κ) (firstReading n m t δ κ p) (reads-most n m t δ κ p);
         precise = λ p q lp lq gp gq.
-            precise (firstReading n m t δ κ p) (firstReading n m t δ κ q)
+            precise (base n m t δ κ) (firstReading n m t δ κ p) (firstReading n m t δ κ q)
             (reads-most n m t δ κ p)
             (reads-most n m t δ κ q);
       }
@@ -193,7 +198,7 @@ module _ (n m t δ κ : ℕ) (h : Covered n m t δ κ) where
   -- ---- what is read
 
   module _ (p r : ℕ) where
-    pub sees-sound : r < n - t → sees n m t δ κ p r ≡ at (firstReading n m t δ κ r)
+    pub sees-sound : r < n - t → sees n m t δ κ p r ≡ at (base n m t δ κ + firstReading n m t δ κ r)
     unfolding worstStation
     sees-sound l =
         seen-direct (worstStation n m t δ κ) (start (worstStation n m t δ κ)) (worstSends n m t δ κ) δ p r refl

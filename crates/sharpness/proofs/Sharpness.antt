@@ -3,7 +3,7 @@
 -- Assumes nothing.
 use mathlib.Core.Logic.{⊎-elim}
 use mathlib.Core.Path.{_≡_, refl, sym, ap, _∙_, subst⁻¹}
-use Prim.Native.Nat.{ℕ, _+_, _*_, _-_, _≤_, _<_}
+use Prim.Native.Nat.{ℕ, _+_, _*_, _-_, _%_, _≤_, _<_}
 use native.Mathlib.Nat.{le-refl, add-zero}
 use native.Mathlib.Omega.{arith}
 use borrow.Author.Tests.{lt-ltb, eqb-true, eq-eqb}
@@ -12,14 +12,14 @@ use lib.IntN.{pos, _-ℤ_}
 use Rattle.arithmetic.specs.Counting.{count}
 use Rattle.arithmetic.specs.Naturals.{down, total}
 use Rattle.arithmetic.proofs.Bools.{both-ways, clash}
-use Rattle.arithmetic.proofs.Shift.{down-cong, pos-down, dist-down}
+use Rattle.arithmetic.proofs.Shift.{down-cong, dist-down}
 use Rattle.arithmetic.specs.Words.{twoTo31}
 use Rattle.model.specs.Ensemble.{present, isPresent}
 use Rattle.model.specs.RoundSheet.{fca, median}
-use Rattle.model.specs.Steps.{mean}
 use Rattle.model.specs.Cases.{settings}
-use Rattle.round_laws.specs.Naturals.{mean-nat}
-use Rattle.value_laws.proofs.Means.{mean-mono, mean-lower}
+use Rattle.round_laws.specs.Naturals.{Even, half-up, mean-nat}
+use Rattle.round_laws.proofs.Shifted.{even-31}
+use Rattle.limit_laws.proofs.Means.{fall}
 use Rattle.limit_laws.proofs.Settled.{Receiver, accepts, usedBy, valueBy}
 use Rattle.run.specs.Run.{Station, State, Sends, start, next}
 use Rattle.demand_3.specs.Guarantee.{newValue, apart}
@@ -28,9 +28,10 @@ use Rattle.demand_3.proofs.Orderly as orderly
 use Rattle.run.proofs.Ready.{ready-start}
 use Rattle.demand_3.proofs.Received.{received-count}
 use Rattle.sharpness.specs.Sharpness.{Covered, AlwaysReached}
-use Rattle.sharpness.proofs.Worst.{needed, spread, worstStation, worstSends, trueValue}
-use Rattle.demand_3.proofs.Distances.{difference-down, mean-below-zero, mean-above-zero}
-use Rattle.sharpness.proofs.Gains.{low-sum, high-mean, high-mean-one}
+use Rattle.sharpness.proofs.Worst.{needed, spread, base, worstStation, worstSends, trueValue}
+use Rattle.demand_3.proofs.Distances.{difference-down}
+use Rattle.demand_3.proofs.Exact.{up-is, error-is, gap-is}
+use Rattle.sharpness.proofs.Gains.{low-sum, low-mean, high-mean, high-mean-one}
 use Rattle.sharpness.proofs.Run.{spread-whole, spread-one, sees, may-start, planned, some-n, parts, joins}
 use Rattle.sharpness.proofs.Run.{starts, allowed, meets, t-bad}
 use Rattle.sharpness.proofs.Swayed.{Swayed, swayed-some, swayed-total}
@@ -46,10 +47,27 @@ module _ (n m t δ κ : ℕ) (h : Covered n m t δ κ) where
   abbrev x : Sends
   x = worstSends n m t δ κ
 
-  -- readings moved up by K
-  module _ (K : ℕ) (far : twoTo31 ≤ K) where
+  -- readings moved up by an even K
+  module _ (K : ℕ) (far : twoTo31 ≤ K) (even : Even K) where
     abbrev reader : ℕ → Receiver
     reader = has n m t δ κ h K
+
+    -- the lowest good reading and the highest, and what the mean makes of the excess
+    abbrev bottom : ℕ
+    bottom = base n m t δ κ + K
+
+    abbrev top : ℕ
+    top = base n m t δ κ + K + spread δ κ
+
+    abbrev up : ℕ
+    up = half-up n ((m + t) * δ)
+
+    -- the base is chosen so
+    top-even : (top + up) % 2 ≡ 0
+    unfolding base
+    top-even =
+        let e = even .twice in
+        omega (arith, up-is n ((m + t) * δ))
 
     holds :
         (p : ℕ) → 0 < count (accepts n m δ (reader p)) n
@@ -62,35 +80,31 @@ module _ (n m t δ κ : ℕ) (h : Covered n m t δ κ) where
         some-acc)
         K
         far
+        even
 
     -- ---- cabinet 0
 
     low : ℕ
     low = total (usedBy n m δ (reader 0)) n
 
-    low-total : low + (m + t) * δ ≡ n * K
+    low-total : low + (m + t) * δ ≡ n * bottom
     unfolding low
     low-total =
-        low-sum n (needed n m t) m t δ K (parts n m t δ κ h) low (K - δ)
+        low-sum n (needed n m t) m t δ bottom (parts n m t δ κ h) low (bottom - δ)
         (omega (arith, may-start n m t δ κ h .passes .window))
         (rw from-zero at
-        (swayed-total n m δ (reader 0) 0 (needed n m t) (n - t) K (K - δ) (low-swayed n m t δ κ h K far)))
+        (swayed-total n m δ (reader 0) 0 (needed n m t) (n - t) bottom (bottom - δ) (low-swayed n m t δ κ h K far)))
       where
         from-zero : n - m - t - 0 ≡ n - m - t
         from-zero = omega arith
 
     low-value : next st now x .held 0 ≡ present (down K (mean-nat n low))
     unfolding low
-    low-value = holds 0 (swayed-some n m δ (reader 0) 0 (needed n m t) (n - t) K (K - δ) (low-swayed n m t δ κ h K far))
+    low-value =
+        holds 0
+        (swayed-some n m δ (reader 0) 0 (needed n m t) (n - t) bottom (bottom - δ) (low-swayed n m t δ κ h K far))
 
     -- ---- cabinet 1
-
-    high : ℕ
-    high = mean-nat n (n * K + (m + t) * δ)
-
-    -- the highest good reading
-    abbrev top : ℕ
-    top = K + spread δ κ
 
     module _ (e c : ℕ) (s : Swayed n m δ (reader 1) (needed n m t) e (n - t) top (top + δ))
         (size : e - needed n m t ≡ c) where
@@ -98,78 +112,57 @@ module _ (n m t δ κ : ℕ) (h : Covered n m t δ κ) where
       high-total = rw size at (swayed-total n m δ (reader 1) (needed n m t) e (n - t) top (top + δ) s)
 
       high-by :
-          valueBy n m δ (reader 1) ≡ high + spread δ κ → next st now x .held 1 ≡ present (down K (high + spread δ κ))
+          valueBy n m δ (reader 1) ≡ top + up → next st now x .held 1 ≡ present (down K (top + up))
       high-by v =
           holds 1 (swayed-some n m δ (reader 1) (needed n m t) e (n - t) top (top + δ) s)
           ∙ ap (λ (y : ℕ). present (down K y)) v
 
-    high-value : next st now x .held 1 ≡ present (down K (high + spread δ κ))
-    unfolding high
+    high-value : next st now x .held 1 ≡ present (down K (top + up))
     high-value =
         ⊎-elim
         (λ e. at-one (eqb-true (spread δ κ) 1 e))
         (λ f. at-other (λ e. clash (eq-eqb (spread δ κ) 1 e) f))
         (both-ways (eqb (spread δ κ) 1))
       where
-        at-other : (spread δ κ ≡ 1 → ⊥) → next st now x .held 1 ≡ present (down K (high + spread δ κ))
+        at-other : (spread δ κ ≡ 1 → ⊥) → next st now x .held 1 ≡ present (down K (top + up))
         at-other other =
             high-by (2 * needed n m t) (needed n m t) (high-swayed n m t δ κ h K other) (omega arith)
-            (high-mean n (needed n m t) m t δ K (parts n m t δ κ h) (some-n n m t δ κ h)
-            (total (usedBy n m δ (reader 1)) n) (spread δ κ) (top + δ) refl
+            (high-mean n (needed n m t) m t δ top (parts n m t δ κ h) (some-n n m t δ κ h)
+            (total (usedBy n m δ (reader 1)) n) (top + δ) refl top-even
             (high-total (2 * needed n m t) (needed n m t) (high-swayed n m t δ κ h K other) (omega arith)))
 
-        at-one : spread δ κ ≡ 1 → next st now x .held 1 ≡ present (down K (high + spread δ κ))
+        at-one : spread δ κ ≡ 1 → next st now x .held 1 ≡ present (down K (top + up))
         at-one one =
             high-by (n - t) m (high-swayed-one n m t δ κ h K one) (omega (arith, h .fewer))
-            (high-mean-one n (needed n m t) m t δ K (parts n m t δ κ h) (some-n n m t δ κ h)
-            (total (usedBy n m δ (reader 1)) n) (spread δ κ) (top + δ) refl
-            (spread-one δ κ (omega (arith, h .inexact)) one) one (planned n m t δ κ h) (joins n m t δ κ h)
+            (high-mean-one n (needed n m t) m t δ top (parts n m t δ κ h) (some-n n m t δ κ h)
+            (total (usedBy n m δ (reader 1)) n) (top + δ) refl
+            (spread-one δ κ (omega (arith, h .inexact)) one) (planned n m t δ κ h) (joins n m t δ κ h)
+            (h .more) (omega (arith, h .fewer))
             (high-total (n - t) m (high-swayed-one n m t δ κ h K one) (omega (arith, h .fewer))))
 
     -- ---- the limits
 
-    near-above : mean n (pos ((m + t) * δ)) ≡ down K high
-    unfolding high
-    near-above = mean-above-zero n K (some-n n m t δ κ h) ((m + t) * δ)
-
-    near-below : mean n (pos 0 -ℤ pos ((m + t) * δ)) ≡ down K (mean-nat n low)
-    near-below = mean-below-zero n K (some-n n m t δ κ h) ((m + t) * δ) low low-total
-
-    low-high : mean-nat n low ≤ high
-    unfolding high
-    low-high = mean-mono n (some-n n m t δ κ h) (omega (arith, low-total))
-
-    wide :
-        apart (newValue st now x 0) (newValue st now x 1)
-        ≡ spread δ κ + apart (mean n (pos ((m + t) * δ))) (mean n (pos 0 -ℤ pos ((m + t) * δ)))
-    wide =
-        rw (low-value, high-value, near-above, near-below)
-        (omega (arith, dist-down K (mean-nat n low) (high + spread δ κ), dist-down K high (mean-nat n low), low-high))
-
-    farthest :
-        apart (newValue st now x 1) (pos (spread δ κ) -ℤ pos κ)
-        ≡ κ + apart (mean n (pos ((m + t) * δ))) (pos 0)
-    farthest =
-        rw (high-value, near-above)
-        (ap (apart (down K (high + spread δ κ))) truth
-        ∙ omega (
+    widest : δ ≤ 2 * κ → apart (newValue st now x 0) (newValue st now x 1) ≡ δ + (up + fall n δ ((m + t) * δ))
+    widest l =
+        let w = spread-whole δ κ l in
+        rw (low-value, high-value)
+        (omega (
           arith,
-          dist-down K (high + spread δ κ) (K + spread δ κ - κ),
-          rw zero-down at (dist-down K high K),
-          may-start n m t δ κ h .accurate,
-          least,
+          dist-down K (mean-nat n low) (top + up),
+          w,
+          low-mean n low bottom ((m + t) * δ) δ (some-n n m t δ κ h) low-total (omega (arith, top-even, w)),
         ))
+
+    farthest : apart (newValue st now x 1) (pos (base n m t δ κ + spread δ κ) -ℤ pos κ) ≡ κ + up
+    farthest =
+        rw high-value
+        (ap (apart (down K (top + up))) truth
+        ∙ omega (arith, dist-down K (top + up) (top - κ), may-start n m t δ κ h .accurate))
       where
-        least : K ≤ high
-        least = unfold high in mean-lower n (some-n n m t δ κ h) (n * K + (m + t) * δ) K (omega arith)
-
-        zero-down : down K K ≡ pos 0
-        zero-down = down-cong K K 0 0 (omega arith) ∙ sym (pos-down 0)
-
-        truth : pos (spread δ κ) -ℤ pos κ ≡ down K (K + spread δ κ - κ)
+        truth : pos (base n m t δ κ + spread δ κ) -ℤ pos κ ≡ down K (top - κ)
         truth =
-            difference-down (spread δ κ) κ
-            ∙ down-cong κ (spread δ κ) K (K + spread δ κ - κ) (omega (arith, may-start n m t δ κ h .accurate))
+            difference-down (base n m t δ κ + spread δ κ) κ
+            ∙ down-cong κ (base n m t δ κ + spread δ κ) K (top - κ) (omega (arith, may-start n m t δ κ h .accurate))
 
 pub always-reached : AlwaysReached
 unfolding worstStation
@@ -190,9 +183,11 @@ always-reached n m t δ κ h =
         (omega (arith, h .more, h .fewer), lt-ltb 1 (n - t) (omega (arith, h .fewer, h .crowded))),
       );
       unrefused = (
-        ap isPresent (low-value n m t δ κ h twoTo31 (le-refl twoTo31)),
-        ap isPresent (high-value n m t δ κ h twoTo31 (le-refl twoTo31)),
+        ap isPresent (low-value n m t δ κ h twoTo31 (le-refl twoTo31) even-31),
+        ap isPresent (high-value n m t δ κ h twoTo31 (le-refl twoTo31) even-31),
       );
-      farthest = farthest n m t δ κ h twoTo31 (le-refl twoTo31);
-      widest = λ l. wide n m t δ κ h twoTo31 (le-refl twoTo31) ∙ rw (spread-whole δ κ (omega (arith, l)));
+      farthest =
+          farthest n m t δ κ h twoTo31 (le-refl twoTo31) even-31 ∙ sym (error-is (worstStation n m t δ κ) t);
+      widest = λ l.
+          widest n m t δ κ h twoTo31 (le-refl twoTo31) even-31 l ∙ sym (gap-is (worstStation n m t δ κ) t);
     }

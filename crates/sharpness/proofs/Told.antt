@@ -1,5 +1,5 @@
 -- What cabinets 0 and 1 read in the round of Worst.antt, moved up by K into the naturals: the faulty ones
--- sway each, cabinet 0 with those who read 0, cabinet 1 with those who read highest.
+-- sway each, cabinet 0 with those who read lowest, cabinet 1 with those who read highest.
 --   has p        what p reads
 -- Assumes nothing.
 use mathlib.Core.Bool.{true}
@@ -26,7 +26,7 @@ use Rattle.run.proofs.Ready.{ready-start}
 use Rattle.demand_3.proofs.Orderly.{seen-fits}
 use Rattle.demand_3.proofs.Received.{received}
 use Rattle.sharpness.specs.Sharpness.{Covered}
-use Rattle.sharpness.proofs.Worst.{needed, spread, firstReading, worstStation, worstSends}
+use Rattle.sharpness.proofs.Worst.{needed, spread, base, firstReading, worstStation, worstSends}
 use Rattle.sharpness.proofs.Differences.{up-difference}
 use Rattle.sharpness.proofs.Run.{spread-window, spread-some, reads-low, reads-high, reads-half, reads-most}
 use Rattle.sharpness.proofs.Run.{sees, told}
@@ -62,9 +62,13 @@ module _ (n m t δ κ : ℕ) (h : Covered n m t δ κ) where
         (λ l. ap isPresent (sees-liar n m t δ κ h p r (ltb-false r (n - t) l) ∙ e))
         (both-ways (ltb r (n - t)))
 
-    sound-read : (p r : ℕ) → r < n - t → has p .x r ≡ firstReading n m t δ κ r + K
+    -- the lowest good reading, moved up
+    abbrev B : ℕ
+    B = base n m t δ κ + K
+
+    sound-read : (p r : ℕ) → r < n - t → has p .x r ≡ firstReading n m t δ κ r + B
     unfolding has up
-    sound-read p r l = ap (λ (y : Reading). up K (ticks y)) (sees-sound n m t δ κ h p r l)
+    sound-read p r l = ap (λ (y : Reading). up K (ticks y)) (sees-sound n m t δ κ h p r l) ∙ omega arith
 
     liar-read : (p r : ℕ) (z : ℤ) → told n m t δ κ p ≡ present z → n - t ≤ r → has p .x r ≡ up K z
     unfolding has
@@ -79,7 +83,7 @@ module _ (n m t δ κ : ℕ) (h : Covered n m t δ κ) where
       -- none but those who read 0 are within δ of what is told, or all are at it
       low-others :
           (r : ℕ) → r < n - t → (r < 0) ⊎ (needed n m t ≤ r)
-          → (has 0 .x r ≡ K - δ) ⊎ Far δ (K - δ) (has 0 .x r)
+          → (has 0 .x r ≡ B - δ) ⊎ Far δ (B - δ) (has 0 .x r)
       low-others r l (inl k) = absurd (omega (arith, k))
       low-others r l (inr k) =
           ⊎-elim
@@ -97,13 +101,14 @@ module _ (n m t δ κ : ℕ) (h : Covered n m t δ κ) where
               (λ f. omega (arith, reads-half n m t δ κ r (ltb-false r (2 * needed n m t) f)))
               (both-ways (ltb r (2 * needed n m t)))
 
-      pub low-swayed : Swayed n m δ (has 0) 0 (needed n m t) (n - t) K (K - δ)
+      pub low-swayed : Swayed n m δ (has 0) 0 (needed n m t) (n - t) B (B - δ)
       unfolding listed
       low-swayed =
           record {
             kind = unfold has in refl;
-            here = λ r l. here 0 r (pos 0 -ℤ pos δ) refl;
-            liars = λ r l k. liar-read 0 r (pos 0 -ℤ pos δ) refl k ∙ up-difference K 0 δ near-K ∙ omega arith;
+            here = λ r l. here 0 r (pos (base n m t δ κ) -ℤ pos δ) refl;
+            liars = λ r l k.
+                liar-read 0 r (pos (base n m t δ κ) -ℤ pos δ) refl k ∙ up-difference K (base n m t δ κ) δ near-K;
             joined = λ r l k. omega (arith, reads-low n m t δ κ r k, sound-read 0 r (omega arith));
             others = low-others;
             above = omega (arith, near-K);
@@ -124,7 +129,7 @@ module _ (n m t δ κ : ℕ) (h : Covered n m t δ κ) where
         (under : (r : ℕ) → e ≤ r → r < n - t → 0 < spread δ κ → firstReading n m t δ κ r < spread δ κ) where
       high-others :
           (r : ℕ) → r < n - t → (r < needed n m t) ⊎ (e ≤ r)
-          → (has 1 .x r ≡ K + spread δ κ + δ) ⊎ Far δ (K + spread δ κ + δ) (has 1 .x r)
+          → (has 1 .x r ≡ B + spread δ κ + δ) ⊎ Far δ (B + spread δ κ + δ) (has 1 .x r)
       high-others r l k =
           ⊎-elim
           (λ z. inl (omega (arith, sound-read 1 r l, reads-most n m t δ κ r, spread-window δ κ)))
@@ -134,13 +139,14 @@ module _ (n m t δ κ : ℕ) (h : Covered n m t δ κ) where
           low : r < needed n m t → 0 < spread δ κ → firstReading n m t δ κ r < spread δ κ
           low i s = omega (arith, reads-low n m t δ κ r i)
 
-      high-swayed-by : Swayed n m δ (has 1) (needed n m t) e (n - t) (K + spread δ κ) (K + spread δ κ + δ)
+      high-swayed-by : Swayed n m δ (has 1) (needed n m t) e (n - t) (B + spread δ κ) (B + spread δ κ + δ)
       unfolding listed
       high-swayed-by =
           record {
             kind = unfold has in refl;
-            here = λ r l. here 1 r (pos (spread δ κ + δ)) refl;
-            liars = λ r l k. liar-read 1 r (pos (spread δ κ + δ)) refl k ∙ (unfold up in omega arith);
+            here = λ r l. here 1 r (pos (base n m t δ κ + spread δ κ + δ)) refl;
+            liars = λ r l k.
+                liar-read 1 r (pos (base n m t δ κ + spread δ κ + δ)) refl k ∙ (unfold up in omega arith);
             joined = λ r l k. omega (arith, highest r l k, sound-read 1 r (omega arith));
             others = high-others;
             above = omega arith;
@@ -156,7 +162,7 @@ module _ (n m t δ κ : ℕ) (h : Covered n m t δ κ) where
     -- those between lie strictly between
     pub high-swayed :
         (spread δ κ ≡ 1 → ⊥)
-        → Swayed n m δ (has 1) (needed n m t) (2 * needed n m t) (n - t) (K + spread δ κ) (K + spread δ κ + δ)
+        → Swayed n m δ (has 1) (needed n m t) (2 * needed n m t) (n - t) (B + spread δ κ) (B + spread δ κ + δ)
     high-swayed other =
         high-swayed-by (2 * needed n m t) (le-refl (2 * needed n m t))
         (omega (arith, joins n m t δ κ h, h .fewer))
@@ -173,7 +179,7 @@ module _ (n m t δ κ : ℕ) (h : Covered n m t δ κ) where
     -- or read highest too, where that is 1
     pub high-swayed-one :
         spread δ κ ≡ 1
-        → Swayed n m δ (has 1) (needed n m t) (n - t) (n - t) (K + spread δ κ) (K + spread δ κ + δ)
+        → Swayed n m δ (has 1) (needed n m t) (n - t) (n - t) (B + spread δ κ) (B + spread δ κ + δ)
     high-swayed-one one =
         high-swayed-by (n - t)
         (omega (arith, joins n m t δ κ h, h .fewer))

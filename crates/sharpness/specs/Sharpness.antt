@@ -6,7 +6,8 @@
 --
 -- The round, where δ ≤ 2κ: N-m-t sound cabinets read 0, as many read δ, and the others about half of that. The t faulty
 -- ones tell one cabinet -δ and another 2δ. With those at 0 they fill the one's span, with those at δ the other's, and
--- each takes what they told it for the median. proofs/Worst.antt has it.
+-- each takes what they told it for the median. All of this is one tick higher where the other's new value would be odd,
+-- so that its half, if it has one, goes up. proofs/Worst.antt has it.
 --
 --   Covered                   the numbers that this speaks of
 --   Reached, AlwaysReached    a run that reaches the exact limits; there is one for all numbers that are covered

@@ -18,7 +18,7 @@ use Rattle.model.specs.RoundSheet.{word, settingsAt, entryCount, entryAt, bytes
 use Rattle.model.specs.AnswerSheet.{answerHeader, answerBytes}
 use Rattle.model.specs.Steps.{readingsOf, accepted, acceptedAt, numbered, medianOf, estimate, mean, roundOf, roundAt}
 use Rattle.model.specs.Steps.{spanWidth}
-use Rattle.model.specs.Planner.{ceilDiv}
+use Rattle.model.specs.Planner.{ceilDiv, pastDiv}
 use Rattle.model.specs.Refusals.{firstOf, tooShort, badCabinets, badFaults, badMethod, badWindow, badLength, noRoom}
 use Rattle.model.specs.Refusals.{badMark, badMissing, tooManyFaults, badSpread, settingsChecks, spreadChecks}
 use Rattle.model.specs.Refusals.{entryChecks, settleChecks}
@@ -31,6 +31,7 @@ use Rattle.demand_3.proofs.Computed.Tested.{tested}
 use Rattle.spread_guarantee.specs.Guarantee.{Cabinet, reading, newValue, bad, Reads, Alike}
 use Rattle.spread_guarantee.specs.Guarantee.{spreadGap, spreadError}
 use Rattle.spread_guarantee.specs.Witnesses.{wired, low, high, paperGap, Hull, Reached, SpreadReached, WholeReached}
+use Rattle.spread_guarantee.specs.Witnesses.{fifth, fiveLow, fiveHigh, OddReached}
 
 -- ---- what is asked of a sheet, as tests that compute
 
@@ -123,21 +124,37 @@ reached-tested δ D lowest highest counts at-low at-high near is-low is-high wid
       paperPassed = rw (is-low, is-high) passed;
     }
 
-both-reached : SpreadReached × WholeReached
+all-reached : SpreadReached × Reached 2 4 (negsuc 1) (pos 6) × OddReached
 unfolding
     count anyBelow lowest sum table overwrite word entryCount entryAt bytes4 readingBytes sizeBytes sheetBytes
-    answerHeader answerBytes readingsOf accepted acceptedAt numbered medianOf estimate mean roundOf roundAt ceilDiv firstOf
+    answerHeader answerBytes readingsOf accepted acceptedAt numbered medianOf estimate mean roundOf roundAt ceilDiv pastDiv firstOf
     tooShort badCabinets badFaults badMethod badWindow badLength noRoom badMark badMissing tooManyFaults badSpread
     settingsChecks spreadChecks entryChecks settleChecks settleSpread
-both-reached = (
+all-reached = (
   reached-tested 1 2 (negsuc 0) (pos 3) refl (refl, refl, refl, refl) (refl, refl, refl, refl) refl refl refl refl refl
       (lit< tt),
-  reached-tested 4 4 (negsuc 1) (pos 6) refl (refl, refl, refl, refl) (refl, refl, refl, refl) refl refl refl refl refl
+  reached-tested 2 4 (negsuc 1) (pos 6) refl (refl, refl, refl, refl) (refl, refl, refl, refl) refl refl refl refl refl
       (lit< tt),
+  record {
+    counts = refl;
+    readsLow = reads-tested fifth 1 1 (pos 0) (below 4) fiveLow (refl, refl, refl, refl);
+    readsHigh = reads-tested fifth 1 1 (pos 0) (below 4) fiveHigh (refl, refl, refl, refl);
+    alike = alike-tested fifth 1 (below 4) fiveLow fiveHigh refl;
+    widest = refl;
+    wider = refl;
+  },
 )
 
 pub spread-reached : SpreadReached
-spread-reached = both-reached .0
+spread-reached = all-reached .0
 
 pub whole-reached : WholeReached
-whole-reached = both-reached .1
+unfolding pastDiv
+whole-reached =
+    record {
+      reached = all-reached .1;
+      pastPassed = rw (all-reached .1 .lowValue, all-reached .1 .highValue) (lit< tt);
+    }
+
+pub odd-reached : OddReached
+odd-reached = all-reached .2

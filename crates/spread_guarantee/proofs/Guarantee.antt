@@ -1,12 +1,12 @@
 -- The limits of one round with a spread hold: `spread-guarantee` is the theorem that specs/Guarantee.antt states. A
--- cabinet's readings are moved up into the naturals, far enough for true time too. The span's width is the window and
+-- cabinet's readings are moved up into the naturals by an even number, far enough for true time too. The span's width is the window and
 -- the spread; with it the laws of one round hold as they are, and what two cabinets read of a good one differs by at
 -- most the spread.
 -- Assumes nothing.
 use mathlib.Core.Bool.{Bool, true}
 use mathlib.Core.List.{List}
 use mathlib.Core.Path.{_≡_, refl, sym, ap, _∙_, subst, subst⁻¹}
-use Prim.Native.Nat.{ℕ, suc, _+_, _*_, _≤_, _<_}
+use Prim.Native.Nat.{ℕ, _+_, _*_, _%_, _≤_, _<_}
 use native.Mathlib.Nat.{le-refl, le-trans, lt-of-lt-of-le}
 use native.Mathlib.Omega.{arith}
 use lib.IntN.{ℤ}
@@ -22,21 +22,21 @@ use Rattle.model.specs.Ensemble.{ticks}
 use Rattle.model.specs.RoundSheet.{settingsAt}
 use Rattle.model.specs.AnswerSheet.{answerLength}
 use Rattle.model.specs.Steps.{Round, roundOf, roundAt, spanWidth}
-use Rattle.model.specs.Planner.{ceilDiv}
 use Rattle.model.specs.Calls.{granted}
 use Rattle.refusal_laws.proofs.Limits.{Limits}
 use Rattle.value_laws.proofs.Sheets.{readings-fit}
 use Rattle.limit_laws.proofs.Settled.{Receiver, accepts, valueBy, Few, Truth}
 use Rattle.limit_laws.proofs.Settled as receiving
+use Rattle.limit_laws.proofs.Means.{MeansClose}
 use Rattle.limit_laws.proofs.Limits.{unrefused, accuracy-bad, precision-spread}
 use Rattle.demand_1_2.proofs.Refused.{passed-limits, passed-granted}
 use Rattle.demand_1_2.proofs.Demand2.{demand-2}
 use Rattle.demand_3.specs.Guarantee.{apart}
-use Rattle.demand_3.proofs.Distances.{dist-above, dist-below, dist-of, fits-mag}
+use Rattle.demand_3.proofs.Distances.{dist-above, dist-below, dist-of, fits-mag, even-far, far-most, far-near, far-twice}
 use Rattle.demand_3.proofs.Received.{received, received-count, received-value}
-use Rattle.spread_guarantee.specs.Guarantee.{Cabinet, reading, settled, newValue, bad, Reads, Alike, spreadGap}
-use Rattle.spread_guarantee.specs.Guarantee.{spreadError, SpreadGuarantee}
-use Rattle.spread_guarantee.proofs.Rounding.{gap-is}
+use Rattle.spread_guarantee.specs.Guarantee.{Cabinet, reading, settled, newValue, bad, Reads, Alike, spreadParts}
+use Rattle.spread_guarantee.specs.Guarantee.{spreadGap, oddSpreadGap, spreadError, SpreadGuarantee}
+use Rattle.spread_guarantee.proofs.Rounding.{parts-are}
 
 module _ (c : Settings) (D κ : ℕ) (truth : ℤ) (good : ℕ → Bool) (few : bad c good ≤ c .m) where
   -- the span's width
@@ -44,13 +44,13 @@ module _ (c : Settings) (D κ : ℕ) (truth : ℤ) (good : ℕ → Bool) (few : 
   w = spanWidth c D
 
   abbrev far : ℕ
-  far = twoTo31 + suc (mag truth)
+  far = even-far truth
 
-  far-enough : twoTo31 ≤ twoTo31 + suc (mag truth)
-  far-enough = omega arith
+  far-enough : twoTo31 ≤ even-far truth
+  far-enough = far-most truth
 
-  truth-near : mag truth < twoTo31 + suc (mag truth)
-  truth-near = omega arith
+  truth-near : mag truth < even-far truth
+  truth-near = far-near truth
 
   -- ---- one cabinet
 
@@ -114,7 +114,7 @@ module _ (c : Settings) (D κ : ℕ) (truth : ℤ) (good : ℕ → Bool) (few : 
     value-is =
         demand-2 .shown (p .sheet) D (p .buffer) (h .bytes) (answerLength (settingsAt (p .sheet) .n)) grants .value
         ∙ ap (λ (x : Round). x .value) round-is
-        ∙ received-value c D w refl (reading p) fits far far-enough (within .someCabinet) some-accepted
+        ∙ received-value c D w refl (reading p) fits far far-enough (within .someCabinet) (far-twice truth) some-accepted
 
     pub near-true : apart (newValue D p) truth ≤ spreadError c D κ (bad c good)
     near-true =
@@ -131,32 +131,38 @@ module _ (c : Settings) (D κ : ℕ) (truth : ℤ) (good : ℕ → Bool) (few : 
       few-bad : bad c good ≤ c .n
       few-bad = omega (arith, within p hp .faults, few)
 
-      limit : D + ceilDiv (2 * (bad c good * w)) (c .n) ≡ spreadGap c D (bad c good)
-      limit = sym (gap-is (c .n) (bad c good) (c .window) D (within p hp .someCabinet) few-bad)
+      parts : D * c .n + 2 * (bad c good * w) ≡ spreadParts c D (bad c good)
+      parts = parts-are (c .n) (bad c good) (c .window) D few-bad
 
-      above : value p hp ≤ value q hq + spreadGap c D (bad c good)
+      above : MeansClose (c .n) (value p hp) (value q hq) (spreadParts c D (bad c good))
       above =
-          rw (← limit)
+          rw (← parts)
           (precision-spread (c .n) (c .m) w D good (has p hp .x) (has q hq .x) (few-sheets p hp) (few-sheets q hq)
           (λ r l e. dist-above far D (ticks (reading p r)) (ticks (reading q r)) (near p hp r l) (near q hq r l) (alike r l e))
           (has p hp) (has q hq) (all-read p hp) (all-read q hq) (bad c good) (le-refl (bad c good)))
 
-      below : value q hq ≤ value p hp + spreadGap c D (bad c good)
+      below : MeansClose (c .n) (value q hq) (value p hp) (spreadParts c D (bad c good))
       below =
-          rw (← limit)
+          rw (← parts)
           (precision-spread (c .n) (c .m) w D good (has q hq .x) (has p hp .x) (few-sheets q hq) (few-sheets p hp)
           (λ r l e. dist-below far D (ticks (reading p r)) (ticks (reading q r)) (near p hp r l) (near q hq r l) (alike r l e))
           (has q hq) (has p hp) (all-read q hq) (all-read p hp) (bad c good) (le-refl (bad c good)))
 
+      near-by :
+          (d : ℕ) → value p hp ≤ value q hq + d → value q hq ≤ value p hp + d → apart (newValue D p) (newValue D q) ≤ d
+      near-by d h i = rw (value-is p hp, value-is q hq) (dist-of far d (value p hp) (value q hq) h i)
+
       pub near-each : apart (newValue D p) (newValue D q) ≤ spreadGap c D (bad c good)
-      near-each =
-          rw (value-is p hp, value-is q hq)
-          (dist-of far (spreadGap c D (bad c good)) (value p hp) (value q hq) above below)
+      near-each = near-by (spreadGap c D (bad c good)) (above .past) (below .past)
+
+      pub near-odd : c .n % 2 ≡ 1 → apart (newValue D p) (newValue D q) ≤ oddSpreadGap c D (bad c good)
+      near-odd odd = near-by (oddSpreadGap c D (bad c good)) (above .odd odd) (below .odd odd)
 
 pub spread-guarantee : SpreadGuarantee
 spread-guarantee c D κ truth good few =
     record {
       unrefused = no-refusal c D κ truth good few;
       precise = near-each c D κ truth good few;
+      odd = λ odd p q hp hq alike. near-odd c D κ truth good few p q hp hq alike odd;
       accurate = near-true c D κ truth good few;
     }

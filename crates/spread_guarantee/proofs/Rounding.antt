@@ -1,20 +1,13 @@
--- The limit of two new values as document 02 writes it is the spread, and what the mean makes of two spans for each bad
--- cabinet.
+-- The quotient of two new values' limit as document 02 writes it is the spread, and two spans for each bad cabinet.
 -- Assumes nothing.
-use mathlib.Core.Path.{_≡_, ap, _∙_}
-use Prim.Native.Nat.{ℕ, _+_, _*_, _-_, _/_, _≤_, _<_}
-use native.Mathlib.Nat.{mul-assoc, mul-comm, mul-add, add-mul, add-mul-div-right}
+use mathlib.Core.Path.{_≡_, ap}
+use Prim.Native.Nat.{ℕ, _+_, _*_, _-_, _≤_}
+use native.Mathlib.Nat.{mul-assoc, mul-comm, mul-add, add-mul}
 use native.Mathlib.Omega.{arith}
-use Rattle.model.specs.Planner.{ceilDiv}
 
-pub gap-is :
-    (n t δ D : ℕ) → 0 < n → t ≤ n
-    → ceilDiv ((n - t) * D + t * (2 * δ + 3 * D)) n ≡ D + ceilDiv (2 * (t * (δ + D))) n
-unfolding ceilDiv
-gap-is n t δ D some few =
-    ap (λ (a : ℕ). a / n) parts
-    ∙ add-mul-div-right (2 * (t * (δ + D)) + (n - 1)) D some
-    ∙ omega arith
+pub parts-are :
+    (n t δ D : ℕ) → t ≤ n → D * n + 2 * (t * (δ + D)) ≡ (n - t) * D + t * (2 * δ + 3 * D)
+parts-are n t δ D few = omega (arith, good, of-bad, mul-add t δ D, mul-comm n D)
   where
     good : (n - t) * D + t * D ≡ n * D
     good = omega (arith, add-mul (n - t) t D, ap (λ (k : ℕ). k * D) (joined n t few))
@@ -36,7 +29,3 @@ gap-is n t δ D some few =
           ap (λ (k : ℕ). k * δ) (mul-comm t 2),
           ap (λ (k : ℕ). k * D) (mul-comm t 3),
         )
-
-    parts :
-        (n - t) * D + t * (2 * δ + 3 * D) + (n - 1) ≡ 2 * (t * (δ + D)) + (n - 1) + D * n
-    parts = omega (arith, good, of-bad, mul-add t δ D, mul-comm n D)

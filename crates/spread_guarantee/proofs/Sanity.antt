@@ -1,14 +1,15 @@
 -- The theorem is not empty: `spread-guarantee` applies to the sheets of specs/Witnesses.antt, of which all that it asks
 -- holds.
 -- Assumes nothing.
+use mathlib.Core.Path.{refl}
 use Prim.Native.Nat.{ℕ, _≤_}
 use lib.Dec.{lit≤}
 use lib.IntN.{pos}
 use Rattle.run.specs.Rounds.{below}
 use Rattle.demand_3.specs.Guarantee.{apart}
-use Rattle.spread_guarantee.specs.Guarantee.{newValue, spreadGap, spreadError, SpreadLimits}
-use Rattle.spread_guarantee.specs.Witnesses.{wired, low, high, Met}
-use Rattle.spread_guarantee.proofs.Computed.{spread-reached}
+use Rattle.spread_guarantee.specs.Guarantee.{newValue, spreadGap, oddSpreadGap, spreadError, SpreadLimits}
+use Rattle.spread_guarantee.specs.Witnesses.{wired, low, high, Met, fifth, fiveLow, fiveHigh}
+use Rattle.spread_guarantee.proofs.Computed.{spread-reached, odd-reached}
 use Rattle.spread_guarantee.proofs.Guarantee.{spread-guarantee}
 
 module _ (δ D : ℕ) (met : Met δ D) where
@@ -25,3 +26,9 @@ module _ (δ D : ℕ) (met : Met δ D) where
 
 pub reached-promised : apart (newValue 2 (low 1 2)) (newValue 2 (high 1 2)) ≤ spreadGap (wired 1) 2 1
 reached-promised = gap-promised 1 2 (spread-reached .met)
+
+pub odd-promised : apart (newValue 1 fiveLow) (newValue 1 fiveHigh) ≤ oddSpreadGap fifth 1 1
+odd-promised =
+    rw (odd-reached .counts) at
+    (spread-guarantee fifth 1 1 (pos 0) (below 4) (rw (odd-reached .counts) (lit≤ tt)) .odd refl
+    fiveLow fiveHigh (odd-reached .readsLow) (odd-reached .readsHigh) (odd-reached .alike))

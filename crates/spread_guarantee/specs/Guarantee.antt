@@ -1,7 +1,8 @@
 -- Document 02, "Paper 2. Cable runs differ" (docs/FORMAT.md, 13): how far sound cabinets can be from each other and from
 -- true time after one round, where they read a good cabinet alike only up to a spread D and at most m cabinets are bad,
 -- whatever the bad ones send to whom. The theorem is `spread-guarantee` of proofs/Guarantee.antt. Witnesses.antt has
--- the sheets that reach both limits.
+-- the sheets that reach both limits. "Paper 4. Halves go to the even tick" rewrites the first: ⌈q/N⌉ is now the whole
+-- part of q/N plus one; for an odd N, where no mean is a half, ⌈q/N⌉ stays true.
 --
 -- Where this departs from the paper (document 004): its Lemma 16 takes 2(δ + D) for the hull of what two cabinets
 -- accept, and the last line of its proof of Theorem 17 rests on that. Both are false: Witnesses.antt.
@@ -13,13 +14,15 @@
 --   settled, newValue     what settling its sheet with a spread gives; bytes 6 to 9 of its answer sheet
 --   bad                   t, the number of cabinets that are not good
 --   Reads, Alike          what is asked of one cabinet's sheet, and of two
+--   spreadParts           q
 --   spreadGap, spreadError    the two limits
+--   oddSpreadGap          the first for an odd N
 --   SpreadLimits          what holds of all sound cabinets
 --   SpreadGuarantee       of all settings, spreads, good sets and true values
 use mathlib.Core.Bool.{Bool, true, not}
 use mathlib.Core.List.{List}
 use mathlib.Core.Path.{_≡_}
-use Prim.Native.Nat.{ℕ, _+_, _*_, _-_, _≤_, _<_}
+use Prim.Native.Nat.{ℕ, _+_, _*_, _-_, _%_, _≤_, _<_}
 use lib.IntN.{ℤ}
 use mir.Syntax.{w32}
 use mir.Val.{toZ}
@@ -29,7 +32,7 @@ use Rattle.model.specs.Ensemble.{Reading, isPresent, ticks}
 use Rattle.model.specs.RoundSheet.{word, settingsAt, entryCount, entryAt}
 use Rattle.model.specs.AnswerSheet.{answerLength}
 use Rattle.model.specs.Steps.{readingsOf, spanWidth}
-use Rattle.model.specs.Planner.{ceilDiv}
+use Rattle.model.specs.Planner.{ceilDiv, pastDiv}
 use Rattle.model.specs.Calls.{granted, Outcome, settleSpread}
 use Rattle.demand_1_2.specs.Demand2.{Bytes, Passed}
 use Rattle.demand_3.specs.Guarantee.{apart}
@@ -73,9 +76,15 @@ Alike c D good p q = (r : ℕ) → r < c .n → good r ≡ true → apart (ticks
 
 -- ---- The limits
 
--- "two sound values differ by at most ⌈((N-t)D + t(2δ+3D))/N⌉"
+-- "two sound values differ by at most" ((N-t)D + t(2δ+3D))/N, "the whole part", "plus one"
+abbrev pub spreadParts : Settings → ℕ → ℕ → ℕ
+spreadParts c D t = (c .n - t) * D + t * (2 * c .window + 3 * D)
+
 abbrev pub spreadGap : Settings → ℕ → ℕ → ℕ
-spreadGap c D t = ceilDiv ((c .n - t) * D + t * (2 * c .window + 3 * D)) (c .n)
+spreadGap c D t = pastDiv (spreadParts c D t) (c .n)
+
+abbrev pub oddSpreadGap : Settings → ℕ → ℕ → ℕ
+oddSpreadGap c D t = ceilDiv (spreadParts c D t) (c .n)
 
 -- "and accuracy is κ + ⌈t(δ+D)/N⌉"
 abbrev pub spreadError : Settings → ℕ → ℕ → ℕ → ℕ
@@ -90,6 +99,10 @@ pub record SpreadLimits (c : Settings) (D κ : ℕ) (true-value : ℤ) (good : �
   pub precise :
       (p q : Cabinet) → Reads c D κ true-value good p → Reads c D κ true-value good q → Alike c D good p q
       → apart (newValue D p) (newValue D q) ≤ spreadGap c D (bad c good)
+  -- an odd N
+  pub odd :
+      c .n % 2 ≡ 1 → (p q : Cabinet) → Reads c D κ true-value good p → Reads c D κ true-value good q → Alike c D good p q
+      → apart (newValue D p) (newValue D q) ≤ oddSpreadGap c D (bad c good)
   pub accurate :
       (p : Cabinet) → Reads c D κ true-value good p
       → apart (newValue D p) true-value ≤ spreadError c D κ (bad c good)

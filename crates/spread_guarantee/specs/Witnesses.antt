@@ -5,11 +5,13 @@
 --   wired              N 4, m 1, FCA with median, and a window
 --   cabinet            a cabinet that read four numbers, its answer buffer just long enough and full of 255s
 --   low, high          "readings at one cabinet all 0, at another all D, and a liar at each end"
---   paperGap           the last line of the paper's proof of Theorem 17, rounded up
+--   paperParts, paperGap     N times the last line of the paper's proof of Theorem 17; that line, rounded up
 --   Hull               the hull of what the two accept is 2δ + 3D, above the 2(δ + D) of the paper's Lemma 16
 --   Met, Reached       what is asked of the two holds; both limits are reached, and the paper's is passed
 --   SpreadReached      so with δ 1 and D 2
---   WholeReached       so with δ 4 and D 4, where nothing is rounded
+--   WholeReached       so with δ 2 and D 4, where the quotient is whole and the means are halves
+--   fifth, five, fiveLow, fiveHigh     a cabinet that read five numbers, N 5, m 1, and a window of 4
+--   OddReached         the limit for an odd N is reached, with D 1
 use mathlib.Core.Bool.{true}
 use mathlib.Core.List.{List, [], _∷_}
 use mathlib.Core.Path.{_≡_}
@@ -21,11 +23,12 @@ use Rattle.model.specs.Ensemble.{ticks}
 use Rattle.model.specs.RoundSheet.{fca, median, sheetBytes}
 use Rattle.model.specs.AnswerSheet.{answerLength}
 use Rattle.model.specs.Steps.{acceptedAt}
-use Rattle.model.specs.Planner.{ceilDiv}
+use Rattle.model.specs.Planner.{ceilDiv, pastDiv}
 use Rattle.model.specs.Cases.{settings}
 use Rattle.run.specs.Rounds.{below}
 use Rattle.demand_3.specs.Guarantee.{apart}
 use Rattle.spread_guarantee.specs.Guarantee.{Cabinet, reading, newValue, bad, Reads, Alike, spreadGap, spreadError}
+use Rattle.spread_guarantee.specs.Guarantee.{oddSpreadGap}
 
 -- ---- The sheets
 
@@ -58,9 +61,12 @@ pub record Hull (δ D : ℕ) : Type 0 where
 
 -- ---- The limits
 
--- ((N-t)D + 2t(δ+D))/N, rounded up
+-- ((N-t)D + 2t(δ+D))/N
+abbrev pub paperParts : Settings → ℕ → ℕ → ℕ
+paperParts c D t = (c .n - t) * D + 2 * t * (c .window + D)
+
 abbrev pub paperGap : Settings → ℕ → ℕ → ℕ
-paperGap c D t = ceilDiv ((c .n - t) * D + 2 * t * (c .window + D)) (c .n)
+paperGap c D t = ceilDiv (paperParts c D t) (c .n)
 
 -- the true value is 0, κ is D, and the two are asked nothing that they do not meet
 pub record Met (δ D : ℕ) : Type 0 where
@@ -78,10 +84,39 @@ pub record Reached (δ D : ℕ) (lowest highest : ℤ) : Type 0 where
   pub farthest : apart (newValue D (high δ D)) (pos 0) ≡ spreadError (wired δ) D D 1
   pub paperPassed : paperGap (wired δ) D 1 < apart (newValue D (low δ D)) (newValue D (high δ D))
 
--- "readings 0, 0, 0, -3 and 2, 2, 2, 5 give -1 and 3": 4 apart, where the paper has ⌈12/4⌉ = 3
+-- readings 0, 0, 0, -3 and 2, 2, 2, 5 give -1 and 3: 4 apart, where the paper has 12/4 = 3
 abbrev pub SpreadReached : Type 0
 SpreadReached = Reached 1 2 (negsuc 0) (pos 3)
 
--- readings 0, 0, 0, -8 and 4, 4, 4, 12 give -2 and 6, with nothing to round: 8 apart, where the paper has 7
-abbrev pub WholeReached : Type 0
-WholeReached = Reached 4 4 (negsuc 1) (pos 6)
+-- readings 0, 0, 0, -6 and 4, 4, 4, 10 give -2 and 6, from -1 1/2 and 5 1/2: 8 apart, the limit being 28/4 plus one.
+-- The paper has 24/4, and 24/4 plus one is passed too
+pub record WholeReached : Type 0 where
+  pub reached : Reached 2 4 (negsuc 1) (pos 6)
+  pub pastPassed : pastDiv (paperParts (wired 2) 4 1) 4 < apart (newValue 4 (low 2 4)) (newValue 4 (high 2 4))
+
+-- ---- An odd N
+
+abbrev pub fifth : Settings
+fifth = settings 5 1 fca median 4
+
+abbrev pub five : List ℤ → Cabinet
+five readings =
+    record {
+      sheet = sheetBytes fifth (1 ∷ 1 ∷ 1 ∷ 1 ∷ 1 ∷ []) readings;
+      buffer = replicate (answerLength 5) 255;
+    }
+
+abbrev pub fiveLow : Cabinet
+fiveLow = five (pos 0 ∷ pos 0 ∷ pos 0 ∷ pos 0 ∷ negsuc 4 ∷ [])
+
+abbrev pub fiveHigh : Cabinet
+fiveHigh = five (pos 1 ∷ pos 1 ∷ pos 1 ∷ pos 1 ∷ pos 6 ∷ [])
+
+-- readings 0, 0, 0, 0, -5 and 1, 1, 1, 1, 6 give -1 and 2: 3 apart, which is ⌈15/5⌉, one less than the limit for any N
+pub record OddReached : Type 0 where
+  pub counts : bad fifth (below 4) ≡ 1
+  pub readsLow : Reads fifth 1 1 (pos 0) (below 4) fiveLow
+  pub readsHigh : Reads fifth 1 1 (pos 0) (below 4) fiveHigh
+  pub alike : Alike fifth 1 (below 4) fiveLow fiveHigh
+  pub widest : apart (newValue 1 fiveLow) (newValue 1 fiveHigh) ≡ oddSpreadGap fifth 1 1
+  pub wider : spreadGap fifth 1 1 ≡ 4

@@ -12,9 +12,9 @@ use Rattle.model.specs.Refusals.{firstOf, tooShort, badCabinets, badFaults, bad
 use Rattle.model.specs.Refusals.{badMark, badMissing, tooManyFaults, badSpread, settingsChecks, spreadChecks}
 use Rattle.model.specs.Refusals.{entryChecks, settleChecks}
 use Rattle.model.specs.Calls.{settleSpread}
-use Rattle.sum_guarantee.specs.Witnesses.{SumReached, HalfUp}
+use Rattle.sum_guarantee.specs.Witnesses.{SumReached, HalvesEven}
 
-both : SumReached × HalfUp
+both : SumReached × HalvesEven
 unfolding
     count anyBelow lowest sum table overwrite word entryCount entryAt bytes4 readingBytes sizeBytes sheetBytes
     answerHeader answerBytes readingsOf accepted acceptedAt numbered midpointOf estimate mean roundOf roundAt firstOf
@@ -31,11 +31,16 @@ both = (
     passes = lit< tt;
     value = refl;
   },
-  record { grants = refl; summed = refl; value = refl; up = refl },
+  record {
+    zero = record { grants = refl; summed = refl; value = refl; goes = refl };
+    one = record { grants = refl; summed = refl; value = refl; goes = refl };
+    belowZero = record { grants = refl; summed = refl; value = refl; goes = refl };
+    below = record { grants = refl; summed = refl; value = refl; goes = refl };
+  },
 )
 
 pub sum-reached : SumReached
 sum-reached = both .0
 
-pub half-up : HalfUp
-half-up = both .1
+pub halves-even : HalvesEven
+halves-even = both .1

@@ -1,19 +1,21 @@
 -- The theorem of specs/Guarantee.antt: the readings moved up are naturals, of which crates/value_laws/proofs/Apart.antt
 -- says how far they lie apart.
 -- Assumes nothing.
-use mathlib.Core.Bool.{Bool, true}
+use mathlib.Core.Bool.{Bool, true, false, not, _&&_, _||_}
 use mathlib.Core.List.{List}
+use mathlib.Core.Logic.{⊎-elim}
 use mathlib.Core.Option.{none}
 use mathlib.Core.Path.{_≡_, refl, sym, ap, _∙_, subst}
-use Prim.Native.Nat.{ℕ, _+_, _*_, _-_, _≤_, _<_, zero-le}
-use native.Mathlib.Nat.{le-refl, mul-zero, mul-comm, mul-assoc, mul-le-mul, add-comm, add-mul, one-mul}
+use Prim.Native.Nat.{ℕ, _+_, _*_, _-_, _/_, _%_, _≤_, _<_, zero-le}
+use native.Mathlib.Nat.{lt-of-lt-of-le, mul-zero, mul-comm, mul-assoc, mul-le-mul, add-mul, one-mul}
 use native.Mathlib.Omega.{arith}
-use borrow.Author.Tests.{le-leb}
-use Rattle.arithmetic.proofs.Bools.{clash, to-T}
+use borrow.Author.Tests.{le-leb, lt-ltb, le-ltb, ltb-true, ltb-false, eqb-true, eqb-false}
+use lib.Dec.{ltb, eqb}
+use Rattle.arithmetic.proofs.Bools.{both-ways, clash, to-T}
 use lib.IntN.{ℤ, pos, _+ℤ_, _-ℤ_}
 use lib.ListN.{length}
 use lib.Signed.{_≤ℤ_}
-use Rattle.arithmetic.specs.Counting.{count, sum}
+use Rattle.arithmetic.specs.Counting.{bit, count, sum}
 use Rattle.arithmetic.specs.Naturals.{down, total}
 use Rattle.arithmetic.proofs.Shift.{down-cong, pos-down, add-down, add-pos-down, neg-down, down-up}
 use Rattle.arithmetic.proofs.Sums.{total-ext, total-add, total-const, sum-ext, sum-down}
@@ -26,12 +28,13 @@ use Rattle.model.specs.Refusals.{firstOf, settleChecks}
 use Rattle.model.specs.Calls.{granted, settleSpread}
 use Rattle.refusal_laws.proofs.Limits.{Limits}
 use Rattle.sheet_laws.proofs.Outcomes.{granted-none}
-use Rattle.round_laws.specs.Naturals.{shifted, mean-nat}
+use Rattle.round_laws.specs.Naturals.{shifted, Even, even-nat, mean-nat}
 use Rattle.round_laws.proofs.Local.{EqualBelow}
 use Rattle.round_laws.proofs.Represent.{reach, reach-above, raise, represented}
 use Rattle.round_laws.proofs.Natural.{accepted-present, acc-of, used-of, round-count, round-used, round-value}
 use Rattle.value_laws.proofs.Extremes.{LeastOf, least}
-use Rattle.value_laws.proofs.Means.{mean-shift, mean-split}
+use Rattle.round_laws.proofs.Shifted.{even-down}
+use Rattle.value_laws.proofs.Means.{odd-one, rounds-up, mean-split}
 use Rattle.value_laws.proofs.Apart as apart
 use Rattle.value_laws.proofs.Sheets.{settled-limits, settled-spread, settled-some}
 use Rattle.demand_1_2.specs.Demand2.{LowestAccepted}
@@ -52,6 +55,41 @@ reading-is missing e = clash e refl
 le-pos : (a b : ℕ) → a ≤ b → pos a ≤ℤ pos b
 le-pos a b h = record { le = to-T (le-leb a b h) }
 
+-- more than half is left, or half and the whole part is odd
+rounds-up-is :
+    (n rest whole : ℕ)
+    → (ltb n (2 * rest) || (eqb n (2 * rest) && not (even-nat whole))) ≡ rounds-up n rest whole
+rounds-up-is n rest whole = go (ltb n (2 * rest)) (eqb n (2 * rest)) (even-nat whole) refl refl refl
+  where
+    go :
+        (a b c : Bool) → ltb n (2 * rest) ≡ a → eqb n (2 * rest) ≡ b → even-nat whole ≡ c
+        → (a || (b && not c)) ≡ rounds-up n rest whole
+    go true b c ea eb ec = sym (lt-ltb n (2 * rest + whole % 2) (omega (arith, ltb-true n (2 * rest) ea)))
+    go false true true ea eb ec =
+        sym
+        (le-ltb n (2 * rest + whole % 2) (omega (arith, eqb-true n (2 * rest) eb, eqb-true (whole % 2) 0 ec)))
+    go false true false ea eb ec =
+        sym (lt-ltb n (2 * rest + whole % 2) (omega (arith, eqb-true n (2 * rest) eb, odd-one whole ec)))
+    go false false c ea eb ec =
+        sym (le-ltb n (2 * rest + whole % 2) (below (eqb-false n (2 * rest) eb) (ltb-false n (2 * rest) ea)))
+      where
+        below : (n ≡ 2 * rest → ⊥) → 2 * rest ≤ n → 2 * rest + whole % 2 ≤ n
+        below other l =
+            ⊎-elim
+            (λ e. let h = ltb-true (2 * rest) n e in omega arith)
+            (λ e. let h = ltb-false (2 * rest) n e in absurd (other (omega arith)))
+            (both-ways (ltb (2 * rest) n))
+
+-- the rounding of naturals moved down by an even number
+rounded-down :
+    (k n total low : ℕ) → Even k
+    → rounded n total (down k low) ≡ down k (low + (total / n + bit (rounds-up n (total % n) (low + total / n))))
+rounded-down k n total low even =
+    rw (add-pos-down k low (total / n), even-down k (low + total / n) even)
+    (ap (λ (b : Bool). down k (low + total / n) +ℤ pos (bit b)) (rounds-up-is n (total % n) (low + total / n))
+    ∙ add-pos-down k (low + total / n) (bit (rounds-up n (total % n) (low + total / n)))
+    ∙ ap (down k) (omega arith))
+
 module _ (s : List ℕ) (D : ℕ) (answer : List ℕ) (size : ℕ) (ok : settleSpread s D answer .verdict ≡ granted size) where
   passes : firstOf (settleChecks s D (length answer)) ≡ none
   unfolding settleSpread
@@ -71,8 +109,17 @@ module _ (s : List ℕ) (D : ℕ) (answer : List ℕ) (size : ℕ) (ok : settleS
 
   -- ---- the readings as naturals
 
+  -- an even number of at least their reach
   k : ℕ
-  k = reach v n
+  k = reach v n + reach v n
+
+  even-k : Even k
+  unfolding k
+  even-k = record { half = reach v n; twice = refl }
+
+  far : reach v n ≤ k
+  unfolding k
+  far = omega arith
 
   abbrev here : ℕ → Bool
   here r = isPresent (readings s r)
@@ -81,8 +128,7 @@ module _ (s : List ℕ) (D : ℕ) (answer : List ℕ) (size : ℕ) (ok : settleS
   x = raise k v
 
   same : EqualBelow n v (shifted k here x)
-  unfolding k
-  same = represented k v n (le-refl k)
+  same = represented k v n far
 
   abbrev acc : ℕ → Bool
   acc = acc-of own D here x
@@ -109,12 +155,11 @@ module _ (s : List ℕ) (D : ℕ) (answer : List ℕ) (size : ℕ) (ok : settleS
   -- ---- the lowest accepted reading
 
   ticks-are : (r : ℕ) → r < n → ticks (v r) ≡ down k (x r)
-  unfolding k
-  ticks-are r l = sym (down-up k (ticks (v r)) (reach-above v n r l))
+  ticks-are r l = sym (down-up k (ticks (v r)) (lt-of-lt-of-le (reach-above v n r l) far))
 
   accepted-is : (r : ℕ) → r < n → acceptedAt own D v r ≡ acc r
-  unfolding acceptedAt k
-  accepted-is r l = accepted-up v n k (le-refl k) (spanWidth own D) (quorum own) r l
+  unfolding acceptedAt
+  accepted-is r l = accepted-up v n k far (spanWidth own D) (quorum own) r l
 
   lowest : LowestAccepted own D v (down k low)
   lowest =
@@ -155,16 +200,13 @@ module _ (s : List ℕ) (D : ℕ) (answer : List ℕ) (size : ℕ) (ok : settleS
       ∙ total-add d (λ _. low) n
       ∙ ap (λ (j : ℕ). total d n + j) (total-const low n ∙ mul-comm n low)
 
-  value-is : roundAt s D .value ≡ down k low +ℤ pos (rounded n (total d n))
+  value-is : roundAt s D .value ≡ rounded n (total d n) (down k low)
   unfolding roundAt
   value-is =
-      round-value own D here x v k same (within .someCabinet) some-acc
+      round-value own D here x v k same (within .someCabinet) even-k some-acc
       ∙ ap (λ (t : ℕ). down k (mean-nat n t)) used-total
-      ∙ ap (down k)
-      (mean-shift n (within .someCabinet) (total d n) low
-      ∙ add-comm (mean-nat n (total d n)) low
-      ∙ ap (λ (j : ℕ). low + j) (sym (mean-split n (within .someCabinet) (total d n))))
-      ∙ sym (add-pos-down k low (rounded n (total d n)))
+      ∙ ap (down k) (sym (mean-split n (within .someCabinet) (total d n) low))
+      ∙ sym (rounded-down k n (total d n) low even-k)
 
   -- ---- the limits of their sum
 

@@ -1,27 +1,29 @@
 -- Document 02, "Paper 3. Sums in 32 bits" (docs/FORMAT.md, 5): the mean of a round by the distances of its used values
--- from the lowest accepted reading, and how large their sum can be. It is said of every sheet and spread that settling
--- grants, whatever the faults: nothing is asked of the cabinets. The theorem is `sum-guarantee` of proofs/Guarantee.antt.
+-- from the lowest accepted reading, rounded as "Paper 4" has it, and how large their sum can be. It is said of every sheet
+-- and spread that settling grants, whatever the faults: nothing is asked of the cabinets. The theorem is `sum-guarantee`
+-- of proofs/Guarantee.antt.
 --
--- The round is `roundAt` of crates/model/specs/Steps.antt, whose new value is document 01's mean: what request 3 asks for
--- is another way to the same value.
+-- The round is `roundAt` of crates/model/specs/Steps.antt, whose new value is the mean that it defines: what request 3
+-- asks for is another way to the same value.
 --
 --   readings      what the sheet's cabinet reads of each cabinet
 --   width         how wide a span of the sheet is
 --   distance      how far a used value lies above a reading
---   rounded       the whole part of a quotient, and 1 more where the remainder is half of the divisor or more
+--   rounded       a number and the whole part of a quotient, and 1 more by the remainder
 --   apartLimit, sumLimit, widestSum, closeLimit     the limits of one distance, and of the sum of all
 --   SumLimits     what holds of a sheet that settling grants
 --   SumGuarantee  of all sheets, spreads and answer buffers
+use mathlib.Core.Bool.{not, _&&_, _||_}
 use mathlib.Core.List.{List}
 use mathlib.Core.Path.{_≡_}
 use Prim.Native.Nat.{ℕ, _+_, _*_, _-_, _/_, _%_, _≤_, _<_}
-use lib.Dec.{leb}
+use lib.Dec.{ltb, eqb}
 use lib.IntN.{ℤ, pos, _+ℤ_, _-ℤ_}
 use lib.Signed.{_≤ℤ_}
 use Rattle.arithmetic.specs.Counting.{bit, sum}
 use Rattle.model.specs.Ensemble.{Readings, maxCabinets, maxWindow, maxSpread}
 use Rattle.model.specs.RoundSheet.{settingsAt, entryCount, entryAt}
-use Rattle.model.specs.Steps.{readingsOf, roundAt, spanWidth}
+use Rattle.model.specs.Steps.{readingsOf, isEven, roundAt, spanWidth}
 use Rattle.model.specs.Calls.{granted, settleSpread}
 use Rattle.demand_1_2.specs.Demand2.{LowestAccepted}
 
@@ -34,9 +36,13 @@ width s D = spanWidth (settingsAt s) D
 abbrev pub distance : List ℕ → ℕ → ℤ → ℕ → ℤ
 distance s D low r = roundAt s D .used r -ℤ low
 
--- "divide by N, add the whole part back to it, and round by the remainder"
-abbrev pub rounded : ℕ → ℕ → ℕ
-rounded n total = total / n + bit (leb n (2 * (total % n)))
+-- "divide by N, add the whole part back to it, and round by the remainder": up where it is more than half of N; and,
+-- document 02, request 4, where it is half of N and the lowest reading with the whole part added is odd
+abbrev pub rounded : ℕ → ℕ → ℤ → ℤ
+rounded n total low =
+    let whole = low +ℤ pos (total / n) in
+    let rest = total % n in
+    whole +ℤ pos (bit (ltb n (2 * rest) || (eqb n (2 * rest) && not (isEven whole))))
 
 -- ---- The limits
 
@@ -71,7 +77,7 @@ pub record SumLimits (s : List ℕ) (D : ℕ) : Type 0 where
   pub atMost : total ≤ sumLimit s D
   pub narrow : sumLimit s D ≤ widestSum
   pub closer : total ≤ closeLimit s D
-  pub value : roundAt s D .value ≡ low +ℤ pos (rounded (settingsAt s .n) total)
+  pub value : roundAt s D .value ≡ rounded (settingsAt s .n) total low
 
 abbrev pub SumGuarantee : Type 0
 SumGuarantee =

@@ -1,19 +1,20 @@
 -- Sheets to which Guarantee.antt applies. What they settle to is computed from their bytes; the theorems are in
 -- proofs/Computed.antt. The first has the greatest sum of distances that its settings allow, N+m-1 times the span, which
 -- is more than N times the span: so that is no limit. Document 02's, 2N times the span, is never reached: N+m-1 is less
--- than two thirds of 2N, since N is above 3m. The second has a half to round.
+-- than two thirds of 2N, since N is above 3m. The others have a half to round.
 --
 --   sheetOf       a sheet by FCA with midpoint, all readings present
 --   buffer        an answer buffer of just the answer's length, full of 255s
 --   far           N 7, m 2, the widest window: cabinet 2 reads 0, four are a span above it, two a span above these
 --   SumReached    it is granted with the widest spread, its used values and their sum reach the limits, and the new value
 --                 is that of the sum
---   even          N 4, m 1, the window 1: two readings of 0 and two of 1
---   HalfUp        it is granted, and its half goes up
+--   half          N 4, m 1, the window 1: two readings of a number and two of the next
+--   HalfAt        it is granted, and its half goes to a number
+--   HalvesEven    that is the even neighbour, above zero and below
 use mathlib.Core.List.{List, [], _∷_}
 use mathlib.Core.Path.{_≡_}
 use Prim.Native.Nat.{ℕ, _+_, _*_, _≤_, _<_}
-use lib.IntN.{ℤ, pos}
+use lib.IntN.{ℤ, pos, negsuc, _+ℤ_}
 use lib.ListN.{length, replicate}
 use Rattle.arithmetic.specs.Counting.{sum}
 use Rattle.model.specs.Ensemble.{maxWindow, maxSpread}
@@ -46,15 +47,22 @@ pub record SumReached : Type 0 where
   pub allowed : widestSum ≡ 140_800_000
   -- N times the span is no limit
   pub passes : 7 * width far maxSpread < closeLimit far maxSpread
-  pub value : roundAt far maxSpread .value ≡ pos (rounded 7 (closeLimit far maxSpread))
+  pub value : roundAt far maxSpread .value ≡ rounded 7 (closeLimit far maxSpread) (pos 0)
 
--- ---- a half
+-- ---- halves
 
-abbrev pub even : List ℕ
-even = sheetOf 1 1 (pos 0 ∷ pos 0 ∷ pos 1 ∷ pos 1 ∷ [])
+abbrev pub half : ℤ → List ℕ
+half low = sheetOf 1 1 (low ∷ low ∷ (low +ℤ pos 1) ∷ (low +ℤ pos 1) ∷ [])
 
-pub record HalfUp : Type 0 where
-  pub grants : settleSpread even 0 (buffer 4) .verdict ≡ granted (answerLength 4)
-  pub summed : sum (distance even 0 (pos 0)) 4 ≡ pos 2
-  pub value : roundAt even 0 .value ≡ pos (rounded 4 2)
-  pub up : rounded 4 2 ≡ 1
+pub record HalfAt (low new : ℤ) : Type 0 where
+  pub grants : settleSpread (half low) 0 (buffer 4) .verdict ≡ granted (answerLength 4)
+  pub summed : sum (distance (half low) 0 low) 4 ≡ pos 2
+  pub value : roundAt (half low) 0 .value ≡ rounded 4 2 low
+  pub goes : rounded 4 2 low ≡ new
+
+-- the quotient's whole part is 0, even, at each of them; the new value is even
+pub record HalvesEven : Type 0 where
+  pub zero : HalfAt (pos 0) (pos 0)
+  pub one : HalfAt (pos 1) (pos 2)
+  pub belowZero : HalfAt (negsuc 0) (pos 0)
+  pub below : HalfAt (negsuc 1) (negsuc 1)

@@ -24,20 +24,20 @@ outcome verdict buffer = record { verdict = verdict; buffer = buffer }
 
 -- ---- One round
 
--- N 4, m 1, FCA, midpoint, δ 100; cabinets 0, 1, 2 are sound and read 0. Cabinet 3 is faulty, and its first reading is
--- 7; it sends -100, 100, 0, and itself nothing
+-- N 4, m 1, FCA, midpoint, δ 102; cabinets 0, 1, 2 are sound and read 0. Cabinet 3 is faulty, and its first reading is
+-- 7; it sends -102, 102, 0, and itself nothing
 unfoldable pub onceTrace : List ℕ
 onceTrace =
-    (4 ∷ 1 ∷ 0 ∷ 2 ∷ 100 ∷ 0 ∷ 0 ∷ 0 ∷ 1 ∷ 1 ∷ 1 ∷ 1 ∷ 0 ∷ [])
+    (4 ∷ 1 ∷ 0 ∷ 2 ∷ 102 ∷ 0 ∷ 0 ∷ 0 ∷ 1 ∷ 1 ∷ 1 ∷ 1 ∷ 0 ∷ [])
     ++ zeros 12 ++ (7 ∷ 0 ∷ 0 ∷ 0 ∷ [])
     ++ zeros 12 ++ (1 ∷ 1 ∷ 1 ∷ 0 ∷ [])
-    ++ zeros 48 ++ (156 ∷ 255 ∷ 255 ∷ 255 ∷ 100 ∷ 0 ∷ 0 ∷ 0 ∷ 0 ∷ 0 ∷ 0 ∷ 0 ∷ 0 ∷ 0 ∷ 0 ∷ 0 ∷ [])
+    ++ zeros 48 ++ (154 ∷ 255 ∷ 255 ∷ 255 ∷ 102 ∷ 0 ∷ 0 ∷ 0 ∷ 0 ∷ 0 ∷ 0 ∷ 0 ∷ 0 ∷ 0 ∷ 0 ∷ 0 ∷ [])
 
 -- ---- Two rounds
 
--- the run of `directStation` of Rounds.antt: the same, and in the second round cabinet 3 sends -50, 50 and 90. Left
--- open are the four bytes of its first reading, the mark and the four bytes of what it sends itself in the first round,
--- and the byte 90
+-- the run of `directStation` of Rounds.antt: the same with a window of 100, -100 and 100, and in the second round cabinet
+-- 3 sends -51, 51 and 90. Left open are the four bytes of its first reading, the mark and the four bytes of what it sends
+-- itself in the first round, and the byte 90
 unfoldable pub directTraceWith : List ℕ → ℕ → List ℕ → ℕ → List ℕ
 directTraceWith first mark itself last =
     (4 ∷ 1 ∷ 0 ∷ 2 ∷ 100 ∷ 0 ∷ 0 ∷ 0 ∷ 2 ∷ 1 ∷ 1 ∷ 1 ∷ 0 ∷ [])
@@ -45,7 +45,7 @@ directTraceWith first mark itself last =
     ++ zeros 12 ++ (1 ∷ 1 ∷ 1 ∷ mark ∷ [])
     ++ zeros 12 ++ (1 ∷ 1 ∷ 1 ∷ 0 ∷ [])
     ++ zeros 48 ++ (156 ∷ 255 ∷ 255 ∷ 255 ∷ 100 ∷ 0 ∷ 0 ∷ 0 ∷ 0 ∷ 0 ∷ 0 ∷ 0 ∷ []) ++ itself
-    ++ zeros 48 ++ (206 ∷ 255 ∷ 255 ∷ 255 ∷ 50 ∷ 0 ∷ 0 ∷ 0 ∷ last ∷ 0 ∷ 0 ∷ 0 ∷ 0 ∷ 0 ∷ 0 ∷ 0 ∷ [])
+    ++ zeros 48 ++ (205 ∷ 255 ∷ 255 ∷ 255 ∷ 51 ∷ 0 ∷ 0 ∷ 0 ∷ last ∷ 0 ∷ 0 ∷ 0 ∷ 0 ∷ 0 ∷ 0 ∷ 0 ∷ [])
 
 -- its first reading is 7, and it sends itself nothing
 unfoldable pub directTrace : List ℕ
@@ -106,21 +106,21 @@ farTrace = firstTraceWith 1
 -- ---- What a replay gives
 
 pub record TracesComputed : Type 0 where
-  -- -25, 25, 0, and 0 for the faulty one
+  -- -26, 26, 0, and 0 for the faulty one
   pub once :
       replay onceTrace lent17
       ≡ outcome (granted 16)
-      (231 ∷ 255 ∷ 255 ∷ 255 ∷ 25 ∷ 0 ∷ 0 ∷ 0 ∷ 0 ∷ 0 ∷ 0 ∷ 0 ∷ 0 ∷ 0 ∷ 0 ∷ 0 ∷ 255 ∷ [])
-  -- -12, 13, 0, and 0 for the faulty one; the byte behind them is kept
+      (230 ∷ 255 ∷ 255 ∷ 255 ∷ 26 ∷ 0 ∷ 0 ∷ 0 ∷ 0 ∷ 0 ∷ 0 ∷ 0 ∷ 0 ∷ 0 ∷ 0 ∷ 0 ∷ 255 ∷ [])
+  -- -13, 13, 0, and 0 for the faulty one; the byte behind them is kept
   pub direct :
       replay directTrace lent17
       ≡ outcome (granted 16)
-      (244 ∷ 255 ∷ 255 ∷ 255 ∷ 13 ∷ 0 ∷ 0 ∷ 0 ∷ 0 ∷ 0 ∷ 0 ∷ 0 ∷ 0 ∷ 0 ∷ 0 ∷ 0 ∷ 255 ∷ [])
-  -- -12, 13, 13
+      (243 ∷ 255 ∷ 255 ∷ 255 ∷ 13 ∷ 0 ∷ 0 ∷ 0 ∷ 0 ∷ 0 ∷ 0 ∷ 0 ∷ 0 ∷ 0 ∷ 0 ∷ 0 ∷ 255 ∷ [])
+  -- -13, 13, 12
   pub told :
       replay toldTrace lent17
       ≡ outcome (granted 16)
-      (244 ∷ 255 ∷ 255 ∷ 255 ∷ 13 ∷ 0 ∷ 0 ∷ 0 ∷ 13 ∷ 0 ∷ 0 ∷ 0 ∷ 0 ∷ 0 ∷ 0 ∷ 0 ∷ 255 ∷ [])
+      (243 ∷ 255 ∷ 255 ∷ 255 ∷ 13 ∷ 0 ∷ 0 ∷ 0 ∷ 12 ∷ 0 ∷ 0 ∷ 0 ∷ 0 ∷ 0 ∷ 0 ∷ 0 ∷ 255 ∷ [])
   -- cabinets 1 and 2 meet too many faults in rounds 2 and 3: 64 × 2 + 1
   pub silent : replay silentTrace lent17 ≡ outcome (refused (refusal runStoppedNumber 129)) lent17
   pub spoken : replay spokenTrace lent17 .verdict ≡ refused (refusal badRolesNumber 0)

@@ -17,6 +17,7 @@ use Rattle.model.specs.Steps.{roundOf}
 use Rattle.round_laws.proofs.Local.{EqualBelow}
 use Rattle.round_laws.proofs.Natural.{acc-of, estimate-of, used-of, value-of, round-count, round-estimate, round-used}
 use Rattle.round_laws.proofs.Natural.{round-value}
+use Rattle.round_laws.proofs.Shifted.{even-31}
 use Rattle.round_laws.proofs.Represent.{raise, shift-raise}
 use Rattle.round_laws.specs.Naturals.{shifted}
 use Rattle.value_laws.proofs.Estimates.{estimate-within, used-within}
@@ -65,6 +66,6 @@ module _ (c : Settings) (D : ℕ) (v : Readings) (fits : (r : ℕ) → r < c .n 
 
   pub value-fits : 0 < c .n → SFits w32 (roundOf c D v .value)
   value-fits some-n =
-      subst⁻¹ (SFits w32) (round-value c D here (raise twoTo31 v) v twoTo31 same32 some-n counted32)
+      subst⁻¹ (SFits w32) (round-value c D here (raise twoTo31 v) v twoTo31 same32 some-n even-31 counted32)
       (down-fits (value-of c D here (raise twoTo31 v) twoTo31)
       (mean-below (c .n) some-n (used-of c D here (raise twoTo31 v) twoTo31) 4_294_967_295 used-small))

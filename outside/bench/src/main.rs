@@ -151,7 +151,8 @@ fn side_by_side(engines: &Engines, call: Call, sheets: &[Vec<u8>], slices: usize
     ns.into_iter().map(quarter).collect()
 }
 
-/// All engines give the same answers, and sheets of refusal are refused under 10.
+/// All engines give the same answers, and sheets of refusal are refused under 10. An earlier library may round otherwise:
+/// it must grant the same sheets.
 fn agree(engines: &Engines, call: Call, sheets: &[Vec<u8>], kind: Kind) -> bool {
     let settled = |engine: &dyn Engine, sheet: &[u8]| {
         let mut tray = [0; 330];
@@ -165,7 +166,10 @@ fn agree(engines: &Engines, call: Call, sheets: &[Vec<u8>], kind: Kind) -> bool 
         let (answer, tray) = settled(&*engines[0], sheet);
         let number = if kind == Kind::WorstRefusal { 10 } else { 0 };
         let all = kind != Kind::AllAccepted || tray[0] == tray[1];
-        let same = engines[1..].iter().all(|engine| settled(&**engine, sheet) == (answer, tray));
+        let same = engines[1..].iter().all(|engine| {
+            let (other, bytes) = settled(&**engine, sheet);
+            other == answer && (engine.name() == "before" || bytes == tray)
+        });
         same && engine::number(answer) == number && all
     })
 }

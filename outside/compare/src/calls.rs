@@ -5,7 +5,7 @@ use crate::{draw, traces};
 use engine::traces::redraw_for_faulty;
 use engine::{number, replay_by_hand, words, Engine, Plan, Settings};
 use random::Random;
-use reference::{Distances, Trace};
+use reference::{next_window, sums_apart, Distances, Trace, CCA, FCA, MEDIAN};
 
 pub const CALLS: [&str; 9] =
     ["settle", "read", "write", "row", "plan", "step", "target", "replay", "spread"];
@@ -31,14 +31,34 @@ pub struct Spreads {
 pub const ENDS: [u32; 6] = [0, 1, 99_999, 100_000, 100_001, u32::MAX];
 
 /// What can be met of the distances of a settled sheet's used values from its lowest accepted reading.
-pub const SUMS: [&str; 6] = [
+pub const SUMS: [&str; 12] = [
     "a sum above N spans",
     "a sum of N+m-1 spans",
-    "a half, N being even",
-    "the remainder next below a half, N being odd",
     "the lowest at the low end of 32 bits",
     "a used value at the high end",
+    "the remainder next below a half, N being odd",
+    "a half going up, to 0 or above",
+    "a half going up, to a value below 0",
+    "a half going down, to 0 or above",
+    "a half going down, to a value below 0",
+    "a half beside the low end of 32 bits",
+    "a half beside the high end",
+    "a half above an odd lowest reading",
 ];
+
+/// What can be met of the settings from which a next window is planned.
+pub const NEXT: [&str; 7] = [
+    "m is 0, and the window is not",
+    "the window is 0, and m is not",
+    "2mδ/N is whole, by FCA",
+    "2mδ/N is whole, by CCA with average or midpoint",
+    "mδ/N is whole, by CCA with median",
+    "mδ/N is whole, by which the accuracy grows",
+    "the window stays as it is, above 0",
+];
+
+/// The calls that plan a next window.
+pub const PLANNING: [usize; 3] = [4, 5, 6];
 
 /// What was replayed.
 pub struct Replays {
@@ -66,6 +86,8 @@ pub struct Comparison<'a> {
     pub spreads: Spreads,
     /// How often each of `SUMS` was met.
     pub sums: [u64; SUMS.len()],
+    /// How often each of `NEXT` was met, at each of `PLANNING`.
+    pub next: [[u64; NEXT.len()]; PLANNING.len()],
     pub differences: u64,
     /// The sheet that is compared now.
     pub now: u64,
@@ -98,6 +120,7 @@ impl<'a> Comparison<'a> {
                 tick_more: 0,
             },
             sums: [0; SUMS.len()],
+            next: [[0; NEXT.len()]; PLANNING.len()],
             differences: 0,
             now: 0,
         }
@@ -186,16 +209,40 @@ impl<'a> Comparison<'a> {
         let (n, span) = (settings.n as u32, settings.window + spread);
         let sum = distances.sum().unwrap_or(0);
         let to_the_end = distances.lowest.abs_diff(i32::MAX);
-        let in_the_middle = sum % n == n / 2;
-        let met = [
+        let of_the_sum = [
             sum > n * span,
             span > 0 && sum == settings.greatest_sum(span),
-            n % 2 == 0 && in_the_middle,
-            n % 2 == 1 && in_the_middle && n > 1,
             distances.lowest == i32::MIN,
             distances.above.contains(&to_the_end),
+            n % 2 == 1 && sum % n == n / 2 && n > 1,
         ];
-        for (times, met) in self.sums.iter_mut().zip(met) {
+        let halves = halves(n, distances.lowest, sum);
+        for (times, met) in self.sums.iter_mut().zip(of_the_sum.into_iter().chain(halves)) {
+            *times += met as u64;
+        }
+    }
+
+    /// Counts the settings from which a call plans a next window.
+    fn count_next(&mut self, call: usize, answer: u64, settings: &Settings) {
+        if ![0, 12].contains(&number(answer)) || settings.check().is_err() {
+            return;
+        }
+        let Settings { n, m, rule, estimator, window } = *settings;
+        let some = m > 0 && window > 0;
+        let whole = |product: u64| some && product.is_multiple_of(n as u64);
+        let apart = whole(sums_apart(settings));
+        let met = [
+            m == 0 && window > 0,
+            m > 0 && window == 0,
+            apart && rule == FCA,
+            apart && rule == CCA && estimator != MEDIAN,
+            apart && rule == CCA && estimator == MEDIAN,
+            whole(m as u64 * window as u64),
+            some && next_window(settings) == window,
+        ];
+        let row =
+            PLANNING.iter().position(|&planning| planning == call).expect("a call that plans");
+        for (times, met) in self.next[row].iter_mut().zip(met) {
             *times += met as u64;
         }
     }
@@ -404,6 +451,9 @@ impl<'a> Comparison<'a> {
         let b = self.b.plan(&settings, accuracy, rounds, &mut plan_b);
         let input = || format!("{settings:?}, accuracy {accuracy}, rounds {rounds}");
         self.answers(4, a, b, input);
+        if rounds > 0 {
+            self.count_next(4, a, &settings);
+        }
         self.plans("plan", old, (a, plan_a), (b, plan_b), input);
     }
 
@@ -414,6 +464,7 @@ impl<'a> Comparison<'a> {
         let a = self.a.step(&plan, &mut next_a);
         let b = self.b.step(&plan, &mut next_b);
         self.answers(5, a, b, || format!("{plan:?}"));
+        self.count_next(5, a, &plan.settings);
         self.plans("step", old, (a, next_a), (b, next_b), || format!("{plan:?}"));
     }
 
@@ -446,6 +497,7 @@ impl<'a> Comparison<'a> {
         let granted = number(a) == 0 && number(b) == 0;
         let input = || format!("{settings:?}, accuracy {accuracy}, target {target}");
         self.answers(6, a, if granted { a } else { b }, input);
+        self.count_next(6, a, &settings);
         if granted {
             let fit = reference::counts_that_fit(&settings, target);
             for (who, answer) in [(self.a, a), (self.b, b)] {
@@ -455,6 +507,23 @@ impl<'a> Comparison<'a> {
             }
         }
     }
+}
+
+/// Which of the last of `SUMS` a sum of distances from the lowest meets.
+fn halves(n: u32, lowest: i32, sum: u32) -> [bool; 7] {
+    let half = 2 * (sum % n) == n;
+    let below = lowest as i64 + (sum / n) as i64;
+    let up = below % 2 != 0;
+    [
+        up && below >= -1,
+        up && below < -1,
+        !up && below >= 0,
+        !up && below < 0,
+        below == i32::MIN as i64,
+        below + 1 == i32::MAX as i64,
+        lowest % 2 != 0,
+    ]
+    .map(|met| half && met)
 }
 
 /// N, as the first byte of a sheet or a trace has it, or one that could be.

@@ -47,7 +47,11 @@ fn any(random: &Random) -> i32 {
 
 /// N readings, in any order.
 pub fn readings(random: &Random, settings: &Settings) -> Vec<Option<i32>> {
-    let drawn = if random.percent(10) { steep(random, settings) } else { around(random, settings) };
+    let drawn = match random.below(20) {
+        0 | 1 => steep(random, settings),
+        2..=4 => tied(random, settings),
+        _ => around(random, settings),
+    };
     shuffled(random, drawn)
 }
 
@@ -80,6 +84,22 @@ fn steep(random: &Random, settings: &Settings) -> Vec<Option<i32>> {
         drawn[n as usize - 1] -= less;
     }
     drawn.into_iter().map(|value| Some(clamp(value))).collect()
+}
+
+/// Half of the readings an odd number of ticks above the others. With an even N their mean is a half, often
+/// beside 0 or at an end of 32 bits.
+fn tied(random: &Random, settings: &Settings) -> Vec<Option<i32>> {
+    let (n, w) = (settings.n as i64, settings.window as i64);
+    let widest = (w + 1) / 2;
+    let odd = 2 * random.pick(&[1, 1, random.between(1, widest.max(1))]) - 1;
+    let (lowest, highest) = (i32::MIN as i64, i32::MAX as i64 - odd);
+    let base = match random.below(6) {
+        0 | 1 => lowest + random.pick(&[0, 0, 0, 1]),
+        2 => highest - random.pick(&[0, 0, 0, 1]),
+        3 => random.between(lowest, highest),
+        _ => -(odd / 2) + random.between(-4, 4),
+    };
+    (0..n).map(|i| Some(clamp(if i < n / 2 { base } else { base + odd }))).collect()
 }
 
 /// Readings most of which are around one window, so that acceptance is often close.
@@ -311,9 +331,23 @@ pub fn rounds(random: &Random) -> u32 {
     }
 }
 
+/// Settings changed so that the quotient of the next window is often whole, or there is none.
+pub fn to_plan(random: &Random, drawn: Settings) -> Settings {
+    let n = drawn.n as u32;
+    let whole = |by: u32| drawn.window - drawn.window % by;
+    match random.below(12) {
+        0 => Settings { m: 0, ..drawn },
+        1 => Settings { window: 0, ..drawn },
+        2 | 3 => Settings { window: whole(n), ..drawn },
+        4 => Settings { window: whole(n.div_ceil(2)), ..drawn },
+        5 => Settings { window: random.between(1, 4) as u32, ..drawn },
+        _ => drawn,
+    }
+}
+
 /// Settings of which a quarter have something wrong.
 pub fn plan_settings(random: &Random) -> Settings {
-    let mut settings = settings(random);
+    let mut settings = to_plan(random, settings(random));
     if random.percent(25) {
         for _ in 0..random.between(1, 3) {
             damage_settings(random, &mut settings);

@@ -6,23 +6,24 @@ mod draw;
 mod program;
 mod traces;
 
-use calls::{Comparison, CALLS, ENDS, SHEETS_FOR_A_TRACE, SUMS};
+use calls::{Comparison, CALLS, ENDS, NEXT, PLANNING, SHEETS_FOR_A_TRACE, SUMS};
 use engine::sabotage::{Sabotaged, SABOTAGES};
 use engine::Engine;
 use random::Random;
 use std::process::ExitCode;
 use std::time::Instant;
 
-const USAGE: &str = "compare [--engines A,B] [--sheets COUNT] [--seed SEED] [--sabotage NAME] [--digest COUNT]
+const USAGE: &str = "compare [--engines A,B] [--sheets COUNT] [--seed SEED] [--sabotage NAME] [--differences COUNT] [--digest COUNT]
 compare --program PATH [--sheets COUNT] [--seed SEED]
 compare --replay PATH [--sheets COUNT] [--seed SEED]
 compare --sabotages
-  --engines    reference, plain, tuned; when built in linked, and recorded, which is linked with a digest
-  --sabotage   makes the first engine wrong in a named way
-  --sabotages  lists the ways
-  --digest     prints the digest of the first engine, recorded, after every so many sheets
-  --program    compares the text of a program `settle` with the reference's
-  --replay     the same for a program `replay`, on so many traces";
+  --engines      reference, plain, tuned; when built in linked, and recorded, which is linked with a digest
+  --sabotage     makes the first engine wrong in a named way
+  --sabotages    lists the ways
+  --differences  stops after so many, 10 unless said
+  --digest       prints the digest of the first engine, recorded, after every so many sheets
+  --program      compares the text of a program `settle` with the reference's
+  --replay       the same for a program `replay`, on so many traces";
 
 /// The numbers under which each call can refuse. Rows refuse nothing.
 const REFUSALS: [&[usize]; 9] = [
@@ -44,6 +45,7 @@ struct Options {
     sabotage: Option<String>,
     program: Option<String>,
     replay: Option<String>,
+    differences: u64,
     digest: u64,
 }
 
@@ -55,6 +57,7 @@ fn options() -> Option<Options> {
         sabotage: None,
         program: None,
         replay: None,
+        differences: 10,
         digest: u64::MAX,
     };
     let mut words = std::env::args().skip(1);
@@ -67,6 +70,7 @@ fn options() -> Option<Options> {
             "--sabotage" => options.sabotage = Some(value?),
             "--program" => options.program = Some(value?),
             "--replay" => options.replay = Some(value?),
+            "--differences" => options.differences = value?.parse().ok()?,
             "--digest" => options.digest = value?.parse().ok().filter(|&count| count > 0)?,
             _ => return None,
         }
@@ -115,7 +119,7 @@ fn main() -> ExitCode {
     for now in 0..sheets {
         let random = Random::new((options.seed << 32) + now);
         comparison.all_calls(&random, now);
-        if comparison.differences >= 10 {
+        if comparison.differences >= options.differences.max(1) {
             println!("FAILED: {} differences in {} sheets", comparison.differences, now + 1);
             return ExitCode::FAILURE;
         }
@@ -178,13 +182,25 @@ fn report(comparison: &Comparison, sheets: u64) -> usize {
     for (what, times) in SUMS.iter().zip(&comparison.sums) {
         println!("{times:>8} times {what}");
     }
+    let next = report_next(comparison);
     if sheets < 100_000 {
         println!("Each of these is asked of 100,000 sheets and more.");
     } else {
-        let demanded = by_kind.chain(replayed).chain(spreads).chain(&comparison.sums);
+        let demanded = by_kind.chain(replayed).chain(spreads).chain(&comparison.sums).chain(next);
         unmet += demanded.filter(|&&count| count == 0).count();
     }
     unmet
+}
+
+/// Prints from what next windows were planned; answers the counts that must not be 0.
+fn report_next<'a>(comparison: &'a Comparison) -> impl Iterator<Item = &'a u64> + 'a {
+    let names = PLANNING.map(|call| format!("{:>8}", CALLS[call]));
+    println!("{} next windows:", names.join(""));
+    for (i, what) in NEXT.iter().enumerate() {
+        let times = comparison.next.map(|by_call| format!("{:>8}", by_call[i]));
+        println!("{} times {what}", times.join(""));
+    }
+    comparison.next.as_flattened().iter()
 }
 
 /// Prints what was replayed; answers the counts that must not be 0.

@@ -30,7 +30,7 @@ fn settings(random: &Random) -> Settings {
     } as u8;
     let most = (n - 1) / 3;
     let m = if random.percent(70) { most } else { random.between(0, most as i64) as u8 };
-    Settings { n, m, rule: FCA, ..draw::settings(random) }
+    draw::to_plan(random, Settings { n, m, rule: FCA, ..draw::settings(random) })
 }
 
 fn rounds(random: &Random, n: usize) -> usize {

@@ -18,13 +18,13 @@ fn no_difference() {
 /// Sums past N spans, halves, and readings at both ends of 32 bits are not rare.
 #[test]
 fn sums_are_met() {
-    let (_, text) = compare(&["--engines", "reference,reference", "--sheets", "3000"]);
+    let (_, text) = compare(&["--engines", "reference,reference", "--sheets", "6000"]);
     let listed = text.split_once("lowest accepted reading:\n").expect("the sums are listed").1;
     let times: Vec<u64> = listed
         .lines()
         .map_while(|line| line.split_once(" times ")?.0.trim().parse().ok())
         .collect();
-    assert!(times.len() == 6 && times.iter().all(|&times| times > 20), "{text}");
+    assert!(times.len() == 12 && times.iter().all(|&times| times > 15), "{text}");
 }
 
 #[test]
@@ -45,7 +45,8 @@ fn call(line: &str) -> Option<&str> {
         .map(|(call, _)| call)
 }
 
-/// Those of replay at a replay, those of the spread at settling with one and nowhere else, the others at another call too.
+/// Those of replay or of a planner's call at that call, those of the spread at settling with one and nowhere else, the
+/// others at another call than a replay too.
 #[test]
 fn sabotages_are_found() {
     for (name, _) in SABOTAGES {
@@ -53,7 +54,7 @@ fn sabotages_are_found() {
         assert_eq!(status, Some(1), "{name} was not found\n{text}");
         let calls: Vec<&str> = text.lines().filter_map(call).collect();
         let found = match name.split('-').next() {
-            Some("replay") => calls.contains(&"replay"),
+            Some(call @ ("replay" | "plan" | "step" | "target")) => calls.contains(&call),
             Some("spread") => !calls.is_empty() && calls.iter().all(|call| *call == "spread"),
             _ => calls.iter().any(|call| *call != "replay"),
         };
@@ -64,8 +65,9 @@ fn sabotages_are_found() {
 /// A wrong step is found by the replays too: a loop over the engine's own calls gives other values.
 #[test]
 fn replays_are_compared_with_a_loop_over_the_other_calls() {
-    for name in ["step-wide", "half-down"] {
-        let (_, text) = compare(&["--sheets", "3000", "--sabotage", name]);
+    for name in ["step-wide", "step-one", "step-ceiling", "half-up", "half-down"] {
+        let all = ["--sheets", "3000", "--differences", "10000", "--sabotage", name];
+        let (_, text) = compare(&all);
         assert!(text.contains(", replay: ") && text.contains(" / by hand "), "{name}\n{text}");
     }
 }

@@ -46,6 +46,7 @@ pub mod traces;
 #[cfg(feature = "linked")]
 #[allow(unsafe_code)]
 mod whole;
+mod wrong_plan;
 mod wrong_replay;
 mod wrong_spread;
 mod wrong_sum;

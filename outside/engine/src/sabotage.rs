@@ -1,10 +1,12 @@
 //! Engines that are wrong in a named way, to show that the checks can fail.
 
+use crate::wrong_plan::{wrong_part, wrong_plan, wrong_step, wrong_target};
 use crate::wrong_replay::wrong_replay;
 use crate::wrong_spread::wrong_spread;
 use crate::wrong_sum::wrong_mean;
 use crate::{number, packed, Engine, Plan, Refusal, Settings};
-use reference::Round;
+use reference::{Round, AVERAGE, MEDIAN, MIDPOINT};
+use std::hash::{DefaultHasher, Hasher};
 
 /// Names, and what is wrong. The first `OF_THE_ROUND` are about the round itself.
 pub const SABOTAGES: &[(&str, &str)] = &[
@@ -17,8 +19,14 @@ pub const SABOTAGES: &[(&str, &str)] = &[
     ("middle-two", "the median averages the middle two"),
     ("all-readings", "the estimate is over all present readings"),
     ("truncate", "the mean is rounded towards zero, not down"),
+    ("half-up", "a half goes up"),
     ("half-down", "a half goes down"),
-    ("tick-off", "the new value is a tick high on a sheet whose bytes add up to an odd number"),
+    ("half-away", "a half goes away from zero"),
+    ("half-odd", "a half goes to the odd neighbour"),
+    ("half-negative", "a half goes up from an odd number above zero alone: -1 % 2 is not 1"),
+    ("average-even", "the average is rounded as the mean is"),
+    ("midpoint-even", "the midpoint is rounded as the mean is"),
+    ("tick-off", "the new value is a tick high on about half of the sheets"),
     ("span-wide", "a span may be a tick wider than the window"),
     ("highest", "the estimate is the highest accepted reading"),
     ("refuse-need", "a sheet with just N-m accepted readings is refused as too many faults"),
@@ -40,8 +48,12 @@ pub const SABOTAGES: &[(&str, &str)] = &[
     ("sum-readings", "the used values themselves are added up, and divided towards zero"),
     ("sum-present", "distances are from the lowest present reading, and the sum wraps at 32 bits"),
     ("sum-missing", "a missing or unaccepted reading has a distance of 0"),
-    ("sum-half-even", "a remainder goes up when it is above half of N, rounded down"),
-    ("sum-half-odd", "a remainder goes up when it is half of N, rounded down, or above"),
+    ("sum-quotient", "a half goes by the parity of the sum's whole part, not of the new value"),
+    ("sum-lowest", "a half goes by the parity of the lowest accepted reading"),
+    (
+        "sum-half-odd",
+        "half of an odd N is rounded down, and a remainder of so much taken for a half",
+    ),
     ("sum-back", "N times the lowest is added back to the sum, in 32 bits, before it is divided"),
     (
         "sum-end",
@@ -56,9 +68,23 @@ pub const SABOTAGES: &[(&str, &str)] = &[
     ("write-past", "the writer touches a byte past the sheet"),
     ("from-one", "rows are numbered from one"),
     ("repeat", "the plan repeats the first window"),
+    ("plan-one", "the plan's next window is 1 where m or the window is 0"),
+    (
+        "plan-ceiling",
+        "the plan's next window is the ceiling of 2mδ/N, or mδ/N, also where that is whole",
+    ),
+    ("plan-accuracy", "the plan's accuracy grows by the whole part of mδ/N plus one"),
     ("step-late", "a step after 32 rounds is granted"),
     ("step-wide", "a step does not narrow the window"),
+    ("step-one", "a step's next window is 1 where m or the window is 0"),
+    (
+        "step-ceiling",
+        "a step's next window is the ceiling of 2mδ/N, or mδ/N, also where that is whole",
+    ),
+    ("step-accuracy", "a step's accuracy grows by the whole part of mδ/N plus one"),
     ("target-short", "the target's count is one round too few"),
+    ("target-one", "the target is tried against a window of 1 where m or the window is 0"),
+    ("target-ceiling", "the target is tried against ceilings, also where 2mδ/N or mδ/N is whole"),
     ("spread-early", "16 is asked before 5"),
     ("spread-late", "16 is asked after 6"),
     ("spread-last", "16 is asked after 9"),
@@ -74,10 +100,9 @@ pub const SABOTAGES: &[(&str, &str)] = &[
     ("replay-wide", "a replay has the first window in every round"),
     ("replay-early", "a replay steps the window before the first round"),
     ("replay-late", "a replay steps the window a round late"),
-    (
-        "replay-tick",
-        "a replay's values are a tick high for a trace whose bytes add up to an odd number",
-    ),
+    ("replay-one", "a replay's next window is 1 where m or the window is 0"),
+    ("replay-ceiling", "a replay's next window is the ceiling of 2mδ/N, also where that is whole"),
+    ("replay-tick", "a replay's values are a tick high at cabinets of odd number"),
     ("replay-from-zero", "a replay's refusal 15 counts rounds from 0"),
     ("replay-highest", "a replay's refusal 15 names the highest cabinet"),
     ("replay-last", "a replay's refusal 15 names the last such round"),
@@ -96,7 +121,7 @@ pub const SABOTAGES: &[(&str, &str)] = &[
     ("replay-first", "a replay has the first readings of faulty cabinets in their places"),
 ];
 
-const OF_THE_ROUND: usize = 33;
+const OF_THE_ROUND: usize = 40;
 
 pub struct Sabotaged {
     engine: Box<dyn Engine>,
@@ -205,6 +230,9 @@ impl Engine for Sabotaged {
         if self.how == "repeat" && number(given) == 0 && rounds > 1 {
             plan.settings.window = reference::next_window(settings);
         }
+        if let (Some(part), 0) = (wrong_part(self.how, "plan"), number(given)) {
+            *plan = wrong_plan(part, settings, accuracy, rounds);
+        }
         given
     }
 
@@ -216,6 +244,9 @@ impl Engine for Sabotaged {
         if self.how == "step-wide" && number(given) == 0 {
             next.settings.window = plan.settings.window;
         }
+        if let (Some(part), 0) = (wrong_part(self.how, "step"), number(given)) {
+            *next = wrong_step(part, plan);
+        }
         given
     }
 
@@ -225,7 +256,11 @@ impl Engine for Sabotaged {
                 return fit[0].saturating_sub(1) as u64;
             }
         }
-        self.engine.target(settings, accuracy, target)
+        let given = self.engine.target(settings, accuracy, target);
+        match (wrong_part(self.how, "target"), number(given)) {
+            (Some(part), 0 | 12) => wrong_target(part, settings, target),
+            _ => given,
+        }
     }
 
     fn replay(&self, trace: &[u8], values: &mut [u8]) -> u64 {
@@ -281,12 +316,7 @@ fn wrong_round(how: &str, sheet: &[u8], spread: u32) -> Option<Result<Vec<u8>, R
     {
         return Some(Err(Refusal::new(10)));
     }
-    let estimate = match how {
-        "highest" => *values.iter().max().unwrap(),
-        "middle-two" if settings.estimator == reference::MEDIAN => middle_two(&values),
-        "all-readings" => reference::estimate(settings.estimator, &present),
-        _ => reference::estimate(settings.estimator, &values),
-    };
+    let estimate = wrong_estimate(how, settings.estimator, &values, &present);
     let mut marks = Vec::new();
     let mut used = Vec::new();
     for (v, &accepted) in readings.iter().zip(&accepted) {
@@ -298,22 +328,31 @@ fn wrong_round(how: &str, sheet: &[u8], spread: u32) -> Option<Result<Vec<u8>, R
         marks.push(mark);
         used.push(value);
     }
-    let (sum, n) = (used.iter().sum::<i64>(), n as i64);
     let mut round =
         Round { count: values.len(), estimate, new: reference::mean(&used), marks, used };
-    round.new = match how {
-        "truncate" => (2 * sum + n) / (2 * n),
-        "half-down" => -(n - 2 * sum).div_euclid(2 * n),
-        "tick-off" => {
-            let odd = sheet.iter().map(|&byte| byte as i64).sum::<i64>() % 2;
-            (round.new + odd).min(i32::MAX as i64)
-        }
-        _ => {
-            let span = settings.window as i64 + spread as i64;
-            wrong_mean(how, &round, &present, span).unwrap_or(round.new)
-        }
-    };
+    if how == "tick-off" {
+        let mut hasher = DefaultHasher::new();
+        hasher.write(sheet);
+        let tick = hasher.finish() % 2;
+        round.new = (round.new + tick as i64).min(i32::MAX as i64);
+    }
+    let span = settings.window as i64 + spread as i64;
+    round.new = wrong_mean(how, &round, &present, span).unwrap_or(round.new);
     Some(Ok(round.bytes()))
+}
+
+/// The estimate of a round with these accepted and these present readings, wrong in the named way.
+fn wrong_estimate(how: &str, estimator: u8, accepted: &[i64], present: &[i64]) -> i64 {
+    match (how, estimator) {
+        ("highest", _) => *accepted.iter().max().unwrap(),
+        ("middle-two", MEDIAN) => middle_two(accepted),
+        ("average-even", AVERAGE) => reference::mean(accepted),
+        ("midpoint-even", MIDPOINT) => {
+            reference::mean(&[*accepted.iter().min().unwrap(), *accepted.iter().max().unwrap()])
+        }
+        ("all-readings", _) => reference::estimate(estimator, present),
+        _ => reference::estimate(estimator, accepted),
+    }
 }
 
 fn wrong_acceptance(how: &str, settings: &Settings, spread: u32, present: &[i64], v: i64) -> bool {

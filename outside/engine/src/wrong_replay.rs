@@ -1,7 +1,8 @@
 //! Replays that are wrong in a named way: see `sabotage`.
 
+use crate::wrong_plan::{wrong_part, wrong_window};
 use crate::{number, packed, Engine, Refusal, Settings};
-use reference::{bytes_of, next_window, settle_readings, Trace, CCA, FCA, SOUND};
+use reference::{bytes_of, settle_readings, Trace, CCA, FCA, SOUND};
 
 /// The longest values, 4N bytes.
 const LONGEST: usize = 4 * 64;
@@ -52,25 +53,31 @@ fn wrong_end(how: &str, bytes: &[u8], given: u64, right: &[u8], values: &mut [u8
     Some(given)
 }
 
+/// The ways that are about the run.
+const WAYS: [&str; 12] = [
+    "replay-swapped",
+    "replay-at-once",
+    "replay-wide",
+    "replay-early",
+    "replay-late",
+    "replay-tick",
+    "replay-from-zero",
+    "replay-highest",
+    "replay-last",
+    "replay-first",
+    "replay-one",
+    "replay-ceiling",
+];
+
 /// The run of a trace, wrong in the named way; None when the way is not about the run.
 fn wrong_run(how: &str, trace: &Trace) -> Option<Result<Vec<i32>, Refusal>> {
-    const WAYS: [&str; 10] = [
-        "replay-swapped",
-        "replay-at-once",
-        "replay-wide",
-        "replay-early",
-        "replay-late",
-        "replay-tick",
-        "replay-from-zero",
-        "replay-highest",
-        "replay-last",
-        "replay-first",
-    ];
     if !WAYS.contains(&how) {
         return None;
     }
     let swapped = if how == "replay-swapped" { swapped(trace) } else { trace.clone() };
     let mut settings = trace.settings;
+    let next_window =
+        |settings: &Settings| wrong_window(wrong_part(how, "replay").unwrap_or(""), settings);
     if how == "replay-early" {
         settings.window = next_window(&settings);
     }

@@ -10,25 +10,51 @@ pub fn wrong_mean(how: &str, round: &Round, present: &[i64], span: i64) -> Optio
     let sum_from = |base: i64| used.iter().map(|v| v - base).sum::<i64>();
     let lowest = accepted().min()?;
     let sum = sum_from(lowest);
-    let by_remainder = |sum: i64| sum / n + (2 * (sum % n) >= n) as i64;
-    let towards_zero = |base: i64| base + by_remainder(sum_from(base));
-    let as_unsigned = |base: i64| base + by_remainder(sum_from(base) as u32 as i64);
+    let towards_zero = |base: i64| to_even(base, sum_from(base), n);
+    let as_unsigned = |base: i64| to_even(base, sum_from(base) as u32 as i64, n);
     let mean = match how {
-        "sum-cut" => lowest + by_remainder(sum.min(n * span)),
+        "truncate" => (2 * sum_from(0) + n) / (2 * n),
+        "sum-cut" => to_even(lowest, sum.min(n * span), n),
         "sum-unsigned" => as_unsigned(*estimate),
         "sum-estimate" => towards_zero(*estimate),
         "sum-first" => towards_zero(accepted().next()?),
         "sum-readings" => towards_zero(0),
         "sum-present" => as_unsigned(*present.iter().min()?),
-        "sum-missing" => lowest + by_remainder(accepted().map(|v| v - lowest).sum()),
-        "sum-half-even" => lowest + sum / n + (sum % n > n / 2) as i64,
-        "sum-half-odd" => lowest + sum / n + (sum % n >= n / 2) as i64,
-        "sum-back" => ((2 * (sum + n * lowest) + n) as i32 as i64).div_euclid(2 * n),
+        "sum-missing" => to_even(lowest, accepted().map(|v| v - lowest).sum(), n),
+        "sum-back" => {
+            let back = (sum + n * lowest) as i32 as i64;
+            to_even(back.div_euclid(n), back.rem_euclid(n), n)
+        }
         "sum-end" => {
             let up = (lowest + sum / n + 1).min(i32::MAX as i64);
-            up - (2 * (sum % n) < n) as i64
+            up - (to_even(lowest, sum, n) == lowest + sum / n) as i64
         }
-        _ => return None,
+        _ => wrong_half(how, lowest, sum, n)?,
     };
     Some(mean.clamp(i32::MIN as i64, i32::MAX as i64))
+}
+
+/// A sum of n distances divided, towards zero, and added to their base; a half goes to the even neighbour.
+fn to_even(base: i64, sum: i64, n: i64) -> i64 {
+    let whole = base + sum / n;
+    whole + (n < 2 * (sum % n) + (whole & 1)) as i64
+}
+
+/// The mean by distances from the lowest whose half goes the wrong way.
+fn wrong_half(how: &str, lowest: i64, sum: i64, n: i64) -> Option<i64> {
+    let (quotient, rest) = (sum / n, sum % n);
+    let whole = lowest + quotient;
+    let half = if how == "sum-half-odd" { n / 2 * 2 } else { n };
+    let half_goes_up = match how {
+        "half-up" => true,
+        "half-down" => false,
+        "half-away" => whole >= 0,
+        "half-odd" => whole % 2 == 0,
+        "half-negative" => whole % 2 == 1,
+        "sum-quotient" => quotient % 2 == 1,
+        "sum-lowest" => lowest % 2 != 0,
+        "sum-half-odd" => whole % 2 != 0,
+        _ => return None,
+    };
+    Some(whole + (2 * rest > half || (2 * rest == half && half_goes_up)) as i64)
 }

@@ -2,20 +2,24 @@
 //! cabinet reads the good ones in its own way, and the bad ones tell each of them anything.
 
 use crate::liars::{clamp, Aim, Liars, Reading};
-use crate::limits::{gap, GoodSets, Most};
-use crate::run::{draw_settings, hold, new_value, Tally};
+use crate::limits::{gap, Apart, GoodSets, Most};
+use crate::run::{draw_settings, hold, hold_ceiling, new_value, Tally, ODD_CABLES};
 use engine::{words, Engine, Settings};
 use random::Random;
 use reference::{FCA, MEDIAN};
 
-/// N, m, δ and D with which m liars can reach both limits exactly. The first is document 02's.
-pub const EXAMPLES: [(u8, u8, u32, u32); 5] = [
+/// N, m, δ and D with which m liars can reach both limits exactly, but for the odd N, whose gap ends at the
+/// ceiling. The first is document 02's; with the other even N the quotient is whole and odd.
+pub const EXAMPLES: [Example; 6] = [
     (4, 1, 1, 2),
-    (4, 1, 100_000, 100_000),
+    (4, 1, 0, 2),
+    (4, 1, 100_002, 100_000),
     (7, 2, 167_000, 1_000),
-    (16, 5, 16_000, 160),
+    (16, 5, 16_008, 160),
     (64, 21, 1_000_000, 100_000),
 ];
+
+type Example = (u8, u8, u32, u32);
 
 /// How the good cabinets are read.
 #[derive(Clone, Copy)]
@@ -49,8 +53,15 @@ pub struct Cables {
     united: bool,
 }
 
-pub fn example((n, m, window, spread): (u8, u8, u32, u32)) -> (Settings, u32) {
+pub fn example((n, m, window, spread): Example) -> (Settings, u32) {
     (Settings { n, m, rule: FCA, estimator: MEDIAN, window }, spread)
+}
+
+/// What m liars can reach.
+pub fn exact_example(row: Example) -> Most {
+    let ((settings, spread), t) = (example(row), row.1 as usize);
+    let gap = Apart::with_cables(&settings, spread, t).exact();
+    Most::of_cables(&settings, spread, t, gap)
 }
 
 /// Which of `EXAMPLES` these are.
@@ -184,6 +195,8 @@ impl Cables {
             let met = Most { gap: gap(values), error: error.unwrap_or(start) - start };
             hold(tally, 20, met.gap, most.gap, 0);
             hold(tally, 21, start + met.error, start + most.error, start);
+            let apart = Apart::with_cables(&self.settings, self.spread, set.t);
+            hold_ceiling(tally, ODD_CABLES, met.gap, apart);
             let by_lemma_16 = Most::by_lemma_16(&self.settings, self.spread, set.t);
             tally.past_lemma_16 += (met.gap > by_lemma_16.gap) as u64;
             self.count_example(set.t, met, tally);
@@ -312,7 +325,7 @@ mod tests {
             Cables::draw(&random).round(&random, &Reference, limits, &mut tally, false);
         }
         assert!(tally.settled_with_cables > 800 && tally.refused_with_cables == 0);
-        [tally.met[20].broken, tally.met[21].broken]
+        [20, 21].map(|limit| tally.met.0[limit].broken)
     }
 
     #[test]
@@ -334,6 +347,22 @@ mod tests {
             Most { gap: most.gap - 1, error: most.error - 1 }
         });
         assert!(gap > 20 && error > 20, "finds no tick: {gap} {error}");
+    }
+
+    /// The limit before paper 4, which an odd N keeps.
+    #[test]
+    fn the_ceiling_is_broken_by_an_even_number() {
+        let even = broken(|settings, spread, t| {
+            let apart = Apart::with_cables(settings, spread, t);
+            let gap = if settings.n % 2 == 0 { apart.ceiling() } else { apart.limit() };
+            Most::of_cables(settings, spread, t, gap)
+        });
+        assert!(even[0] > 20 && even[1] == 0, "by the ceiling: {even:?}");
+        let exact = broken(|settings, spread, t| {
+            let gap = Apart::with_cables(settings, spread, t).exact();
+            Most::of_cables(settings, spread, t, gap)
+        });
+        assert_eq!(exact, [0, 0], "the exact gap is the ceiling for an odd N");
     }
 
     #[test]

@@ -98,7 +98,7 @@ impl<'a> Liars<'a> {
 
     /// What united liars say.
     fn one_lie(&self, low: bool) -> i32 {
-        let beside = self.random.pick(&[0, 0, 0, 0, 1, -1]);
+        let beside = self.random.pick(&[0, 0, 0, 0, 0, 0, 0, 0, 1, -1]);
         clamp(self.edge(low, self.number_of_faulty()) + beside)
     }
 

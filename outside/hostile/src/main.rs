@@ -1,10 +1,12 @@
 //! A hostile station: runs of up to 32 rounds with lying and two-faced cabinets, against the
-//! limits for sound cabinets of document 01. Its FCA runs are replayed too, as paper 1 of document 02 says,
-//! and after each run comes a round with cables that differ, as paper 2 says. Each settled sheet is held to the
-//! limits of paper 3's sum.
+//! limits for sound cabinets of document 01, as paper 4 of document 02 rewrites them. Its FCA runs are replayed too,
+//! as paper 1 says, and after each run comes a round with cables that differ, as paper 2 says. Each settled sheet is
+//! held to the limits of paper 3's sum.
 #![forbid(unsafe_code)]
 
 mod cables;
+#[cfg(test)]
+mod every_n;
 mod liars;
 mod limits;
 mod run;
@@ -13,12 +15,12 @@ mod small_rounds;
 mod sums;
 mod tape;
 
-use cables::{example, Cables, EXAMPLES};
+use cables::{exact_example, example, Cables, EXAMPLES};
 use engine::sabotage::Sabotaged;
 use engine::Engine;
 use limits::{Met, Most};
 use random::Random;
-use run::{question, Run, Tally, LIMITS, QUESTION, WINDOWS};
+use run::{Question, Run, Tally, LIMITS, QUESTIONS};
 use std::process::ExitCode;
 use std::time::Instant;
 
@@ -149,10 +151,29 @@ fn report(tally: &Tally) {
         tally.wrong_means
     );
     println!(
+        "{} gaps past the ceiling of the quotient, with an even N",
+        tally.past_ceiling.iter().sum::<u64>()
+    );
+    println!(
+        "{} rounds with t ≤ m after which all are to be alike, {} after which they are not",
+        tally.alike.iter().sum::<u64>(),
+        tally.not_alike.iter().sum::<u64>()
+    );
+    limits(tally);
+    for (question, answers) in QUESTIONS.iter().zip(&tally.answers) {
+        answer(question, answers);
+    }
+    with_cables(tally);
+    with_distances(tally);
+}
+
+/// How close each limit was met.
+fn limits(tally: &Tally) {
+    println!(
         "{:38} {:>8} {:>8} {:>8} {:>8} {:>8} {:>8}",
         "limit", "held", "share", "large", "reached", "largest", "broken"
     );
-    for (name, met) in LIMITS.iter().zip(&tally.met) {
+    for (name, met) in LIMITS.iter().zip(&tally.met.0) {
         let Met { times, share, share_of_large, reached, largest, broken } = met;
         println!(
             "{name:38} {times:>8} {share:>8.3} {share_of_large:>8.3} {reached:>8} {largest:>8} \
@@ -168,9 +189,8 @@ fn report(tally: &Tally) {
         "An error counts by its growth past the starting κ. Limits of 0 are held, not counted."
     );
     println!("A sum's limit is N+m-1 spans, the exact one, and 2N spans, document 02's, which none reaches.");
-    answer(tally);
-    with_cables(tally);
-    with_distances(tally);
+    println!("odd N    the ceiling of the quotient, where document 02 has its whole part plus one");
+    println!("half     the exact limits where (m+t)δ/N is a half");
 }
 
 /// The greatest sums of distances that were met with cables, beside the limits.
@@ -195,8 +215,8 @@ fn with_distances(tally: &Tally) {
 fn with_cables(tally: &Tally) {
     println!("Cables that differ by D, m bad, one round, in ticks; the error is past κ");
     println!(
-        "{:>3} {:>3} {:>9} {:>9} {:>9} {:>9} {:>9} {:>9} {:>9}",
-        "N", "m", "window", "D", "gap met", "limit", "Lemma 16", "error met", "limit"
+        "{:>3} {:>3} {:>9} {:>9} {:>9} {:>9} {:>9} {:>9} {:>9} {:>9}",
+        "N", "m", "window", "D", "gap met", "exact", "limit", "Lemma 16", "error met", "limit"
     );
     for (row, met) in EXAMPLES.into_iter().zip(&tally.examples) {
         let (n, m, window, spread) = row;
@@ -205,8 +225,11 @@ fn with_cables(tally: &Tally) {
         let paper = Most::by_lemma_16(&settings, spread, t);
         let [gap, error] = in_figures(met);
         println!(
-            "{n:>3} {m:>3} {window:>9} {spread:>9} {gap:>9} {:>9} {:>9} {error:>9} {:>9}",
-            limit.gap, paper.gap, limit.error
+            "{n:>3} {m:>3} {window:>9} {spread:>9} {gap:>9} {:>9} {:>9} {:>9} {error:>9} {:>9}",
+            exact_example(row).gap,
+            limit.gap,
+            paper.gap,
+            limit.error
         );
     }
 }
@@ -219,17 +242,17 @@ fn in_figures(met: &Option<Most>) -> [String; 2] {
     }
 }
 
-/// The regulator's question: what was met beside the exact limits and document 01's.
-fn answer(tally: &Tally) {
-    let (n, m, t) = QUESTION;
+/// What was met of a question beside the exact limits and the documents'.
+fn answer(question: &Question, answers: &[Option<Most>]) {
+    let Question { n, m, t, .. } = *question;
     println!("N {n}, m {m}, {t} bad, the first round, in ticks; the error is past κ");
     println!(
         "{:>9} {:>9} {:>9} {:>9} {:>9} {:>9} {:>9}",
         "window", "gap met", "exact", "document", "error met", "exact", "document"
     );
-    for (&window, met) in WINDOWS.iter().zip(&tally.answer) {
-        let (exact, document) =
-            (Most::exact(&question(window), t), Most::document(&question(window), t));
+    for (&window, met) in question.windows.iter().zip(answers) {
+        let settings = question.settings(window);
+        let (exact, document) = (Most::exact(&settings, t), Most::document(&settings, t));
         let [gap, error] = in_figures(met);
         println!(
             "{window:>9} {gap:>9} {:>9} {:>9} {error:>9} {:>9} {:>9}",

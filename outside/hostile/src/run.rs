@@ -1,8 +1,8 @@
 //! One run, as document 01 writes it out: a start, then rounds of sending, sheets and settling.
 
-use crate::cables::{example, EXAMPLES};
+use crate::cables::{exact_example, example, EXAMPLES};
 use crate::liars::{clamp, outermost, Aim, Liars, Reading};
-use crate::limits::{gap, good_sets, GoodSets, Met, Most};
+use crate::limits::{gap, good_sets, is_half, Apart, GoodSets, Met, Most};
 use crate::sums;
 use crate::tape::{End, Heard, Tape};
 use engine::{number, words, Engine, Plan, Settings};
@@ -10,7 +10,7 @@ use random::Random;
 use reference::{AVERAGE, CCA, FCA, MEDIAN};
 
 /// The limits, by name. Each is counted apart.
-pub const LIMITS: [&str; 26] = [
+pub const LIMITS: [&str; 36] = [
     "t ≤ m    gap   round 1  FCA",
     "t ≤ m    gap   round 1  CCA, median",
     "t ≤ m    gap   round 1  CCA, others",
@@ -37,19 +37,78 @@ pub const LIMITS: [&str; 26] = [
     "any t    sum   exact    FCA",
     "any t    sum   exact    CCA",
     "any t    sum   exact    cables",
+    "t ≤ m    gap   odd N    FCA",
+    "t ≤ m    gap   odd N    CCA, median",
+    "t ≤ m    gap   odd N    CCA, others",
+    "m < t    gap   odd N    FCA",
+    "m < t    gap   odd N    CCA",
+    "t ≤ m    gap   odd N    cables",
+    "m < t    gap   half     FCA",
+    "m < t    gap   half     CCA",
+    "m < t    error half     FCA",
+    "m < t    error half     CCA",
 ];
 
-/// The regulator's question: three of seven bad, planned for two, at these windows.
-pub const QUESTION: (u8, u8, usize) = (7, 2, 3);
-pub const WINDOWS: [u32; 6] = [2, 7, 1_677, 16_777, 167_772, 1_000_000];
+/// Where the limits by the ceiling begin, which an odd N keeps: for t ≤ m one for each kind of run, for m < t
+/// one for each rule, one with cables.
+const ODD: usize = 26;
+const ODD_WIDE: usize = 3;
+pub const ODD_CABLES: usize = 5;
+
+/// Where the exact limits begin, again, of (m+t)δ/N that is a half.
+const HALF_GAP: usize = 32;
+const HALF_ERROR: usize = 34;
+
+/// The ceilings that an even N passes, by what comes after `ODD`. Of CCA with average or midpoint no round is known
+/// that does.
+const PASSED: [(usize, &str); 5] = [
+    (0, "t ≤ m    a gap past the ceiling, FCA"),
+    (1, "t ≤ m    a gap past the ceiling, CCA, median"),
+    (ODD_WIDE, "m < t    a gap past the ceiling, FCA"),
+    (ODD_WIDE + 1, "m < t    a gap past the ceiling, CCA"),
+    (ODD_CABLES, "t ≤ m    a gap past the ceiling, cables"),
+];
+
+/// More bad ones than planned for, at some windows.
+pub struct Question {
+    pub n: u8,
+    pub m: u8,
+    pub t: usize,
+    pub windows: [u32; 6],
+}
+
+/// The regulator's, three of seven; and four of eight, most of whose windows make halves.
+pub const QUESTIONS: [Question; 2] = [
+    Question { n: 7, m: 2, t: 3, windows: [2, 7, 1_677, 16_777, 167_772, 1_000_000] },
+    Question { n: 8, m: 2, t: 4, windows: [1, 2, 6, 1_678, 167_774, 999_998] },
+];
+
+impl Question {
+    pub fn settings(&self, window: u32) -> Settings {
+        Settings { n: self.n, m: self.m, rule: FCA, estimator: MEDIAN, window }
+    }
+
+    fn asks(&self, settings: &Settings, t: usize) -> bool {
+        (self.n, self.m, self.t) == (settings.n, settings.m, t)
+    }
+}
+
+/// How close each of `LIMITS` was met.
+pub struct AllMet(pub [Met; LIMITS.len()]);
+
+impl Default for AllMet {
+    fn default() -> AllMet {
+        AllMet([Met::default(); LIMITS.len()])
+    }
+}
 
 #[derive(Default)]
 pub struct Tally {
-    pub met: [Met; 26],
-    /// The greatest gap, and the greatest error past κ, that were met at each of `WINDOWS`.
-    pub answer: [Option<Most>; 6],
+    pub met: AllMet,
+    /// The greatest gap, and the greatest error past κ, that were met at the windows of each of `QUESTIONS`.
+    pub answers: [[Option<Most>; 6]; 2],
     /// The same for each of `EXAMPLES`, whose cables differ.
-    pub examples: [Option<Most>; 5],
+    pub examples: [Option<Most>; EXAMPLES.len()],
     pub few_bad: u64,
     pub many_bad: u64,
     pub rounds: u64,
@@ -81,7 +140,13 @@ pub struct Tally {
     /// How often a sum of distances passed N spans.
     pub past_n_spans: u64,
     /// The greatest sum that was met for each of `EXAMPLES`.
-    pub sums: [u32; 5],
+    pub sums: [u32; EXAMPLES.len()],
+    /// How often, with an even N, a gap passed each ceiling.
+    pub past_ceiling: [u64; 6],
+    /// Where t ≤ m: rounds after which all are planned to be alike, for m is 0, or the window; and those after
+    /// which they are not.
+    pub alike: [u64; 2],
+    pub not_alike: [u64; 2],
     /// What was broken first.
     pub first: Option<String>,
 }
@@ -96,7 +161,7 @@ impl Tally {
     /// Everything that the station is to show and did not.
     pub fn faults(&self) -> Vec<String> {
         let mut faults = Vec::new();
-        for (limit, (name, met)) in LIMITS.iter().zip(&self.met).enumerate() {
+        for (limit, (name, met)) in LIMITS.iter().zip(&self.met.0).enumerate() {
             match met {
                 Met { broken: 1.., .. } => faults.push(format!("broken: {name}")),
                 Met { times: 0, .. } => faults.push(format!("never held: {name}")),
@@ -106,7 +171,20 @@ impl Tally {
                 _ => {}
             }
         }
-        let counted = [
+        for (times, broken, name) in self.counted() {
+            match (times, broken) {
+                (_, 1..) => faults.push(format!("broken: {name}")),
+                (0, _) => faults.push(format!("never held: {name}")),
+                _ => {}
+            }
+        }
+        self.table_faults(&mut faults);
+        faults
+    }
+
+    /// What is counted beside the limits: how often it was seen, how often it was broken, and its name.
+    fn counted(&self) -> Vec<(u64, u64, &'static str)> {
+        let mut counted = vec![
             (self.few_settled, self.few_refused, "t ≤ m    no sound cabinet refuses"),
             (self.plans, self.wrong_plans, "the planner's windows and accuracies"),
             (self.few_replays, self.few_refused_replays, "t ≤ m    no replay is refused"),
@@ -121,35 +199,33 @@ impl Tally {
             (self.past_lemma_16, 0, "a gap past Lemma 16, cables"),
             (self.settled, self.wrong_means, "a new value is the mean by distances"),
             (self.past_n_spans, 0, "a sum past N spans"),
+            (self.alike[0], self.not_alike[0], "t ≤ m    all are alike, m 0"),
+            (self.alike[1], self.not_alike[1], "t ≤ m    all are alike, window 0"),
         ];
-        for (times, broken, name) in counted {
-            match (times, broken) {
-                (_, 1..) => faults.push(format!("broken: {name}")),
-                (0, _) => faults.push(format!("never held: {name}")),
-                _ => {}
-            }
-        }
-        for (window, met) in WINDOWS.iter().zip(&self.answer) {
-            if *met != Some(Most::exact(&question(*window), QUESTION.2)) {
-                faults.push(format!("three of seven, window {window}: the exact limits not met"));
+        counted.extend(PASSED.map(|(ceiling, name)| (self.past_ceiling[ceiling], 0, name)));
+        counted
+    }
+
+    /// What the tables are to show.
+    fn table_faults(&self, faults: &mut Vec<String>) {
+        for (question, answers) in QUESTIONS.iter().zip(&self.answers) {
+            let Question { n, t, .. } = question;
+            for (&window, met) in question.windows.iter().zip(answers) {
+                if *met != Some(Most::exact(&question.settings(window), *t)) {
+                    faults.push(format!("{t} of {n}, window {window}: the exact limits not met"));
+                }
             }
         }
         for (i, row) in EXAMPLES.into_iter().enumerate() {
             let (settings, spread) = example(row);
-            if self.examples[i] != Some(Most::with_cables(&settings, spread, settings.m as usize)) {
+            if self.examples[i] != Some(exact_example(row)) {
                 faults.push(format!("cables {row:?}: the limits not met"));
             }
             if self.sums[i] != settings.greatest_sum(settings.window + spread) {
                 faults.push(format!("cables {row:?}: the greatest sum not met"));
             }
         }
-        faults
     }
-}
-
-/// The settings of the regulator's question.
-pub fn question(window: u32) -> Settings {
-    Settings { n: QUESTION.0, m: QUESTION.1, rule: FCA, estimator: MEDIAN, window }
 }
 
 pub struct Run {
@@ -170,8 +246,9 @@ impl Run {
     /// Settings, faulty cabinets and first readings.
     pub fn draw(random: &Random) -> Run {
         match random.below(100) {
-            0..=9 => return Run::draw_sharp(random),
-            10..=12 => return Run::draw_close(random),
+            0..=11 => return Run::draw_sharp(random),
+            12..=16 => return Run::draw_close(random),
+            17..=19 => return Run::draw_alike(random),
             _ => {}
         }
         let settings = draw_settings(random);
@@ -210,29 +287,55 @@ impl Run {
     fn draw_sharp(random: &Random) -> Run {
         let (settings, t) = draw_sharp_settings(random);
         let w = settings.window as i64;
-        let k = settings.need() - t;
-        let base = random.pick(&[0, 0, i32::MIN as i64 + w, i32::MAX as i64 - 2 * w]);
-        let reading = |i: usize| match i {
-            i if i < k => base,
-            i if i < 2 * k || w < 2 => base + w,
-            _ => base + random.between(1, w - 1),
-        };
-        let mut cabinets: Vec<(bool, Reading)> = Vec::new();
-        cabinets.extend((0..settings.n as usize - t).map(|i| (false, Some(clamp(reading(i))))));
-        cabinets.extend((0..t).map(|_| (true, None)));
+        let good = sharp(&settings, t, || random.between(1, w - 1));
         let accuracy = random.pick(&[(w + 1) / 2, w, 1_000_000_000]);
-        Run::shuffled(random, settings, accuracy, cabinets, 1, true)
+        Run::against_united(random, settings, accuracy, random.between(0, 1), &good, 1)
     }
 
-    /// A round that reaches the next window of CCA with average, where the liar's row is decided
-    /// at one cabinet and not at another.
+    /// A round that reaches the next window. By CCA the liar's row is decided at one cabinet and not at
+    /// another.
     fn draw_close(random: &Random) -> Run {
-        let settings = Settings { n: 4, m: 1, rule: CCA, estimator: AVERAGE, window: 4 };
-        let base = random.pick(&[0, 0, i32::MIN as i64 + 4, i32::MAX as i64 - 8]);
+        let (n, rule, estimator, window, good) = random.pick(&CLOSE);
+        let settings = Settings { n, m: 1, rule, estimator, window };
+        Run::against_united(random, settings, random.between(2, 5), 0, good, 3)
+    }
+
+    /// A round that passes the ceiling of 2mδ/N, which is whole, and often odd: all good ones hold the same,
+    /// the liars say δ less to one cabinet and δ more to another, and both means are halves.
+    fn draw_alike(random: &Random) -> Run {
+        let n = 2 * random.between(2, random.pick(&[6, 32]));
+        let m = random.between(1, (n - 1) / 3);
+        let whole = (1..=n).find(|w| 2 * m * w % n == 0).unwrap_or(n);
+        let odd = 2 * random.between(0, random.pick(&[3, 7_000])) + 1;
+        let settings = Settings {
+            n: n as u8,
+            m: m as u8,
+            rule: FCA,
+            estimator: random.below(3) as u8,
+            window: (whole * odd) as u32,
+        };
+        let good = vec![0; (n - m) as usize];
+        Run::against_united(random, settings, random.between(0, 5), random.between(0, 1), &good, 2)
+    }
+
+    /// Good cabinets that hold these readings above a base of that parity, sometimes so that lies just fit beside
+    /// them into 32 bits; all others are liars that act as one.
+    fn against_united(
+        random: &Random,
+        settings: Settings,
+        accuracy: i64,
+        parity: i64,
+        good: &[i64],
+        rounds: u32,
+    ) -> Run {
+        let w = settings.window as i64;
+        let (low, high) = (i32::MIN as i64 + w, i32::MAX as i64 - 2 * w);
+        let other = |end: i64| (end - parity).rem_euclid(2);
+        let base = random.pick(&[parity, parity, low + other(low), high - other(high)]);
         let mut cabinets: Vec<(bool, Reading)> = Vec::new();
-        cabinets.extend([0, 2, 2].map(|v| (false, Some(clamp(base + v)))));
-        cabinets.push((true, None));
-        Run::shuffled(random, settings, random.between(2, 5), cabinets, 3, true)
+        cabinets.extend(good.iter().map(|v| (false, Some(clamp(base + v)))));
+        cabinets.resize(settings.n as usize, (true, None));
+        Run::shuffled(random, settings, accuracy, cabinets, rounds, true)
     }
 
     fn shuffled(
@@ -285,21 +388,9 @@ impl Run {
             if let Some(tape) = &mut tape {
                 tape.record(round, &heard, &self.held);
             }
-            let next_window = reference::next_window(&settings) as i64;
-            let next_accuracy = reference::next_accuracy(&settings, plan.accuracy) as i64;
             let values = self.values();
-            let gap = gap(&values);
-            let kind = self.kind();
             if few_bad {
-                let late = (round > 1) as usize;
-                hold(tally, 3 * late + kind, gap, next_window, 0);
-                for set in &few {
-                    for &value in &values {
-                        let error = set.error(value, start as i64);
-                        let limit = 6 + 2 * late + (kind > 0) as usize;
-                        hold(tally, limit, error, next_accuracy, start as i64);
-                    }
-                }
+                self.planned_limits(tally, &plan, &few, &values);
             }
             if round == 1 {
                 self.wide_limits(tally, &sets, &values);
@@ -332,27 +423,64 @@ impl Run {
         sound.filter_map(|c| self.held[c]).map(i64::from).collect()
     }
 
-    /// Good sets with m < t < N-m, first round: the exact limits, and document 01's.
+    /// Good sets with t ≤ m, after a round that this plan is for: the next window and the planned accuracy.
+    fn planned_limits(&self, tally: &mut Tally, plan: &Plan, few: &[GoodSets], values: &[i64]) {
+        let start = self.accuracy as i64;
+        let (kind, late) = (self.kind(), (plan.rounds > 0) as usize);
+        let next_window = reference::next_window(&plan.settings) as i64;
+        let next_accuracy = reference::next_accuracy(&plan.settings, plan.accuracy) as i64;
+        let gap = gap(values);
+        hold(tally, 3 * late + kind, gap, next_window, 0);
+        hold_ceiling(tally, kind, gap, Apart::planned(&plan.settings));
+        if next_window == 0 && values.len() > 1 {
+            let cause = (self.settings.m > 0) as usize;
+            tally.alike[cause] += 1;
+            tally.not_alike[cause] += (gap > 0) as u64;
+        }
+        for set in few {
+            for &value in values {
+                let limit = 6 + 2 * late + (kind > 0) as usize;
+                hold(tally, limit, set.error(value, start), next_accuracy, start);
+            }
+        }
+    }
+
+    /// Good sets with m < t < N-m, first round: the exact limits, and the documents'.
     fn wide_limits(&self, tally: &mut Tally, sets: &[GoodSets], values: &[i64]) {
-        let Settings { n, m, window, .. } = self.settings;
         let start = self.accuracy as i64;
         let crusaders = (self.kind() > 0) as usize;
         let gap = gap(values);
-        for set in sets.iter().filter(|set| set.t > m as usize) {
+        for set in sets.iter().filter(|set| set.t > self.settings.m as usize) {
             let document = Most::document(&self.settings, set.t);
             let exact = Most::exact(&self.settings, set.t);
+            let half = is_half(&self.settings, set.t);
             hold(tally, 10 + crusaders, gap, document.gap, 0);
             hold(tally, 14 + crusaders, gap, exact.gap, 0);
+            hold_ceiling(tally, ODD_WIDE + crusaders, gap, Apart::wide(&self.settings, set.t));
+            if half {
+                hold(tally, HALF_GAP + crusaders, gap, exact.gap, 0);
+            }
             for &value in values {
                 let error = set.error(value, start);
                 hold(tally, 12 + crusaders, error, start + document.error, start);
                 hold(tally, 16 + crusaders, error, start + exact.error, start);
+                if half {
+                    hold(tally, HALF_ERROR + crusaders, error, start + exact.error, start);
+                }
             }
-            let asked = WINDOWS.iter().position(|&w| w == window);
-            if let (Some(row), true) = (asked, (n, m, set.t) == QUESTION) {
-                let error = values.iter().map(|&v| set.error(v, start) - start).max().unwrap_or(0);
-                let met = tally.answer[row].get_or_insert(Most { gap, error });
-                *met = met.or_greater(gap, error);
+            self.count_answer(tally, set, values);
+        }
+    }
+
+    fn count_answer(&self, tally: &mut Tally, set: &GoodSets, values: &[i64]) {
+        let start = self.accuracy as i64;
+        let error = values.iter().map(|&v| set.error(v, start) - start).max().unwrap_or(0);
+        let met = Most { gap: gap(values), error };
+        for (question, answers) in QUESTIONS.iter().zip(&mut tally.answers) {
+            let asked = question.windows.iter().position(|&w| w == self.settings.window);
+            if let (Some(row), true) = (asked, question.asks(&self.settings, set.t)) {
+                let most = answers[row].get_or_insert(met);
+                *most = most.or_greater(met.gap, met.error);
             }
         }
     }
@@ -463,9 +591,18 @@ impl Run {
 
 /// Holds a limit. What is counted is the part of it past `from`.
 pub fn hold(tally: &mut Tally, limit: usize, used: i64, most: i64, from: i64) {
-    tally.met[limit].count(used - from, most - from);
+    tally.met.0[limit].count(used - from, most - from);
     if used > most {
         tally.broken(|| format!("{}: {used}, and the limit is {most}", LIMITS[limit]));
+    }
+}
+
+/// Holds a gap to the ceiling where N is odd, and counts where an even N passes it.
+pub fn hold_ceiling(tally: &mut Tally, ceiling: usize, gap: i64, apart: Apart) {
+    if apart.n % 2 == 1 {
+        hold(tally, ODD + ceiling, gap, apart.ceiling(), 0);
+    } else {
+        tally.past_ceiling[ceiling] += (gap > apart.ceiling()) as u64;
     }
 }
 
@@ -532,19 +669,44 @@ pub fn draw_settings(random: &Random) -> Settings {
     }
 }
 
-/// Settings with N ≤ 2m+t and t of m < t < N-m: most often those of the regulator's question.
+/// N, rule, estimator and window, one liar, and what the others hold. With N 4 the means are halves, which go apart
+/// where the base is even; the first two then pass the ceiling.
+const CLOSE: [(u8, u8, u8, u32, &[i64]); 4] = [
+    (4, FCA, MEDIAN, 2, &[0, 1, 2]),
+    (4, CCA, MEDIAN, 4, &[0, 0, 2]),
+    (4, CCA, AVERAGE, 3, &[0, 1, 1]),
+    (5, CCA, AVERAGE, 5, &[0, 2, 2, 2]),
+];
+
+/// What the good ones hold where t are bad, N ≤ 2m+t, and liars reach the exact limits: with k = N-m-t, k hold
+/// 0, k hold δ, and the others what is given, between these, or δ where nothing is.
+pub fn sharp(settings: &Settings, t: usize, between: impl Fn() -> i64) -> Vec<i64> {
+    let w = settings.window as i64;
+    let k = settings.need() - t;
+    let reading = |i: usize| match i {
+        i if i < k => 0,
+        i if i < 2 * k || w < 2 => w,
+        _ => between(),
+    };
+    (0..settings.n as usize - t).map(reading).collect()
+}
+
+/// Settings with N ≤ 2m+t and t of m < t < N-m: most often those of a question.
 fn draw_sharp_settings(random: &Random) -> (Settings, usize) {
     let rule = random.pick(&[FCA, CCA]);
-    if random.percent(40) {
-        return (Settings { rule, ..question(random.pick(&WINDOWS)) }, QUESTION.2);
+    if random.percent(50) {
+        let question = &QUESTIONS[random.below(2)];
+        let window = random.pick(&question.windows);
+        return (Settings { rule, ..question.settings(window) }, question.t);
     }
     let n = if random.percent(80) { random.between(4, 13) } else { random.between(14, 64) };
     let m = random.between(1, (n - 1) / 3);
     let t = random.between((m + 1).max(n - 2 * m), n - m - 1);
-    let window = match random.below(4) {
+    let window = match random.below(5) {
         0 => random.between(1, 30),
         1 => n * random.between(1, 15_000),
         2 => random.between(1, 2000),
+        3 => (n + 1) / 2 * (2 * random.between(0, 7_000) + 1),
         _ => random.between(1, 1_000_000),
     };
     let window = window as u32;

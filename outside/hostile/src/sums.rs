@@ -49,7 +49,7 @@ mod tests {
         let answer = settle_readings(&settings, 0, &readings).unwrap().bytes();
         let mut tally = Tally::default();
         hold_sum(&mut tally, &Settings { m, ..settings }, None, &answer);
-        let met = tally.met[EXACT_FCA];
+        let met = tally.met.0[EXACT_FCA];
         assert_eq!((tally.past_n_spans, tally.wrong_means), (1, 0));
         [met.reached, met.broken]
     }

@@ -4,7 +4,7 @@
 use std::process::Command;
 
 /// All that the station holds, in the words of its report.
-const HELD: [&str; 36] = [
+const HELD: [&str; 53] = [
     "t ≤ m    gap   round 1  FCA",
     "t ≤ m    gap   round 1  CCA, median",
     "t ≤ m    gap   round 1  CCA, others",
@@ -41,6 +41,23 @@ const HELD: [&str; 36] = [
     "any t    sum   exact    cables",
     "a new value is the mean by distances",
     "a sum past N spans",
+    "t ≤ m    gap   odd N    FCA",
+    "t ≤ m    gap   odd N    CCA, median",
+    "t ≤ m    gap   odd N    CCA, others",
+    "m < t    gap   odd N    FCA",
+    "m < t    gap   odd N    CCA",
+    "t ≤ m    gap   odd N    cables",
+    "m < t    gap   half     FCA",
+    "m < t    gap   half     CCA",
+    "m < t    error half     FCA",
+    "m < t    error half     CCA",
+    "t ≤ m    all are alike, m 0",
+    "t ≤ m    all are alike, window 0",
+    "t ≤ m    a gap past the ceiling, FCA",
+    "t ≤ m    a gap past the ceiling, CCA, median",
+    "m < t    a gap past the ceiling, FCA",
+    "m < t    a gap past the ceiling, CCA",
+    "t ≤ m    a gap past the ceiling, cables",
 ];
 
 fn hostile(words: &[&str]) -> (Option<i32>, String) {
@@ -72,9 +89,9 @@ fn a_station_without_runs_fails() {
     for limit in HELD {
         assert!(text.lines().any(|line| line == format!("never held: {limit}")), "{limit}\n{text}");
     }
-    assert_eq!(text.matches("the exact limits not met").count(), 6, "{text}");
-    assert_eq!(text.matches("): the limits not met").count(), 5, "{text}");
-    assert_eq!(text.matches("): the greatest sum not met").count(), 5, "{text}");
+    assert_eq!(text.matches("the exact limits not met").count(), 12, "{text}");
+    assert_eq!(text.matches("): the limits not met").count(), 6, "{text}");
+    assert_eq!(text.matches("): the greatest sum not met").count(), 6, "{text}");
 }
 
 #[test]
@@ -89,8 +106,9 @@ fn a_station_that_reaches_too_little_fails() {
 fn each_limit_finds_a_tick() {
     let (runs, others) = HELD[..22].split_at(18);
     let (replays, cables) = others.split_at(2);
+    let of_paper_4 = &HELD[36..46];
     for (sabotage, limits) in
-        [("tick-off", [runs, cables].concat()), ("replay-tick", replays.into())]
+        [("tick-off", [runs, cables, of_paper_4].concat()), ("replay-tick", replays.into())]
     {
         let found = broken(sabotage);
         for limit in limits {
@@ -99,8 +117,8 @@ fn each_limit_finds_a_tick() {
     }
 }
 
-/// An engine that refuses where t ≤ m, one whose plan does not narrow, and one whose estimate is
-/// no median, each by the limit that it breaks.
+/// An engine that refuses where t ≤ m, those whose plan is another, and one whose estimate is no median, each by the
+/// limit that it breaks.
 #[test]
 fn refusals_plans_and_medians_are_held() {
     let names = |sabotage: &str, limit: &str| {
@@ -108,20 +126,26 @@ fn refusals_plans_and_medians_are_held() {
         assert!(found.iter().any(|name| name == limit), "{sabotage}, {limit}: {found:?}");
     };
     names("refuse-need", HELD[22]);
-    names("step-wide", HELD[23]);
+    for name in ["step-wide", "step-one", "step-ceiling", "step-accuracy"] {
+        names(name, HELD[23]);
+    }
     names("highest", HELD[1]);
     names("highest", HELD[4]);
 }
 
-/// Replays that are not the station's run, and one that refuses where t ≤ m.
+/// Replays that are not the station's run, and two that refuse where t ≤ m: halves go further apart than a window by
+/// the ceiling.
 #[test]
 fn replays_are_held_to_the_station() {
-    for name in ["replay-swapped", "replay-at-once", "replay-wide", "replay-highest"] {
+    for name in ["replay-swapped", "replay-at-once", "replay-wide", "replay-highest", "replay-one"]
+    {
         let found = broken(name);
         assert!(found.iter().any(|broken| broken == HELD[25]), "{name}: {found:?}");
     }
-    let found = broken("replay-early");
-    assert!(found.iter().any(|broken| broken == HELD[24]), "{found:?}");
+    for name in ["replay-early", "replay-ceiling"] {
+        let found = broken(name);
+        assert!(found.iter().any(|broken| broken == HELD[24]), "{name}: {found:?}");
+    }
 }
 
 #[test]
@@ -173,17 +197,17 @@ fn sums_pass_n_spans() {
         .map(|line| line.split_whitespace().map_while(|word| word.parse().ok()).collect())
         .filter(|row: &Vec<u32>| row.len() == 7)
         .collect();
-    assert_eq!(rows.len(), 5, "{table}");
+    assert_eq!(rows.len(), 6, "{table}");
     for row in &rows {
         let (n, m, span, met) = (row[0], row[1], row[2], row[3]);
         assert_eq!(met, (n + m - 1) * span);
         assert_eq!(met > n * span, m > 1);
     }
-    assert_eq!(rows[4], [64, 21, 1_100_000, 92_400_000, 92_400_000, 140_800_000, 70_400_000]);
+    assert_eq!(rows[5], [64, 21, 1_100_000, 92_400_000, 92_400_000, 140_800_000, 70_400_000]);
 }
 
 /// Readings accepted too far out and an estimate over all of them pass each limit of a sum; a sum that ends at
-/// N spans gives another mean.
+/// N spans gives another mean, and so does a half that goes wrong.
 #[test]
 fn sums_are_held() {
     for name in ["span-wide", "all-readings"] {
@@ -192,8 +216,40 @@ fn sums_are_held() {
             assert!(found.iter().any(|broken| broken == limit), "{name}, {limit}: {found:?}");
         }
     }
-    for name in ["sum-cut", "sum-end"] {
+    for name in ["sum-cut", "sum-end", "half-up", "half-negative", "sum-quotient"] {
         let found = broken(name);
         assert!(found.iter().any(|broken| broken == HELD[34]), "{name}: {found:?}");
+    }
+}
+
+/// Halves away from zero go apart at both ends whatever the window's parity, further than the exact gap.
+#[test]
+fn halves_are_held_to_the_exact_gap() {
+    let found = broken("half-away");
+    for limit in &HELD[42..44] {
+        assert!(found.iter().any(|broken| broken == limit), "{limit}: {found:?}");
+    }
+}
+
+/// With an even N a gap passes the ceiling of the quotient, and reaches the limit that the table shows.
+#[test]
+fn gaps_pass_the_ceiling() {
+    let (status, text) = hostile(&["--engine", "reference", "--runs", "3000"]);
+    assert_eq!(status, Some(0), "{text}");
+    let before = text.split_once(" gaps past the ceiling").expect("they are counted").0;
+    let passed: u64 = before.rsplit('\n').next().unwrap().parse().unwrap();
+    assert!(passed > 100, "the ceiling is passed {passed} times");
+    let table = text.split_once("N 8, m 2, 4 bad").expect("a table of four in eight").1;
+    let rows: Vec<Vec<i64>> = table
+        .lines()
+        .map(|line| line.split_whitespace().map_while(|word| word.parse().ok()).collect())
+        .take_while(|row: &Vec<i64>| row.len() == 7 || row.is_empty())
+        .filter(|row| row.len() == 7)
+        .collect();
+    assert_eq!(rows.len(), 6, "{table}");
+    for row in rows {
+        let (window, met, exact, document) = (row[0], row[1], row[2], row[3]);
+        assert_eq!((met, exact), (document, document));
+        assert_eq!(met > (20 * window + 7) / 8, window % 4 == 2, "20/8 of {window}");
     }
 }

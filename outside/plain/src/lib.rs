@@ -36,6 +36,14 @@ impl Sizes {
     fn need(&self) -> usize {
         self.n - self.m
     }
+
+    /// The planned window after one as wide as the span, by FCA.
+    fn next_window(&self) -> u32 {
+        if self.m == 0 || self.span == 0 {
+            return 0;
+        }
+        2 * self.m as u32 * self.span / self.n as u32 + 1
+    }
 }
 
 /// A sheet that passes checks 1 to 6, and 16.
@@ -55,10 +63,13 @@ pub struct Settled {
 }
 
 impl Settled {
-    /// The mean of N used values, a half going up.
+    /// The mean of N used values, a half going to the even neighbour.
     fn new_value(&self, n: usize) -> i32 {
         let n = n as i64;
-        (2 * self.sum + n).div_euclid(2 * n) as i32
+        let whole = self.sum.div_euclid(n);
+        let rest = self.sum - n * whole;
+        let odd = whole & 1;
+        (whole + (n < 2 * rest + odd) as i64) as i32
     }
 }
 

@@ -81,7 +81,7 @@ impl Trace<'_> {
         for round in 0..self.rounds {
             held = self.round::<S>(round, &sizes, &held)?;
             // A trace has no spread, so the span is the window.
-            sizes.span = (2 * sizes.m as u32 * sizes.span).div_ceil(sizes.n as u32);
+            sizes.span = sizes.next_window();
         }
         Ok(held)
     }

@@ -1,5 +1,5 @@
 //! Paper 3 of document 02: the mean by distances from the lowest accepted reading, every step in 32 bits.
-//! Settling has `mean`, which is obviously document 01; the tests hold the two to each other.
+//! Settling has `mean`, which is obviously the document; the tests hold the two to each other.
 
 use crate::checks::Settings;
 use crate::sheet::numbers_in;
@@ -28,13 +28,15 @@ impl Distances {
         self.above.iter().try_fold(0, |sum: u32, &distance| sum.checked_add(distance))
     }
 
-    /// The sum divided by N, its whole part added back to the lowest, rounded by the remainder.
+    /// The sum divided by N, its whole part added back to the lowest, rounded by the remainder: a half goes
+    /// up from an odd number, and not from an even one.
     pub fn mean(&self) -> Option<i32> {
         let n = self.above.len() as u32;
-        let whole = self.sum()?.checked_div(n)?;
         let remainder = self.sum()?.checked_rem(n)?;
-        let up = (2 * remainder >= n) as u32;
-        self.lowest.checked_add_unsigned(whole + up)
+        let below = self.lowest.checked_add_unsigned(self.sum()? / n)?;
+        let odd = below % 2 != 0;
+        let up = 2 * remainder > n || (2 * remainder == n && odd);
+        below.checked_add(up as i32)
     }
 }
 

@@ -1,4 +1,4 @@
-//! Document 01, and papers 1 to 3 of document 02, in plain safe Rust, as simply as it can be said. Nothing
+//! Document 01, and papers 1 to 4 of document 02, in plain safe Rust, as simply as it can be said. Nothing
 //! here is fast. It was written from the documents alone, without sight of the proved code.
 #![forbid(unsafe_code)]
 
@@ -13,7 +13,9 @@ mod vectors;
 
 pub use checks::{Refusal, Settings, AVERAGE, CCA, FCA, MEDIAN, MIDPOINT};
 pub use distances::Distances;
-pub use planner::{counts_that_fit, next_accuracy, next_window, plan, step, target, Plan};
+pub use planner::{
+    counts_that_fit, next_accuracy, next_window, plan, step, sums_apart, target, Plan,
+};
 pub use replay::{replay, Run, Trace, FAULTY, SOUND};
 pub use round::{accepted, decide, estimate, mean, settle, settle_readings, settle_spread, Round};
 pub use sheet::{

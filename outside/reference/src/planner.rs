@@ -11,11 +11,19 @@ pub struct Plan {
     pub rounds: u32,
 }
 
-/// ⌈2mδ/N⌉, or ⌈mδ/N⌉ for CCA with median.
-pub fn next_window(settings: &Settings) -> u32 {
-    let Settings { n, m, rule, estimator, window } = *settings;
+/// 2mδ, or mδ for CCA with median: how far apart the sums of two sound cabinets' used values can be.
+pub fn sums_apart(settings: &Settings) -> u64 {
+    let Settings { m, rule, estimator, window, .. } = *settings;
     let times = if rule == CCA && estimator == MEDIAN { 1 } else { 2 };
-    (times * m as u64 * window as u64).div_ceil(n as u64) as u32
+    times * m as u64 * window as u64
+}
+
+/// 0 when m or δ is 0; else the whole part of 2mδ/N plus one, or of mδ/N for CCA with median.
+pub fn next_window(settings: &Settings) -> u32 {
+    if settings.m == 0 || settings.window == 0 {
+        return 0;
+    }
+    (sums_apart(settings) / settings.n as u64 + 1) as u32
 }
 
 /// The accuracy, grown by ⌈mδ/N⌉.

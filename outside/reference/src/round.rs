@@ -2,6 +2,7 @@
 
 use crate::checks::{Refusal, Settings, AVERAGE, CCA, MEDIAN};
 use crate::sheet::{entries_of, settings_with_spread};
+use std::cmp::Ordering;
 
 /// The value that at least `need` present copies equal, if there is one.
 pub fn decide(copies: &[Option<i32>], need: usize) -> Option<i32> {
@@ -37,11 +38,21 @@ pub fn estimate(estimator: u8, accepted: &[i64]) -> i64 {
     }
 }
 
-/// The mean to the nearest whole number, a half going up.
+/// The mean to the nearest whole number, a half going to the even neighbour.
 pub fn mean(values: &[i64]) -> i64 {
     let n = values.len() as i64;
     let sum: i64 = values.iter().sum();
-    floor(2 * sum + n, 2 * n)
+    let below = floor(sum, n);
+    match (2 * (sum - n * below)).cmp(&n) {
+        Ordering::Less => below,
+        Ordering::Equal if is_even(below) => below,
+        Ordering::Equal | Ordering::Greater => below + 1,
+    }
+}
+
+/// Below zero too.
+fn is_even(number: i64) -> bool {
+    number.rem_euclid(2) == 0
 }
 
 /// Division rounded down, below zero too, by a positive number.

@@ -1,4 +1,5 @@
-//! Paper 3 of document 02: the mean by distances in 32 bits is the mean, and their sum has its limits.
+//! Paper 3 of document 02: the mean by distances in 32 bits is the mean, and their sum has its limits. A half
+//! goes to the even tick, as paper 4 says.
 
 use random::Random;
 use reference::*;
@@ -161,16 +162,20 @@ fn the_greatest_sum_occurs() {
     assert_eq!(of(64, 21, 1_000_000).sum_limit(1_100_000), 140_800_000);
 }
 
-/// A half goes up: two of four, and never of five, where two are below it and three above.
+/// Two of four are a half, which goes by the new value's parity, not by that of the quotient, here always 0;
+/// of five there is none: two are below it and three above.
 #[test]
-fn a_remainder_of_half_of_n_goes_up() {
+fn a_remainder_of_half_of_n_goes_to_the_even_tick() {
     let by_distances = |used: &[i32]| {
         let lowest = *used.iter().min().unwrap();
         Distances { lowest, above: used.iter().map(|v| v.abs_diff(lowest)).collect() }.mean()
     };
     assert_eq!(by_distances(&[0, 0, 0, 1]), Some(0));
-    assert_eq!(by_distances(&[0, 0, 1, 1]), Some(1));
-    assert_eq!(by_distances(&[-1, -1, -2, -2]), Some(-1));
+    assert_eq!(by_distances(&[0, 0, 1, 1]), Some(0));
+    assert_eq!(by_distances(&[1, 1, 2, 2]), Some(2));
+    assert_eq!(by_distances(&[-1, -1, -2, -2]), Some(-2));
+    assert_eq!(by_distances(&[-2, -2, -3, -3]), Some(-2));
+    assert_eq!(by_distances(&[-3, -3, -4, -4]), Some(-4));
     assert_eq!(by_distances(&[0, 0, 0, 1, 1]), Some(0));
     assert_eq!(by_distances(&[0, 0, 1, 1, 1]), Some(1));
     assert_eq!(by_distances(&[-1, -1, -2, -2, -2]), Some(-2));
@@ -181,7 +186,7 @@ fn a_remainder_of_half_of_n_goes_up() {
 fn every_remainder() {
     for n in 1..=64 {
         for sum in 0..=2 * n {
-            for lowest in [i32::MIN, -3, -1, 0, i32::MAX - sum] {
+            for lowest in [i32::MIN, i32::MIN + 1, -4, -3, -1, 0, 1, i32::MAX - sum] {
                 let mut used = vec![lowest as i64; n as usize];
                 used[0] += sum as i64;
                 let above = used.iter().map(|value| (value - lowest as i64) as u32).collect();
@@ -202,9 +207,12 @@ fn lowest_and_highest_reading() {
     };
     assert_eq!((new([low; 4]), new([high; 4])), (low, high));
     assert_eq!(new([low, low, low, low + 1]), low);
-    assert_eq!(new([low, low, low + 1, low + 1]), low + 1, "a half");
+    assert_eq!(new([low, low, low + 1, low + 1]), low, "a half");
+    assert_eq!(new([low + 1, low + 1, low + 2, low + 2]), low + 2, "a half");
     assert_eq!(new([high - 1, high - 1, high - 1, high]), high - 1);
-    assert_eq!(new([high - 1, high - 1, high, high]), high, "a half");
+    assert_eq!(new([high - 1, high - 1, high, high]), high - 1, "a half");
+    assert_eq!(new([high - 2, high - 2, high - 1, high - 1]), high - 1, "a half");
+    assert_eq!(new([high - 1, high, high, high]), high, "the high end itself is odd");
     assert_eq!(new([high, high, high, low]), high, "the lowest reading is not accepted");
 }
 

@@ -1,4 +1,4 @@
-//! The cases and remarks of document 01.
+//! The cases and remarks of document 01, with what paper 4 of document 02 changes in them.
 
 use reference::*;
 
@@ -53,7 +53,7 @@ fn refusal(sheet: &[u8]) -> (u8, u32) {
 #[test]
 fn case_1() {
     let sheet = fca(4, 1, MEDIAN, 10, &[0, 4, 10, 500]);
-    assert_eq!(outcome(&sheet), (3, 4, 5));
+    assert_eq!(outcome(&sheet), (3, 4, 4), "18/4");
     let answer = settled(&sheet).unwrap();
     assert_eq!(answer.len(), 30);
     assert_eq!(answer[10..14], [1, 1, 1, 2]);
@@ -79,7 +79,7 @@ fn case_4() {
 #[test]
 fn case_5() {
     assert_eq!(new_value(&fca(2, 0, MEDIAN, 1, &[-1, 0])), 0);
-    assert_eq!(new_value(&fca(2, 0, MEDIAN, 1, &[0, 1])), 1);
+    assert_eq!(new_value(&fca(2, 0, MEDIAN, 1, &[0, 1])), 0);
 }
 
 #[test]
@@ -130,9 +130,10 @@ fn case_11() {
         (plan.settings.window, plan.accuracy, plan.rounds)
     };
     assert_eq!(after(0), (100, 100, 0));
-    assert_eq!(after(1), (50, 125, 1));
-    assert_eq!(after(2), (25, 138, 2));
-    assert_eq!(after(3), (13, 145, 3));
+    assert_eq!(after(1), (51, 125, 1));
+    assert_eq!(after(2), (26, 138, 2));
+    assert_eq!(after(3), (14, 145, 3));
+    assert_eq!((after(6).0, after(7).0, after(32).0), (3, 2, 2), "the window settles at 2");
     let mut stepped = plan(&start, 100, 0).unwrap();
     for rounds in 1..=32 {
         stepped = step(&stepped).unwrap();
@@ -145,17 +146,18 @@ fn case_11() {
 fn case_12() {
     let start = settings(4, 1, FCA, MEDIAN, 100);
     assert_eq!(target(&start, 100, 0), Err(Refusal::new(12)));
-    let counts = target(&start, 100, 1).unwrap();
+    assert_eq!(target(&start, 100, 1), Err(Refusal::new(12)));
+    let counts = target(&start, 100, 2).unwrap();
     assert_eq!(*counts.last().unwrap(), 32);
     for rounds in 0..=32 {
-        let fits = plan(&start, 100, rounds).unwrap().settings.window <= 1;
+        let fits = plan(&start, 100, rounds).unwrap().settings.window <= 2;
         assert_eq!(counts.contains(&rounds), fits);
     }
 }
 
 #[test]
 fn listing() {
-    let text = "round 4 3 4 5\n0 1 0\n1 1 4\n2 1 10\n3 2 4\n";
+    let text = "round 4 3 4 4\n0 1 0\n1 1 4\n2 1 10\n3 2 4\n";
     assert_eq!(settle_text(&fca(4, 1, MEDIAN, 10, &[0, 4, 10, 500])), text);
     assert_eq!(settle_text(&fca(4, 1, MEDIAN, 9, &[0, 4, 10, 500])), "refused 10 0\n");
     assert_eq!(settle_text(&fca(1, 0, MEDIAN, 0, &[-3])), "round 1 1 -3 -3\n0 1 -3\n");
@@ -222,8 +224,6 @@ fn rounding_goes_down_below_zero_too() {
     assert_eq!(estimate(MIDPOINT, &[-1, 0]), -1);
     assert_eq!(estimate(MIDPOINT, &[-2, -1]), -2);
     assert_eq!(estimate(MEDIAN, &[3, 1, 4, 2]), 2, "the lower of the middle two");
-    assert_eq!(mean(&[-1, -2]), -1, "a half going up");
-    assert_eq!(mean(&[-1, -1, -2]), -1);
 }
 
 /// 10 is within the window of N-m readings, itself included, but no one span holds N-m.
@@ -237,7 +237,8 @@ fn ends_of_32_bits() {
     let (low, high) = (i32::MIN, i32::MAX);
     assert_eq!(new_value(&fca(4, 1, AVERAGE, 1_000_000, &[high; 4])), high);
     assert_eq!(new_value(&fca(4, 1, AVERAGE, 1_000_000, &[low; 4])), low);
-    assert_eq!(outcome(&fca(4, 1, MIDPOINT, 1, &[high, high, high - 1, low])), (3, high - 1, high));
+    let ends = [high, high, high - 1, low];
+    assert_eq!(outcome(&fca(4, 1, MIDPOINT, 1, &ends)), (3, high - 1, high - 1), "a half");
 }
 
 #[test]
@@ -245,7 +246,7 @@ fn missing_readings() {
     let entries = [Some(0), None, Some(10), Some(4)];
     let answer = settled(&sheet(settings(4, 1, FCA, MEDIAN, 10), &entries)).unwrap();
     assert_eq!(answer[10..14], [1, 0, 1, 1]);
-    assert_eq!(number(&answer, 6), 5);
+    assert_eq!(number(&answer, 6), 4);
     let none = sheet(settings(4, 1, FCA, MEDIAN, 10), &[None; 4]);
     assert_eq!(refusal(&none), (10, 0));
 }
@@ -315,6 +316,51 @@ fn planner_limits() {
     assert_eq!((next_window(&cca), next_accuracy(&cca, 5)), (3, 8));
 }
 
+/// 2mδ/N and mδ/N whole, which the accuracy's growth keeps as they are.
+#[test]
+fn a_whole_quotient() {
+    let at = |n, m, rule, estimator, window| {
+        let settings = settings(n, m, rule, estimator, window);
+        (next_window(&settings), next_accuracy(&settings, 0))
+    };
+    assert_eq!(at(4, 1, FCA, MEDIAN, 4), (3, 1));
+    assert_eq!(at(4, 1, CCA, AVERAGE, 4), (3, 1));
+    assert_eq!(at(4, 1, CCA, MEDIAN, 4), (2, 1));
+    assert_eq!(at(4, 1, CCA, MEDIAN, 2), (1, 1), "2/4");
+    assert_eq!(at(7, 2, FCA, MIDPOINT, 7), (5, 2), "for an odd N too");
+    assert_eq!(at(64, 21, FCA, MEDIAN, 1_000_000), (656_251, 328_125));
+}
+
+/// The window is 0 after one without faults planned for or without a window, and otherwise never.
+#[test]
+fn a_window_of_0() {
+    for (rule, estimator) in [FCA, CCA].into_iter().flat_map(|r| [0, 1, 2].map(|e| (r, e))) {
+        for window in [0, 1, 2, 4, 1_000_000] {
+            assert_eq!(next_window(&settings(64, 0, rule, estimator, window)), 0);
+            let planned = settings(4, 1, rule, estimator, window);
+            assert_eq!(next_window(&planned) == 0, window == 0);
+            let after = plan(&planned, 7, 32).unwrap();
+            assert_eq!(after.settings.window == 0, window == 0);
+            assert_eq!(target(&planned, 7, 0).is_ok(), window == 0);
+        }
+        let alone = settings(1, 0, rule, estimator, 1_000_000);
+        assert_eq!(plan(&alone, 7, 32).unwrap().accuracy, 7);
+        assert_eq!(target(&alone, 7, 0), Ok((1..=32).collect()));
+    }
+}
+
+#[test]
+fn no_window_grows() {
+    for (n, m) in (1..=64).flat_map(|n| (0..=(n - 1) / 3).map(move |m| (n, m))) {
+        for (rule, estimator) in [(FCA, MEDIAN), (CCA, MEDIAN), (CCA, AVERAGE)] {
+            for window in (0..=130).chain([999_999, 1_000_000]) {
+                let settings = settings(n, m, rule, estimator, window);
+                assert!(next_window(&settings) <= window, "{settings:?}");
+            }
+        }
+    }
+}
+
 /// Spans that start at present readings are enough: any whole span gives the same.
 #[test]
 fn any_span() {
@@ -335,13 +381,33 @@ fn any_span() {
 }
 
 #[test]
-fn nearest_with_a_half_going_up() {
+fn nearest_with_a_half_going_to_the_even_neighbour() {
     for n in 1..=8 {
         for sum in -50..=50 {
             let mut values = vec![0; n as usize];
             values[0] = sum;
-            let past = 2 * (sum - n * mean(&values));
-            assert!(-n <= past && past < n, "{sum}/{n}");
+            let mean = mean(&values);
+            let past = 2 * (sum - n * mean);
+            assert!(-n <= past && past <= n, "{sum}/{n}");
+            assert!(past.abs() < n || mean % 2 == 0, "{sum}/{n}");
         }
+    }
+}
+
+#[test]
+fn halves() {
+    let of_two = [[-4, -3], [-3, -2], [-2, -1], [-1, 0], [0, 1], [1, 2], [2, 3], [3, 4]];
+    assert_eq!(of_two.map(|pair| mean(&pair)), [-4, -2, -2, 0, 0, 2, 2, 4]);
+    assert_eq!((mean(&[-1, -1, -2]), mean(&[-1, -2, -2]), mean(&[2, 3, 3])), (-1, -2, 3));
+}
+
+/// N 4, m 1, δ 2 and a liar who says 3 to one cabinet and -1 to another: 6/4 and 2/4 go two apart. The
+/// ceiling of 2mδ/N is 1, and the next window 2.
+#[test]
+fn halves_of_odd_and_even_ticks_part() {
+    for estimator in [AVERAGE, MEDIAN, MIDPOINT] {
+        let new = |lie| new_value(&fca(4, 1, estimator, 2, &[0, 1, 2, lie]));
+        assert_eq!((new(3), new(-1)), (2, 0));
+        assert_eq!(next_window(&settings(4, 1, FCA, estimator, 2)), 2);
     }
 }

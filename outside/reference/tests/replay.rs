@@ -28,32 +28,32 @@ fn replayed(trace: &Trace) -> Result<Vec<i32>, (u8, u32)> {
     replayed_bytes(&trace.bytes())
 }
 
-/// All three hear what case 1 of document 01 has, so all take over 5; then 5 stands.
+/// All three hear what case 1 of document 01 has, so all take over 4; then 4 stands.
 #[test]
 fn case_1_as_a_run() {
     let round = [Some(500); 3];
-    assert_eq!(replayed(&four(10, [0, 4, 10], &[round])), Ok(vec![5, 5, 5, 0]));
-    assert_eq!(replayed(&four(10, [0, 4, 10], &[round; 32])), Ok(vec![5, 5, 5, 0]));
+    assert_eq!(replayed(&four(10, [0, 4, 10], &[round])), Ok(vec![4, 4, 4, 0]));
+    assert_eq!(replayed(&four(10, [0, 4, 10], &[round; 32])), Ok(vec![4, 4, 4, 0]));
 }
 
 /// Cabinet 0 hears 14 and all are accepted, 1 hears -6 likewise, 2 hears nothing and uses the
-/// median 4: 28/4, 8/4 and 18/4. Then the window is 5: 12 is not accepted beside 7, 2, 5; 0 and 10 are.
+/// median 4: 28/4, 8/4 and 18/4. Then the window is 6: 12 is not accepted beside 7, 2, 4; 0 and 10 are.
 const TWO_FACED: [[Option<i32>; 3]; 2] =
     [[Some(14), Some(-6), None], [Some(12), Some(0), Some(10)]];
 
 #[test]
 fn a_two_faced_cabinet() {
-    assert_eq!(replayed(&four(10, [0, 4, 10], &TWO_FACED[..1])), Ok(vec![7, 2, 5, 0]));
-    assert_eq!(replayed(&four(10, [0, 4, 10], &TWO_FACED)), Ok(vec![5, 4, 6, 0]));
+    assert_eq!(replayed(&four(10, [0, 4, 10], &TWO_FACED[..1])), Ok(vec![7, 2, 4, 0]));
+    assert_eq!(replayed(&four(10, [0, 4, 10], &TWO_FACED)), Ok(vec![4, 3, 6, 0]));
 }
 
-/// The planned windows are 10, 5 and 3. With 10 in the second round 12 would be accepted: 26/4.
+/// The planned windows are 10, 6 and 4. With 10 in the second round 12 would be accepted: 25/4.
 #[test]
 fn the_window_is_the_round_s() {
-    let held = [7, 2, 5, 0];
+    let held = [7, 2, 4, 0];
     let trace = four(10, [0, 4, 10], &TWO_FACED);
-    assert_eq!(trace.round(1, 5, &held), Ok(vec![5, 4, 6, 0]));
-    assert_eq!(trace.round(1, 10, &held), Ok(vec![7, 4, 6, 0]));
+    assert_eq!(trace.round(1, 6, &held), Ok(vec![4, 3, 6, 0]));
+    assert_eq!(trace.round(1, 10, &held), Ok(vec![6, 3, 6, 0]));
 }
 
 #[test]
@@ -72,7 +72,7 @@ fn nobody_sound_and_nobody_faulty() {
     let mut trace = four(10, [0, 4, 10], &[[None; 3]]);
     trace.roles = vec![1; 4];
     trace.first[3] = 500;
-    assert_eq!(replayed(&trace), Ok(vec![5; 4]), "case 1");
+    assert_eq!(replayed(&trace), Ok(vec![4; 4]), "case 1");
 }
 
 /// Case 2 of document 01 at cabinets 1 and 2; cabinet 0 hears 5, and 0, 4, 5 lie within 9.
@@ -179,7 +179,7 @@ fn lengths() {
     assert_eq!(refusal(&good[..good.len() - 1]), (13, 0));
     assert_eq!(refusal(&longer), (13, 0));
     let rounds = |rounds: usize| replayed(&four(10, [0, 4, 10], &vec![[None; 3]; rounds]));
-    assert_eq!(rounds(32), Ok(vec![5, 5, 5, 0]));
+    assert_eq!(rounds(32), Ok(vec![4, 4, 4, 0]));
     assert_eq!(rounds(33), Err((13, 0)), "as long as 33 rounds are");
     let mut tray = [0; 16];
     assert_eq!(replay(&good, &mut tray[..15]), Err(Refusal::new(7)));
@@ -211,9 +211,9 @@ fn listing() {
     assert_eq!(replay_text(&stopped, false), "refused 15 129\n");
     assert_eq!(replay_text(&stopped, true), "after 0 0 0\nafter 1 0 -4\nrefused 15 129\n");
     let trace = four(10, [0, 4, 10], &TWO_FACED).bytes();
-    let block = "replay 4 2\n0 1 5\n1 1 4\n2 1 6\n3 0 0\n";
+    let block = "replay 4 2\n0 1 4\n1 1 3\n2 1 6\n3 0 0\n";
     assert_eq!(replay_text(&trace, false), block);
-    let rounds = "after 0 0 4 10 0\nafter 1 7 2 5 0\nafter 2 5 4 6 0\n";
+    let rounds = "after 0 0 4 10 0\nafter 1 7 2 4 0\nafter 2 4 3 6 0\n";
     assert_eq!(replay_text(&trace, true), rounds.to_string() + block);
     assert_eq!(replay_text(&trace[..7], true), "refused 1 0\n");
 }

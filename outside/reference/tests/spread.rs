@@ -30,14 +30,14 @@ fn refusal(sheet: &[u8], spread: u32) -> (u8, u32) {
 /// With a spread of 1, the sheet of case 2 settles as that of case 1.
 #[test]
 fn the_span_is_window_and_spread() {
-    let case_1 = Ok((3, 4, 5, vec![1, 1, 1, 2]));
+    let case_1 = Ok((3, 4, 4, vec![1, 1, 1, 2]));
     let readings = [0, 4, 10, 500];
     assert_eq!(settled(&four(FCA, 9, &readings), 0), Err((10, 0)));
     assert_eq!(settled(&four(FCA, 9, &readings), 1), case_1);
     assert_eq!(settled(&four(FCA, 0, &readings), 9), Err((10, 0)));
     assert_eq!(settled(&four(FCA, 0, &readings), 10), case_1);
     assert_eq!(settled(&four(FCA, 0, &readings), 495), case_1);
-    assert_eq!(settled(&four(FCA, 0, &readings), 496), Ok((4, 4, 129, vec![1; 4])));
+    assert_eq!(settled(&four(FCA, 0, &readings), 496), Ok((4, 4, 128, vec![1; 4])));
 }
 
 /// δ 1 and D 2: one cabinet reads 0 of all good ones, another D, and the liar stands at -(δ+D) and at
@@ -49,8 +49,17 @@ fn the_hull_is_twice_the_window_and_three_spreads() {
     assert_eq!(read(2, 5), (4, 2, 3, vec![1; 4]));
     assert_eq!(read(0, -4), (3, 0, 0, vec![1, 1, 1, 2]));
     assert_eq!(read(2, 6), (3, 2, 2, vec![1, 1, 1, 2]));
-    let limit = (3 * 2 + (2 + 3 * 2)) as f64 / 4.0;
-    assert_eq!(limit.ceil(), 4.0, "and 3 - (-1) reaches it");
+    let limit = (3 * 2 + (2 + 3 * 2)) / 4 + 1;
+    assert_eq!(limit, 4, "and 3 - (-1) reaches it");
+}
+
+/// δ 0 and D 2: 12/4 is whole. From an odd tick on, the halves at both ends go outwards, one past it.
+#[test]
+fn halves_at_both_ends_reach_a_whole_limit_and_one() {
+    let new = |good: i32, lie: i32| settled(&four(FCA, 0, &[good, good, good, lie]), 2).unwrap().2;
+    assert_eq!((new(1, -1), new(3, 5)), (0, 4), "2/4 and 14/4");
+    assert_eq!((new(0, -2), new(2, 4)), (0, 2), "-2/4 and 10/4: inwards");
+    assert_eq!((3 * 2 + 3 * 2) / 4 + 1, 4);
 }
 
 #[test]

@@ -11,14 +11,18 @@ use Rattle.arithmetic.proofs.Writing.{getD-table}
 use Rattle.model.specs.Ensemble.{Reading, missing, ticks}
 use Rattle.run.specs.Run.{Station, State, Sends, start, next}
 use Rattle.run.specs.Rounds.{below, heldAfter, wideStation, wideSends, exactStation, exactSends, halfStation, halfSends}
-use Rattle.run.specs.Rounds.{closeStation, closeSends, medianStation, medianSends, averageStation, averageSends}
+use Rattle.run.specs.Rounds.{closeStation, closeSends, oneMoreStation, oneMoreSends, medianStation, medianSends}
+use Rattle.run.specs.Rounds.{averageStation, averageSends}
+use Rattle.run.specs.Rounds.{oddRowsStation, oddRowsSends, stillStation, stillSends}
+use Rattle.run.specs.Rounds.{oddWideStation, oddWideSends, oddCloseStation, oddCloseSends, pairStation, pairSends}
 use Rattle.run.specs.Rounds.{bothStation, bothSends, mixedStation, mixedSends}
 use Rattle.run.specs.Rounds.{directStation, directFirst, directSecond, directNext}
 use Rattle.run.specs.Rounds.{crusadersStation, crusadersFirst, crusadersSecond, crusadersNext}
 use Rattle.run.proofs.Computed.{computed, rounds-computed}
 use Rattle.demand_3.specs.Guarantee.{apart}
 use Rattle.demand_3.specs.Witnesses.{gap, error, Meets, WideReached, ExactReached, HalfReached, CloseReached}
-use Rattle.demand_3.specs.Witnesses.{MedianReached, AverageReached, BothKindsCounted, MixedRefused}
+use Rattle.demand_3.specs.Exact.{halfUp, halfDown}
+use Rattle.demand_3.specs.Witnesses.{OneMoreNeeded, OddReached, PairAlike, StillAlike, MedianReached, AverageReached, BothKindsCounted, MixedRefused}
 use Rattle.demand_3.specs.Witnesses.{DirectRounds, CrusadersRounds}
 use Rattle.demand_3.proofs.Computed.Tested.{sends-tested, meets-tested}
 
@@ -46,7 +50,7 @@ wide-meets =
     (sends-tested wideStation _ _ refl, tt)
 
 pub wide-reached : WideReached
-unfolding computed wideStation wideSends
+unfolding computed wideStation wideSends halfUp halfDown
 wide-reached =
     record {
       meets = wide-meets;
@@ -64,7 +68,7 @@ exact-meets =
     (sends-tested exactStation _ _ refl, tt)
 
 pub exact-reached : ExactReached
-unfolding computed exactStation exactSends
+unfolding computed exactStation exactSends halfUp halfDown
 exact-reached =
     record {
       meets = exact-meets;
@@ -82,18 +86,19 @@ half-meets =
     (sends-tested halfStation _ _ refl, tt)
 
 pub half-reached : HalfReached
-unfolding computed halfStation halfSends
+unfolding computed halfStation halfSends halfUp halfDown
 half-reached =
     record {
       meets = half-meets;
       counts = refl;
       widest = gap-of halfStation (start halfStation) halfSends 2 (rounds-computed .half) 0 1 (lit< tt) (lit< tt);
+      same-gap = refl;
       farthest = error-of halfStation (start halfStation) halfSends 2 (rounds-computed .half) 1 (pos 1) (lit< tt);
     }
 
 -- ---- t ≤ m
 
-close-meets : Meets closeStation (closeSends ∷ []) (below 3) (pos 0)
+close-meets : Meets closeStation (closeSends ∷ []) (below 3) (pos 1)
 unfolding closeStation closeSends
 close-meets =
     meets-tested _ _ _ _ _ _ _ (unfold computed in (refl, refl, refl, refl))
@@ -106,7 +111,92 @@ close-reached =
       meets = close-meets;
       counts = refl;
       widest = gap-of closeStation (start closeStation) closeSends 3 (rounds-computed .close) 0 1 (lit< tt) (lit< tt);
-      farthest = error-of closeStation (start closeStation) closeSends 3 (rounds-computed .close) 1 (pos 0) (lit< tt);
+      farthest = error-of closeStation (start closeStation) closeSends 3 (rounds-computed .close) 1 (pos 1) (lit< tt);
+    }
+
+even-meets : Meets oneMoreStation (oneMoreSends ∷ []) (below 3) (pos 1)
+unfolding oneMoreStation oneMoreSends
+even-meets =
+    meets-tested _ _ _ _ _ _ _ (unfold computed in (refl, refl, refl, refl))
+    (sends-tested oneMoreStation _ _ refl, tt)
+
+pub one-more-needed : OneMoreNeeded
+unfolding computed oneMoreStation oneMoreSends
+one-more-needed =
+    record {
+      meets = even-meets;
+      counts = refl;
+      widest = gap-of oneMoreStation (start oneMoreStation) oneMoreSends 3 (rounds-computed .oneMore) 0 1 (lit< tt) (lit< tt);
+      above = rw (gap-of oneMoreStation (start oneMoreStation) oneMoreSends 3 (rounds-computed .oneMore) 0 1 (lit< tt) (lit< tt)) (lit< tt);
+    }
+
+seven-meets : Meets oddCloseStation (oddCloseSends ∷ []) (below 5) (pos 0)
+unfolding oddCloseStation oddCloseSends
+seven-meets =
+    meets-tested _ _ _ _ _ _ _ (unfold computed in (refl, refl, refl, refl))
+    (sends-tested oddCloseStation _ _ refl, tt)
+
+odd-meets : Meets oddWideStation (oddWideSends ∷ []) (below 4) (pos 0)
+unfolding oddWideStation oddWideSends
+odd-meets =
+    meets-tested _ _ _ _ _ _ _ (unfold computed in (refl, refl, refl, refl))
+    (sends-tested oddWideStation _ _ refl, tt)
+
+rows-meets : Meets oddRowsStation (oddRowsSends ∷ []) (below 5) (pos 0)
+unfolding oddRowsStation oddRowsSends
+rows-meets =
+    meets-tested _ _ _ _ _ _ _ (unfold computed in (refl, refl, refl, refl))
+    (sends-tested oddRowsStation _ _ refl, tt)
+
+pub odd-reached : OddReached
+unfolding computed oddCloseStation oddCloseSends oddRowsStation oddRowsSends oddWideStation oddWideSends
+odd-reached =
+    record {
+      meets = seven-meets;
+      counts = refl;
+      widest = gap-of oddCloseStation (start oddCloseStation) oddCloseSends 5 (rounds-computed .oddClose) 0 1 (lit< tt) (lit< tt);
+      next-window = refl;
+      rows-meets = rows-meets;
+      rows-counts = refl;
+      rows-widest = gap-of oddRowsStation (start oddRowsStation) oddRowsSends 5 (rounds-computed .oddRows) 0 1 (lit< tt) (lit< tt);
+      rows-next-window = refl;
+      more-meets = odd-meets;
+      more-counts = refl;
+      more-widest = gap-of oddWideStation (start oddWideStation) oddWideSends 4 (rounds-computed .oddWide) 0 1 (lit< tt) (lit< tt);
+      wider = refl;
+      more-farthest = error-of oddWideStation (start oddWideStation) oddWideSends 4 (rounds-computed .oddWide) 1 (pos 0) (lit< tt);
+    }
+
+pair-meets : Meets pairStation (pairSends ∷ []) (below 2) (pos 0)
+unfolding pairStation pairSends
+pair-meets =
+    meets-tested _ _ _ _ _ _ _ (unfold computed in (refl, refl, refl, refl))
+    (sends-tested pairStation _ _ refl, tt)
+
+pub pair-alike : PairAlike
+unfolding computed pairStation pairSends
+pair-alike =
+    record {
+      meets = pair-meets;
+      counts = refl;
+      no-window = refl;
+      none-apart = gap-of pairStation (start pairStation) pairSends 2 (rounds-computed .pair) 0 1 (lit< tt) (lit< tt);
+    }
+
+still-meets : Meets stillStation (stillSends ∷ []) (below 3) (pos 5)
+unfolding stillStation stillSends
+still-meets =
+    meets-tested _ _ _ _ _ _ _ (unfold computed in (refl, refl, refl, refl))
+    (sends-tested stillStation _ _ refl, tt)
+
+pub still-alike : StillAlike
+unfolding computed stillStation stillSends
+still-alike =
+    record {
+      meets = still-meets;
+      counts = refl;
+      no-window = refl;
+      none-apart = gap-of stillStation (start stillStation) stillSends 3 (rounds-computed .still) 0 1 (lit< tt) (lit< tt);
     }
 
 median-meets : Meets medianStation (medianSends ∷ []) (below 3) (pos 0)

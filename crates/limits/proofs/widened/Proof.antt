@@ -4,8 +4,8 @@
 use borrow.Author.Needs.{needs}
 use native.Mathlib.Omega.{arith}
 use mathlib.Core.Path.{_≡_, ap, _∙_}
-use Prim.Native.Nat.{ℕ, _+_, _*_, _-_, _/_}
-use Rattle.model.specs.Planner.{ceilDiv}
+use Prim.Native.Nat.{ℕ, _+_, _*_, _-_, _/_, _%_}
+use Rattle.model.specs.Planner.{ceilDiv, pastDiv}
 use Rattle.limits.proofs.Stating.{Sizes, granted-sizes, wider-at}
 use Rattle.limits.proofs.widened.Statement.{statement}
 use Rattle.limits.proofs.widened.Tie as tie
@@ -23,21 +23,21 @@ module _ (c : tie.After-excess) where
 
 -- the shares are those of the definition
 gap-is :
-    (c : tie.After-share)
+    (c : tie.After-past-share)
     → let a = c .before .before .before .args in
-    c .share .result ≡ ceilDiv ((a .settings .n + 2 * a .t + 2 * a .settings .m) * a .settings .window) (a .settings .n)
+    c .past-share .result ≡ pastDiv ((a .settings .n + 2 * a .t + 2 * a .settings .m) * a .settings .window) (a .settings .n)
 gap-is c =
     let a = c .before .before .before .args in
-    c .share .ensures
-    ∙ ap (λ (parts : ℕ). ceilDiv (parts * a .settings .window) (a .settings .n)) (c .before .gap-parts .ensures)
+    c .past-share .ensures
+    ∙ ap (λ (parts : ℕ). pastDiv (parts * a .settings .window) (a .settings .n)) (c .before .gap-parts .ensures)
 
 growth-is :
-    (c : tie.After-share2)
+    (c : tie.After-share)
     → let a = c .before .before .before .before .before .args in
-    c .share2 .result ≡ ceilDiv ((a .settings .m + a .t) * a .settings .window) (a .settings .n)
+    c .share .result ≡ ceilDiv ((a .settings .m + a .t) * a .settings .window) (a .settings .n)
 growth-is c =
     let a = c .before .before .before .before .before .args in
-    c .share2 .ensures
+    c .share .ensures
     ∙ ap (λ (parts : ℕ). ceilDiv (parts * a .settings .window) (a .settings .n)) (c .before .error-parts .ensures)
 
 cast-n : tie.Need-cast-n
@@ -49,8 +49,8 @@ cast-bad c = search needs
 gap-parts-requires : tie.Need-gap-parts-requires
 gap-parts-requires c κs = search needs
 
-share-requires : tie.Need-share-requires
-share-requires c κs = search needs
+past-share-requires : tie.Need-past-share-requires
+past-share-requires c κs = search needs
 
 cast-gap : tie.Need-cast-gap
 cast-gap c = omega (arith, sizes (c .before .before .before) .gap, gap-is c)
@@ -58,8 +58,8 @@ cast-gap c = omega (arith, sizes (c .before .before .before) .gap, gap-is c)
 error-parts-requires : tie.Need-error-parts-requires
 error-parts-requires c κs = search needs
 
-share-requires-2 : tie.Need-share-requires-2
-share-requires-2 c κs = search needs
+share-requires : tie.Need-share-requires
+share-requires c κs = search needs
 
 cast-growth : tie.Need-cast-growth
 cast-growth c = omega (arith, sizes (c .before .before .before .before .before) .growth, growth-is c)
@@ -114,13 +114,13 @@ returns c =
     let above = below .before in
     let excess = above .before in
     let a = start excess .args in
-    wider-at (a .settings) (a .accuracy) (a .t) (known excess .passes .someCabinet)
+    wider-at (a .settings) (a .accuracy) (a .t)
     (gap-is (excess .before .before .before))
     (growth-is (excess .before))
     (above .nearest .ensures .0
     ∙ ap (λ (x : ℕ). (2 * x + a .settings .n) / (2 * a .settings .n)) (excess .excess .ensures))
     (below .nearest2 .ensures .0
-    ∙ ap (λ (x : ℕ). (2 * x + (a .settings .n - 1)) / (2 * a .settings .n)) (excess .excess .ensures))
+    ∙ ap (λ (x : ℕ). (2 * x + (a .settings .n - a .settings .window % 2)) / (2 * a .settings .n)) (excess .excess .ensures))
     (c .is-reached .ensures)
 
 pub widened-spec : {M : Type 1} → statement M
@@ -130,10 +130,10 @@ widened-spec =
     cast-n
     cast-bad
     gap-parts-requires
-    share-requires
+    past-share-requires
     cast-gap
     error-parts-requires
-    share-requires-2
+    share-requires
     cast-growth
     excess-requires
     cast-excess

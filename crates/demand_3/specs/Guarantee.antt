@@ -3,8 +3,8 @@
 -- crates/run/specs/Run.antt. The theorem is `guarantee` of proofs/Guarantee.antt. Beside this file, Exact.antt has the
 -- limits for m < t < N-m to the tick, Odd.antt has tighter ones for an odd N, OneValue.antt says what a window of 0
 -- means, Regulator.antt has it for seven cabinets, and Witnesses.antt has rounds that reach its limits.
--- Document 02, "Paper 4. Halves go to the even tick", rewrites its precision limits: ⌈q/N⌉ is now the whole part of q/N
--- plus one, and the next window is the planner's.
+-- Its precision limits are as document 02's "Paper 4. Halves go to the even tick" rewrites them: the planner's next
+-- window, and the whole part of q/N plus one where document 01 has ⌈q/N⌉.
 --
 -- Where this departs from the paper (document 004): t counts every cabinet outside the good set, faulty or sound with a
 -- bad first reading (the paper's Theorem 2 counts the faulty ones only); limits are whole numbers; a reading may be

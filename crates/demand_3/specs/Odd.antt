@@ -1,8 +1,8 @@
--- For an odd N no mean is a half, and the mean's rounding shifts alike at odd and even ticks. So the precision limits stay
--- true there in document 01's form, ⌈q/N⌉, though document 02's "Paper 4" allows one tick more where q/N is whole; and the
--- exact limits are what the mean makes of (m+t)δ more and of (m+t)δ less. The windows that q speaks of after the first
--- round are the plan's, which "Paper 4" makes a tick wider where q/N was whole. The theorem is `odd-limits` of
--- proofs/Odd.antt.
+-- For an odd N no mean is a half, and the mean's rounding shifts alike at odd and even ticks. So the precision limits
+-- are true there in document 01's form, ⌈q/N⌉, though document 02's "Paper 4" allows one tick more where q/N is whole;
+-- and the exact limits are what the mean makes of (m+t)δ more and of (m+t)δ less. The windows that q speaks of after
+-- the first round are the plan's, which "Paper 4" can make a tick wider than document 01's. The theorem is `odd-limits`
+-- of proofs/Odd.antt.
 --
 --   oddCloseGap, OddClose       t ≤ m: the limit, of a round
 --   oddWideGap, OddWide         m < t < N-m: the limit, of a round

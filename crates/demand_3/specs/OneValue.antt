@@ -1,9 +1,10 @@
--- Document 02, "Paper 4": "The next window is 0 when m or δ is 0". Then demand 3 leaves nothing between sound cabinets:
--- they hold one value after every round. (With m 0 their sheets are alike, and with δ 0 what they accept is one value; the
--- proof needs neither, since demand 3's limit is 0.) The theorem is `one-value` of proofs/OneValue.antt.
+-- Document 02, "Paper 4": "The next window is 0 when m or δ is 0". Then demand 3 leaves nothing between sound cabinets
+-- where at most m are bad: they hold one value after every round. (With m 0 their sheets are alike, and with δ 0 what
+-- they accept is one value; the proof needs neither, since demand 3's limit is 0.) The theorem is `one-value` of
+-- proofs/OneValue.antt.
 --
 --   AllEqual    new values that are equal
---   OneValue    after every round of every run
+--   OneValue    after every round of every run with at most m bad, where m or δ is 0
 use mathlib.Core.Bool.{Bool}
 use mathlib.Core.List.{List}
 use mathlib.Core.Logic.{_⊎_}

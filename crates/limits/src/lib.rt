@@ -54,6 +54,7 @@ fn widened(settings: Settings, accuracy: u32, t: u32) -> Wider
     let growth = shares::share(settings, limit_terms::error_parts(settings.m, bad)) as u32;
     let excess = limit_terms::excess(settings.m, bad, window) as u32;
     let above = nearest(n, excess, n);
+    // at an even window this half goes outward too
     let below = nearest(n, excess, n - window % 2);
     Wider {
         gap,

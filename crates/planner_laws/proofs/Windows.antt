@@ -73,7 +73,7 @@ next-window-le c s = go (eqb (c .m) 0) refl (eqb (c .window) 0) refl
         (past-le (windowFactor c) (c .n) (c .m) (c .window) (s .someCabinet) (omega arith)
         (pos-of-ne-zero (eqb-false (c .window) 0 eb)))
 
--- the quotient rounded up, which was the next window before document 02's request 4, is at most this one
+-- the quotient rounded up is at most the next window
 pub ceil-next-le : (c : Settings) → 0 < c .n → ceilDiv (windowFactor c * (c .m * c .window)) (c .n) ≤ nextWindow c
 ceil-next-le c some-n = go (eqb (c .m) 0) refl (eqb (c .window) 0) refl
   where

@@ -3,7 +3,7 @@
 -- Assumes nothing.
 use mathlib.Core.Bool.{true, false, _||_}
 use mathlib.Core.Path.{_≡_, sym, ap}
-use Prim.Native.Nat.{ℕ, _+_, _*_, _≤_, _<_}
+use Prim.Native.Nat.{ℕ, _+_, _*_, _-_, _≤_, _<_}
 use native.Mathlib.Nat.{mul-le-mul, div-zero}
 use native.Mathlib.Omega.{arith}
 use lib.Dec.{eqb}
@@ -30,5 +30,6 @@ pub some-window :
 unfolding nextWindow
 some-window c e = rw e
 
-pub product-le : (parts window : ℕ) → parts < twoTo32 → window < twoTo32 → parts * window ≤ 18_446_744_065_119_617_025
-product-le parts window h k = mul-le-mul {n₂ = 4_294_967_295} {m₂ = 4_294_967_295} (omega arith) (omega arith)
+pub product-le :
+    (parts window : ℕ) → parts < twoTo32 → window < twoTo32 → parts * window ≤ (twoTo32 - 1) * (twoTo32 - 1)
+product-le parts window h k = mul-le-mul {n₂ = twoTo32 - 1} {m₂ = twoTo32 - 1} (omega arith) (omega arith)

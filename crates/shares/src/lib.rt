@@ -1,9 +1,10 @@
-// Document 01, "The planner", and document 02, "Paper 4": the window's shares for some of N cabinets, rounded up, or their
-// whole part plus one, of any settings.
+// Document 01, "The planner", and document 02, "Paper 4": the window's shares for some of N cabinets, rounded up, or
+// their whole part plus one, of any settings.
 ghost use mathlib.Core.Bool.{cond, _&&_};
 ghost use mathlib.Core.Path.{_≡_};
-ghost use Prim.Native.Nat.{_*_, _≤_};
+ghost use Prim.Native.Nat.{_*_, _-_, _≤_};
 ghost use lib.Dec.{eqb};
+ghost use Rattle.arithmetic.specs.Words.{twoTo32};
 ghost use Rattle.model.specs.Planner.{ceilDiv, pastDiv, nextWindow, growth};
 ghost use Rattle.model.specs.RoundSheet.{cca, median};
 use model::CCA;
@@ -12,7 +13,7 @@ use model::Settings;
 
 // parts × window
 fn product(settings: Settings, parts: u32) -> u64
-    ensures { λ r. ⌜ (r ≡ parts * settings .window) × (r ≤ 18446744065119617025) ⌝ }
+    ensures { λ r. ⌜ (r ≡ parts * settings .window) × (r ≤ (twoTo32 - 1) * (twoTo32 - 1)) ⌝ }
 {
     (parts as u64) * (settings.window as u64)
 }

@@ -31,7 +31,7 @@ use Rattle.demand_3.proofs.Computed.Tested.{tested}
 use Rattle.spread_guarantee.specs.Guarantee.{Cabinet, reading, newValue, bad, Reads, Alike}
 use Rattle.spread_guarantee.specs.Guarantee.{spreadGap, spreadError}
 use Rattle.spread_guarantee.specs.Witnesses.{wired, low, high, paperGap, Hull, Reached, SpreadReached, WholeReached}
-use Rattle.spread_guarantee.specs.Witnesses.{fifth, fiveLow, fiveHigh, OddReached}
+use Rattle.spread_guarantee.specs.Witnesses.{fifth, fiveLow, fiveHigh, OddSpreadReached}
 
 -- ---- what is asked of a sheet, as tests that compute
 
@@ -124,7 +124,7 @@ reached-tested δ D lowest highest counts at-low at-high near is-low is-high wid
       paperPassed = rw (is-low, is-high) passed;
     }
 
-all-reached : SpreadReached × Reached 2 4 (negsuc 1) (pos 6) × OddReached
+all-reached : SpreadReached × Reached 2 4 (negsuc 1) (pos 6) × OddSpreadReached
 unfolding
     count anyBelow lowest sum table overwrite word entryCount entryAt bytes4 readingBytes sizeBytes sheetBytes
     answerHeader answerBytes readingsOf accepted acceptedAt numbered medianOf estimate mean roundOf roundAt ceilDiv pastDiv firstOf
@@ -142,6 +142,7 @@ all-reached = (
     alike = alike-tested fifth 1 (below 4) fiveLow fiveHigh refl;
     widest = refl;
     wider = refl;
+    farthest = refl;
   },
 )
 
@@ -156,5 +157,5 @@ whole-reached =
       pastPassed = rw (all-reached .1 .lowValue, all-reached .1 .highValue) (lit< tt);
     }
 
-pub odd-reached : OddReached
-odd-reached = all-reached .2
+pub odd-spread-reached : OddSpreadReached
+odd-spread-reached = all-reached .2

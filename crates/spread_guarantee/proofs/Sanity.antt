@@ -9,7 +9,7 @@ use Rattle.run.specs.Rounds.{below}
 use Rattle.demand_3.specs.Guarantee.{apart}
 use Rattle.spread_guarantee.specs.Guarantee.{newValue, spreadGap, oddSpreadGap, spreadError, SpreadLimits}
 use Rattle.spread_guarantee.specs.Witnesses.{wired, low, high, Met, fifth, fiveLow, fiveHigh}
-use Rattle.spread_guarantee.proofs.Computed.{spread-reached, odd-reached}
+use Rattle.spread_guarantee.proofs.Computed.{spread-reached, odd-spread-reached}
 use Rattle.spread_guarantee.proofs.Guarantee.{spread-guarantee}
 
 module _ (δ D : ℕ) (met : Met δ D) where
@@ -29,6 +29,6 @@ reached-promised = gap-promised 1 2 (spread-reached .met)
 
 pub odd-promised : apart (newValue 1 fiveLow) (newValue 1 fiveHigh) ≤ oddSpreadGap fifth 1 1
 odd-promised =
-    rw (odd-reached .counts) at
-    (spread-guarantee fifth 1 1 (pos 0) (below 4) (rw (odd-reached .counts) (lit≤ tt)) .odd refl
-    fiveLow fiveHigh (odd-reached .readsLow) (odd-reached .readsHigh) (odd-reached .alike))
+    rw (odd-spread-reached .counts) at
+    (spread-guarantee fifth 1 1 (pos 0) (below 4) (rw (odd-spread-reached .counts) (lit≤ tt)) .odd refl
+    fiveLow fiveHigh (odd-spread-reached .readsLow) (odd-spread-reached .readsHigh) (odd-spread-reached .alike))

@@ -1,8 +1,8 @@
--- Document 02, "Paper 2. Cable runs differ" (docs/FORMAT.md, 13): how far sound cabinets can be from each other and from
--- true time after one round, where they read a good cabinet alike only up to a spread D and at most m cabinets are bad,
--- whatever the bad ones send to whom. The theorem is `spread-guarantee` of proofs/Guarantee.antt. Witnesses.antt has
--- the sheets that reach both limits. "Paper 4. Halves go to the even tick" rewrites the first: ⌈q/N⌉ is now the whole
--- part of q/N plus one; for an odd N, where no mean is a half, ⌈q/N⌉ stays true.
+-- Document 02, "Paper 2. Cable runs differ" (docs/FORMAT.md, 13): how far sound cabinets can be from each other and
+-- from true time after one round, where they read a good cabinet alike only up to a spread D and at most m cabinets are
+-- bad, whatever the bad ones send to whom. The theorem is `spread-guarantee` of proofs/Guarantee.antt. Witnesses.antt
+-- has the sheets that reach both limits. The first is as "Paper 4. Halves go to the even tick" rewrites it: the whole
+-- part of q/N plus one where "Paper 2" has ⌈q/N⌉, which is true too for an odd N, where no mean is a half.
 --
 -- Where this departs from the paper (document 004): its Lemma 16 takes 2(δ + D) for the hull of what two cabinets
 -- accept, and the last line of its proof of Theorem 17 rests on that. Both are false: Witnesses.antt.
@@ -57,9 +57,9 @@ bad c good = count (λ r. not (good r)) (c .n)
 
 -- ---- What is asked
 
--- of a sound cabinet: its sheet and its answer buffer pass checks 1 to 9 and 16, and its settings are c. "Good readings,
--- as each cabinet reads them, lie within κ of true and within δ + D of each other". The rows of the bad ones are
--- anything
+-- of a sound cabinet: its sheet and its answer buffer pass checks 1 to 9 and 16, and its settings are c. "Good
+-- readings, as each cabinet reads them, lie within κ of true and within δ + D of each other". The rows of the bad ones
+-- are anything
 pub record Reads (c : Settings) (D κ : ℕ) (true-value : ℤ) (good : ℕ → Bool) (p : Cabinet) : Type 0 where
   pub bytes : Bytes (p .sheet)
   pub passes : Passed (p .sheet) D (p .buffer)
@@ -83,6 +83,7 @@ spreadParts c D t = (c .n - t) * D + t * (2 * c .window + 3 * D)
 abbrev pub spreadGap : Settings → ℕ → ℕ → ℕ
 spreadGap c D t = pastDiv (spreadParts c D t) (c .n)
 
+-- for an odd N: ⌈q/N⌉
 abbrev pub oddSpreadGap : Settings → ℕ → ℕ → ℕ
 oddSpreadGap c D t = ceilDiv (spreadParts c D t) (c .n)
 
@@ -101,7 +102,8 @@ pub record SpreadLimits (c : Settings) (D κ : ℕ) (true-value : ℤ) (good : �
       → apart (newValue D p) (newValue D q) ≤ spreadGap c D (bad c good)
   -- an odd N
   pub odd :
-      c .n % 2 ≡ 1 → (p q : Cabinet) → Reads c D κ true-value good p → Reads c D κ true-value good q → Alike c D good p q
+      c .n % 2 ≡ 1
+      → (p q : Cabinet) → Reads c D κ true-value good p → Reads c D κ true-value good q → Alike c D good p q
       → apart (newValue D p) (newValue D q) ≤ oddSpreadGap c D (bad c good)
   pub accurate :
       (p : Cabinet) → Reads c D κ true-value good p

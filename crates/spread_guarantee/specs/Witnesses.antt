@@ -11,7 +11,7 @@
 --   SpreadReached      so with δ 1 and D 2
 --   WholeReached       so with δ 2 and D 4, where the quotient is whole and the means are halves
 --   fifth, five, fiveLow, fiveHigh     a cabinet that read five numbers, N 5, m 1, and a window of 4
---   OddReached         the limit for an odd N is reached, with D 1
+--   OddSpreadReached   the limit for an odd N and that of the accuracy are reached, with D 1
 use mathlib.Core.Bool.{true}
 use mathlib.Core.List.{List, [], _∷_}
 use mathlib.Core.Path.{_≡_}
@@ -27,8 +27,8 @@ use Rattle.model.specs.Planner.{ceilDiv, pastDiv}
 use Rattle.model.specs.Cases.{settings}
 use Rattle.run.specs.Rounds.{below}
 use Rattle.demand_3.specs.Guarantee.{apart}
-use Rattle.spread_guarantee.specs.Guarantee.{Cabinet, reading, newValue, bad, Reads, Alike, spreadGap, spreadError}
-use Rattle.spread_guarantee.specs.Guarantee.{oddSpreadGap}
+use Rattle.spread_guarantee.specs.Guarantee.{Cabinet, reading, newValue, bad, Reads, Alike}
+use Rattle.spread_guarantee.specs.Guarantee.{spreadGap, spreadError, oddSpreadGap}
 
 -- ---- The sheets
 
@@ -61,10 +61,11 @@ pub record Hull (δ D : ℕ) : Type 0 where
 
 -- ---- The limits
 
--- ((N-t)D + 2t(δ+D))/N
+-- (N-t)D + 2t(δ+D)
 abbrev pub paperParts : Settings → ℕ → ℕ → ℕ
 paperParts c D t = (c .n - t) * D + 2 * t * (c .window + D)
 
+-- that over N, rounded up
 abbrev pub paperGap : Settings → ℕ → ℕ → ℕ
 paperGap c D t = ceilDiv (paperParts c D t) (c .n)
 
@@ -92,7 +93,8 @@ SpreadReached = Reached 1 2 (negsuc 0) (pos 3)
 -- The paper has 24/4, and 24/4 plus one is passed too
 pub record WholeReached : Type 0 where
   pub reached : Reached 2 4 (negsuc 1) (pos 6)
-  pub pastPassed : pastDiv (paperParts (wired 2) 4 1) 4 < apart (newValue 4 (low 2 4)) (newValue 4 (high 2 4))
+  pub pastPassed :
+      pastDiv (paperParts (wired 2) 4 1) (wired 2 .n) < apart (newValue 4 (low 2 4)) (newValue 4 (high 2 4))
 
 -- ---- An odd N
 
@@ -113,10 +115,12 @@ abbrev pub fiveHigh : Cabinet
 fiveHigh = five (pos 1 ∷ pos 1 ∷ pos 1 ∷ pos 1 ∷ pos 6 ∷ [])
 
 -- readings 0, 0, 0, 0, -5 and 1, 1, 1, 1, 6 give -1 and 2: 3 apart, which is ⌈15/5⌉, one less than the limit for any N
-pub record OddReached : Type 0 where
+pub record OddSpreadReached : Type 0 where
   pub counts : bad fifth (below 4) ≡ 1
   pub readsLow : Reads fifth 1 1 (pos 0) (below 4) fiveLow
   pub readsHigh : Reads fifth 1 1 (pos 0) (below 4) fiveHigh
   pub alike : Alike fifth 1 (below 4) fiveLow fiveHigh
   pub widest : apart (newValue 1 fiveLow) (newValue 1 fiveHigh) ≡ oddSpreadGap fifth 1 1
   pub wider : spreadGap fifth 1 1 ≡ 4
+  -- 2: what the round adds to the accuracy is a whole number here, with nothing more
+  pub farthest : apart (newValue 1 fiveHigh) (pos 0) ≡ spreadError fifth 1 1 1

@@ -1,8 +1,8 @@
 -- INNER: no reader needs this page to believe a public promise. Document 01's round of the readings that a list of
 -- marks and a list of values hold (Rattle.held.specs.Held).
 --   agreedRound              document 01's round of the readings
---   unagreed                 nothing is agreed on: the lists do not fit, nothing is accepted, or two accepted readings lie
---                            farther apart than twice the widest span
+--   unagreed                 nothing is agreed on: the lists do not fit, nothing is accepted, or two accepted readings
+--                            lie farther apart than twice the widest span
 --   agreedOf                 what `agree` gives: the accepted count, the estimate and the new value
 --   markAt, agreedMarks      document 01's mark of a reading; the marks that `agree` leaves
 use mathlib.Core.Bool.{Bool, cond, _||_}
@@ -25,8 +25,8 @@ agreedRound w need kind marks values =
     roundWith (length marks) (readingsIn marks values) (acceptedIn w need marks values)
     (estimate kind (acceptedIn w need marks values) (length marks) (readingsIn marks values))
 
--- the law `agreed-near` (proofs/Near) says that accepted readings never lie so far apart where more than half must agree
--- and the span is no wider than the widest
+-- the law `agreed-near` (proofs/Near) says that accepted readings never lie so far apart where more than half must
+-- agree and the span is no wider than the widest
 abbrev pub unagreed : ℕ → ℕ → List ℕ → List ℕ → Bool
 unagreed w need marks values =
     unfit (length marks) (length values)

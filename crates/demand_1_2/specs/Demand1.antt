@@ -1,9 +1,9 @@
 -- Demand 1: what leaves where bytes of any kind, or settings of any kind, come in. The theorem is `demand-1` of
 -- proofs/Demand1.antt.
 --
--- It speaks of `settleSpread`, `read`, `write`, `row`, `plan`, `step` and `Target` of crates/model/specs/Calls.antt: the same
--- definitions that the functions' promises are equations with. `settle` is `settleSpread` with the spread 0. The checks
--- of a call are its list in crates/model/specs/Refusals.antt.
+-- It speaks of `settleSpread`, `read`, `write`, `row`, `plan`, `step` and `Target` of crates/model/specs/Calls.antt:
+-- the same definitions that the functions' promises are equations with. `settle` is `settleSpread` with the spread 0.
+-- The checks of a call are its list in crates/model/specs/Refusals.antt.
 --
 -- "Nothing is presumed checked": every field holds for all arguments. A list may be empty, or longer than any sheet,
 -- and its elements need not even be bytes.
@@ -88,8 +88,8 @@ pub record Placed (mark bits : ℕ → ℕ) (E : ℕ) (r : Refusal) : Type 0 whe
 
 -- ---- Sheets
 
--- "A round sheet comes in as bytes of any kind and any length": the list s, a spread D of any size (document 02, request
--- 2: 16 "after 5"), and the answer buffer
+-- "A round sheet comes in as bytes of any kind and any length": the list s, a spread D of any size (document 02,
+-- request 2: 16 "after 5"), and the answer buffer
 pub record OfSettle (s : List ℕ) (D : ℕ) (answer : List ℕ) : Type 0 where
   pub order : InOrder (1 ∷ 2 ∷ 3 ∷ 4 ∷ 5 ∷ 16 ∷ 6 ∷ 7 ∷ 8 ∷ 9 ∷ 10 ∷ []) (settleChecks s D (length answer))
   -- "It leaves as one answer sheet or one numbered refusal, the first that applies": what is granted is its length

@@ -1,11 +1,11 @@
 -- Demand 2: the steps of a round, the planner's windows and accuracies, "too many faults", and the round trips of a
 -- sheet. The theorem is `demand-2` of proofs/Demand2.antt.
 --
--- It speaks of `roundOf`, `readingsOf`, `settleSpread`, `read`, `write`, `plan` and `step` of crates/model/specs, the same
--- definitions that the functions' promises are equations with, and says in the words of the paper and of document 01
--- what they are: any span, and not only those that start at a reading; what an estimate is among the accepted readings;
--- what the mean is nearest to. What `settleSpread` writes is `roundAt` of the sheet and the spread: `roundOf` its
--- settings and its `readingsOf`. `settle` is `settleSpread` with the spread 0.
+-- It speaks of `roundOf`, `readingsOf`, `settleSpread`, `read`, `write`, `plan` and `step` of crates/model/specs, the
+-- same definitions that the functions' promises are equations with, and says in the words of the paper and of document
+-- 01 what they are: any span, and not only those that start at a reading; what an estimate is among the accepted
+-- readings; what the mean is nearest to. What `settleSpread` writes is `roundAt` of the sheet and the spread: `roundOf`
+-- its settings and its `readingsOf`. `settle` is `settleSpread` with the spread 0.
 --
 -- What is not claimed: an estimate where no reading is accepted; a decision where N is below 3m+1. No call grants
 -- there.
@@ -49,7 +49,8 @@ use Rattle.planner_laws.specs.Stepping.{steps}
 
 -- ---- Accepted readings
 
--- a span [s, f] with "f - s ≤ δ", or δ + D with a spread (document 02, request 2), that "holds at least N-m present readings, equal ones counted each"
+-- a span [s, f] with "f - s ≤ δ", or δ + D with a spread (document 02, request 2), that "holds at least N-m present
+-- readings, equal ones counted each"
 pub record FullSpan (c : Settings) (D : ℕ) (v : Readings) : Type 0 where
   pub start : ℤ
   pub end : ℤ
@@ -255,7 +256,9 @@ pub record Demand2 : Type 0 where
   -- "Accepted readings, estimate, crusaders decision and rounded mean are those of the paper, with document 01 where it
   -- is silent"
   pub accepted : (c : Settings) (D : ℕ) (v : Readings) → Accepted c D v
-  pub estimate : (c : Settings) (D : ℕ) (v : Readings) → 0 < roundOf c D v .count → Estimate c D v (roundOf c D v .estimate)
+  pub estimate :
+      (c : Settings) (D : ℕ) (v : Readings) → 0 < roundOf c D v .count
+      → Estimate c D v (roundOf c D v .estimate)
   pub decision : (c : Settings) (entry : Readings) (r : ℕ) → 3 * c .m + 1 ≤ c .n → Decided c entry r
   pub mean : (c : Settings) (D : ℕ) (v : Readings) → Used c D v
   pub shown :

@@ -1,12 +1,12 @@
--- The exact limits where more than m are bad: what document 01 states for m < t < N-m, to the tick. They are at most the
--- limits of Guarantee.antt (`Sharper`), which so follow from them. The theorem is `exact-limits` of proofs/Exact.antt;
--- crates/sharpness/specs/Sharpness.antt has rounds that reach them.
+-- The exact limits where more than m are bad: what document 01 states for m < t < N-m, to the tick. They are at most
+-- the limits of Guarantee.antt (`Sharper`), which so follow from them. The theorem is `exact-limits` of
+-- proofs/Exact.antt; crates/sharpness/specs/Sharpness.antt has rounds that reach them.
 --
 -- The used values of one cabinet add up to at most N times the highest good reading plus (m+t)δ, and to at least N
 -- times the lowest good one less (m+t)δ. The mean's rounding never falls. So a new value is above the highest good
--- reading, or below the lowest, by at most the nearest whole number to (m+t)δ/N, where a half may go either way: it goes
--- to the even neighbour, and that depends on the reading. Good readings are at most δ apart; where δ is odd and they are
--- that far apart, one of them is even and the other odd, so that not both halves go outward.
+-- reading, or below the lowest, by at most the nearest whole number to (m+t)δ/N, where a half may go either way: it
+-- goes to the even neighbour, and that depends on the reading. Good readings are at most δ apart; where δ is odd and
+-- they are that far apart, one of them is even and the other odd, so that not both halves go outward.
 --
 --   excess                      (m+t)δ
 --   halfUp, halfDown            the nearest whole number to a quotient, a half going up; and one going down

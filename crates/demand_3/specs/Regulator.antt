@@ -2,19 +2,19 @@
 -- at a station lie, each telling every cabinet something else?" The theorem is `regulators-case` of
 -- proofs/Regulator.antt; it follows from `exact-limits`, `guarantee` and `odd-limits`.
 --
--- The answer, for seven cabinets planned for two faults, by either rule with any estimator. Seven is odd, so that no mean
--- is a half and the limits are those of Odd.antt:
+-- The answer, for seven cabinets planned for two faults, by either rule with any estimator. Seven is odd, so that no
+-- mean is a half and the limits are those of Odd.antt:
 --   three bad        after the first round two sound cabinets that do not refuse are at most δ + 2 near(5δ) apart, and
 --                    each is within κ + near(5δ) of true, near(5δ) being the nearest whole number to 5δ/7. No smaller
 --                    numbers would be true: crates/sharpness/specs/Sharpness.antt has a round that reaches both, at
 --                    every window of at most 2κ (good readings cannot be further apart). Document 01's own limits,
 --                    ⌈17δ/7⌉ and κ + ⌈5δ/7⌉, are the same or one tick more
 --   four bad         the same with 6δ for 5δ and 19δ for 17δ
---   at most two bad  no sound cabinet refuses, and after round 1, 2, 3, .. they are at most ⌈4δ/7⌉, ⌈4δ₁/7⌉, ⌈4δ₂/7⌉, ..
---                    apart (⌈2δ/7⌉, ⌈2δ₁/7⌉, .. for CCA with median), where δ₁, δ₂, .. are the planned windows: δ₁ is
---                    the whole part of 4δ/7 (2δ/7) plus one, or 0 where δ is, and so on. They are within κ + ⌈2δ/7⌉, then
---                    ⌈2δ₁/7⌉ more, .. of true. The windows are document 02's, so that from round 2 on these limits can be
---                    a tick more than document 01's, by its windows, were
+--   at most two bad  no sound cabinet refuses, and after round 1, 2, 3, .. they are at most ⌈4δ/7⌉, ⌈4δ₁/7⌉, ⌈4δ₂/7⌉,
+--                    .. apart (⌈2δ/7⌉, ⌈2δ₁/7⌉, .. for CCA with median), where δ₁, δ₂, .. are the planned windows: δ₁
+--                    is the whole part of 4δ/7 (2δ/7) plus one, or 0 where δ is, and so on. They are within κ + ⌈2δ/7⌉,
+--                    then ⌈2δ₁/7⌉ more, .. of true. The windows are document 02's, so that from round 2 on these limits
+--                    can be a tick more than document 01's by its own windows
 --
 --   SevenPlannedForTwo            the station: N 7 and m 2
 --   nearestSeventh                the nearest whole number to a seventh

@@ -5,8 +5,8 @@
 --   gap, error                how far two cabinets are apart after a round, how far one is from true time
 --   faultyCount               how many cabinets are faulty
 --   Meets                     what demand 3 asks of a run before it promises anything
---   WideReached               three of seven are bad: both limits for m < t < N-m, those of Guarantee.antt and the exact
---                             ones
+--   WideReached               three of seven are bad: both limits for m < t < N-m, those of Guarantee.antt and the
+--                             exact ones
 --   ExactReached              the same at a window of 2: the exact limits, which are below those there
 --   HalfReached               two of four are bad: the exact limits and the gap of Guarantee.antt, where the means are
 --                             halves
@@ -32,7 +32,8 @@ use Rattle.model.specs.Refusals.{refusal, tooManyFaultsNumber}
 use Rattle.model.specs.Calls.{refused}
 use Rattle.run.specs.Run.{Station, N, m, δ, Start, Sends, Allowed, State, start, settled}
 use Rattle.run.specs.Rounds.{below, wideStation, wideSends, exactStation, exactSends, halfStation, halfSends}
-use Rattle.run.specs.Rounds.{closeStation, closeSends, oneMoreStation, oneMoreSends, medianStation, medianSends, averageStation, averageSends}
+use Rattle.run.specs.Rounds.{closeStation, closeSends, oneMoreStation, oneMoreSends, medianStation, medianSends}
+use Rattle.run.specs.Rounds.{averageStation, averageSends}
 use Rattle.run.specs.Rounds.{oddWideStation, oddWideSends, oddCloseStation, oddCloseSends, pairStation, pairSends}
 use Rattle.run.specs.Rounds.{oddRowsStation, oddRowsSends, stillStation, stillSends}
 use Rattle.run.specs.Rounds.{bothStation, bothSends, mixedStation, mixedSends}
@@ -121,12 +122,16 @@ pub record OddReached : Type 0 where
   pub meets : Meets oddCloseStation (oddCloseSends ∷ []) (below 5) (pos 0)
   pub counts : bad oddCloseStation (below 5) ≡ 2
   -- 4, where the next window is 5
-  pub widest : gap oddCloseStation (start oddCloseStation) oddCloseSends 0 1 ≡ oddCloseGap oddCloseStation (start oddCloseStation)
+  pub widest :
+      gap oddCloseStation (start oddCloseStation) oddCloseSends 0 1
+      ≡ oddCloseGap oddCloseStation (start oddCloseStation)
   pub next-window : closeGap oddCloseStation (start oddCloseStation) oddCloseSends ≡ 5
   pub rows-meets : Meets oddRowsStation (oddRowsSends ∷ []) (below 5) (pos 0)
   pub rows-counts : bad oddRowsStation (below 5) ≡ 2
   -- 2, where the next window is 3
-  pub rows-widest : gap oddRowsStation (start oddRowsStation) oddRowsSends 0 1 ≡ oddCloseGap oddRowsStation (start oddRowsStation)
+  pub rows-widest :
+      gap oddRowsStation (start oddRowsStation) oddRowsSends 0 1
+      ≡ oddCloseGap oddRowsStation (start oddRowsStation)
   pub rows-next-window : closeGap oddRowsStation (start oddRowsStation) oddRowsSends ≡ 3
   pub more-meets : Meets oddWideStation (oddWideSends ∷ []) (below 4) (pos 0)
   pub more-counts : bad oddWideStation (below 4) ≡ 3

@@ -2,8 +2,8 @@
 -- two lists hold: a list of marks, and a list of naturals that are ticks moved up by 2^31.
 --   estimateOfHeld        document 01's estimate of the present readings
 --   meanIn                document 01's mean of the readings, the missing ones replaced
---   nothing, evaluatedOf  what `evaluate` gives: all 0 where none is present, two lie farther apart than twice the widest
---                         span, there are more than 64 readings, or the lists are not equally long
+--   nothing, evaluatedOf  what `evaluate` gives: all 0 where none is present, two lie farther apart than twice the
+--                         widest span, there are more than 64 readings, or the lists are not equally long
 -- What the function below it gives, over naturals:
 --   estimateAt            the estimate of the present readings
 use mathlib.Core.Bool.{cond}

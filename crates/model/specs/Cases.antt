@@ -202,8 +202,9 @@ spreadShown =
 unfoldable pub spreadWanted : List ℤ
 spreadWanted = pos 4 ∷ negsuc 0 ∷ pos 4 ∷ pos 3 ∷ []
 
--- ---- Document 02, request 4: "The mean's half now goes to the even neighbour". None of document 01's cases, so number 0
+-- ---- Document 02, request 4: "The mean's half now goes to the even neighbour"
 
+-- none of document 01's cases, so number 0
 unfoldable pub halves : List Case
 halves =
     -- N 2, m 0, δ 1; 1, 2: new 2. With -2, -1: new -2. With -3, -2: new -2

@@ -1,5 +1,5 @@
--- Document 01, "The planner" (docs/FORMAT.md, 6), with document 02's "Paper 4. Halves go to the even tick", which changes
--- the next window.
+-- Document 01, "The planner" (docs/FORMAT.md, 6), with document 02's "Paper 4. Halves go to the even tick", which
+-- changes the next window.
 --   ceilDiv, pastDiv      a quotient rounded up; its whole part plus one
 --   nextWindow, growth    the next window; what a round adds to the accuracy
 --   Plan                  the settings with the next round's window, the accuracy planned by then, the rounds done

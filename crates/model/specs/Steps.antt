@@ -108,9 +108,9 @@ estimate kind acc n v =
 abbrev pub isEven : ℤ → Bool
 isEven z = eqb (natAbs z % 2) 0
 
--- "the mean of N used values to the nearest whole number"; document 02, request 4: "The mean's half now goes to the even
--- neighbour". With a half going up it is the whole part of (2S + N) / 2N, with one going down that of (2S + N-1) / 2N.
--- Where S/N is no half they are the same, and where it is one they are its neighbours
+-- "the mean of N used values to the nearest whole number"; document 02, request 4: "The mean's half now goes to the
+-- even neighbour". With a half going up it is the whole part of (2S + N) / 2N, with one going down that of
+-- (2S + N-1) / 2N. Where S/N is no half they are the same, and where it is one they are its neighbours
 unfoldable pub mean : ℕ → ℤ → ℤ
 mean n s =
     let above = floorDiv (s +ℤ s +ℤ pos n) (2 * n) in

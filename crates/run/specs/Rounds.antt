@@ -221,14 +221,16 @@ pub record RoundsComputed : Type 0 where
   -- cabinets 2 and 3 refuse
   pub wide : heldAfter wideStation (start wideStation) wideSends 4 ≡ minus 6 ∷ at 14 ∷ missing ∷ missing ∷ []
   pub exact : heldAfter exactStation (start exactStation) exactSends 4 ≡ minus 1 ∷ at 3 ∷ missing ∷ missing ∷ []
-  pub oddWide : heldAfter oddWideStation (start oddWideStation) oddWideSends 4 ≡ minus 5 ∷ at 12 ∷ missing ∷ missing ∷ []
+  pub oddWide :
+      heldAfter oddWideStation (start oddWideStation) oddWideSends 4 ≡ minus 5 ∷ at 12 ∷ missing ∷ missing ∷ []
   -- the used values add up to -6 and to 14: the means are -1 1/2 and 3 1/2
   pub half : heldAfter halfStation (start halfStation) halfSends 2 ≡ minus 2 ∷ at 4 ∷ []
   -- the used values add up to 2 and to 6: the means are a half and 1 1/2
   pub close : heldAfter closeStation (start closeStation) closeSends 3 ≡ at 0 ∷ at 2 ∷ at 1 ∷ []
   -- 6/4 goes to 2 and 2/4 to 0
   pub oneMore : heldAfter oneMoreStation (start oneMoreStation) oneMoreSends 3 ≡ at 2 ∷ at 0 ∷ at 1 ∷ []
-  pub oddClose : heldAfter oddCloseStation (start oddCloseStation) oddCloseSends 5 ≡ minus 2 ∷ at 2 ∷ at 0 ∷ at 0 ∷ at 0 ∷ []
+  pub oddClose :
+      heldAfter oddCloseStation (start oddCloseStation) oddCloseSends 5 ≡ minus 2 ∷ at 2 ∷ at 0 ∷ at 0 ∷ at 0 ∷ []
   pub oddRows :
       heldAfter oddRowsStation (start oddRowsStation) oddRowsSends 5 ≡ at 2 ∷ at 0 ∷ at 0 ∷ at 0 ∷ at 0 ∷ []
   pub still : heldAfter stillStation (start stillStation) stillSends 3 ≡ at 5 ∷ at 5 ∷ at 5 ∷ []

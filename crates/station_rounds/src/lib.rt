@@ -102,9 +102,9 @@ fn settle_each(
     p
 }
 
-// Settles a round of at most 64 cabinets: the values that sound cabinets hold next in a lent list, up to the first
-// that meets too many faults, which is the answer; the number of cabinets where none does. Where the sizes do not fit,
-// half of the cabinets or more may be faulty, or the window is wider than the widest, it changes nothing, and answers the
+// Settles a round of at most 64 cabinets: the values that sound cabinets hold next in a lent list, up to the first that
+// meets too many faults, which is the answer; the number of cabinets where none does. Where the sizes do not fit, half
+// of the cabinets or more may be faulty, or the window is wider than the widest, it changes nothing, and answers the
 // number of roles.
 pub fn settle_round(
     settings: Settings,

@@ -1,7 +1,7 @@
 -- Document 02, "Paper 3. Sums in 32 bits" (docs/FORMAT.md, 5): the mean of a round by the distances of its used values
--- from the lowest accepted reading, rounded as "Paper 4" has it, and how large their sum can be. It is said of every sheet
--- and spread that settling grants, whatever the faults: nothing is asked of the cabinets. The theorem is `sum-guarantee`
--- of proofs/Guarantee.antt.
+-- from the lowest accepted reading, rounded as "Paper 4" has it, and how large their sum can be. It is said of every
+-- sheet and spread that settling grants, whatever the faults: nothing is asked of the cabinets. The theorem is
+-- `sum-guarantee` of proofs/Guarantee.antt.
 --
 -- The round is `roundAt` of crates/model/specs/Steps.antt, whose new value is the mean that it defines: what request 3
 -- asks for is another way to the same value.

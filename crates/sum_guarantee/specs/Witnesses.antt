@@ -1,13 +1,13 @@
 -- Sheets to which Guarantee.antt applies. What they settle to is computed from their bytes; the theorems are in
--- proofs/Computed.antt. The first has the greatest sum of distances that its settings allow, N+m-1 times the span, which
--- is more than N times the span: so that is no limit. Document 02's, 2N times the span, is never reached: N+m-1 is less
--- than two thirds of 2N, since N is above 3m. The others have a half to round.
+-- proofs/Computed.antt. The first has the greatest sum of distances that its settings allow, N+m-1 times the span,
+-- which is more than N times the span: so that is no limit. Document 02's, 2N times the span, is never reached: N+m-1
+-- is less than two thirds of 2N, since N is above 3m. The others have a half to round.
 --
 --   sheetOf       a sheet by FCA with midpoint, all readings present
 --   buffer        an answer buffer of just the answer's length, full of 255s
 --   far           N 7, m 2, the widest window: cabinet 2 reads 0, four are a span above it, two a span above these
---   SumReached    it is granted with the widest spread, its used values and their sum reach the limits, and the new value
---                 is that of the sum
+--   SumReached    it is granted with the widest spread, its used values and their sum reach the limits, and the new
+--                 value is that of the sum
 --   half          N 4, m 1, the window 1: two readings of a number and two of the next
 --   HalfAt        it is granted, and its half goes to a number
 --   HalvesEven    that is the even neighbour, above zero and below

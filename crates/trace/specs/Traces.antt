@@ -35,9 +35,9 @@ onceTrace =
 
 -- ---- Two rounds
 
--- the run of `directStation` of Rounds.antt: the same with a window of 100, -100 and 100, and in the second round cabinet
--- 3 sends -51, 51 and 90. Left open are the four bytes of its first reading, the mark and the four bytes of what it sends
--- itself in the first round, and the byte 90
+-- the run of `directStation` of Rounds.antt: the same with a window of 100, -100 and 100, and in the second round
+-- cabinet 3 sends -51, 51 and 90. Left open are the four bytes of its first reading, the mark and the four bytes of
+-- what it sends itself in the first round, and the byte 90
 unfoldable pub directTraceWith : List ℕ → ℕ → List ℕ → ℕ → List ℕ
 directTraceWith first mark itself last =
     (4 ∷ 1 ∷ 0 ∷ 2 ∷ 100 ∷ 0 ∷ 0 ∷ 0 ∷ 2 ∷ 1 ∷ 1 ∷ 1 ∷ 0 ∷ [])

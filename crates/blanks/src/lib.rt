@@ -3,11 +3,11 @@ ghost use mathlib.Core.Path.{_≡_};
 ghost use mathlib.Core.Bool.{not};
 ghost use lib.Dec.{eqb};
 
-// Whether an entry's mark says that it is not missing.
-pub fn is_marked(mark: u8) -> bool
-    ensures { λ r. ⌜ r ≡ not (eqb mark 0) ⌝ }
+// Whether an entry's mark says that it is missing.
+pub fn is_missing(mark: u8) -> bool
+    ensures { λ r. ⌜ r ≡ eqb mark 0 ⌝ }
 {
-    mark != 0
+    mark == 0
 }
 
 // Whether an entry's bytes are not zero.

@@ -12,15 +12,20 @@ use model::HEADER_SIZE;
 use model::Settings;
 use refusals::Screened;
 
-// Checks 8 and 9 of marks, and of readings of four bytes each. Lists that no sheet has pass.
+// Checks 8 and 9 of marks, and of readings of four bytes each. Lists that no sheet has pass. Where every mark is 1
+// neither has anything to find.
 pub fn check_parts(marks: &[u8], readings: &[u8]) -> Screened
     ensures { λ r.
         ⌜ checkOf r
         ≡ orNext (marksIn (now (marks .entry))) (missingIn (now (marks .entry)) (now (readings .entry))) ⌝ }
 {
-    match mark_checks::check(marks) {
+    let seen = mark_checks::survey(marks);
+    if seen == 0 {
+        return Screened::Passed;
+    }
+    match mark_checks::search(marks, seen) {
         Screened::Refused(r) => Screened::Refused(r),
-        Screened::Passed => missing_checks::check(marks, readings),
+        Screened::Passed => missing_search::search(marks, readings),
     }
 }
 

@@ -1,37 +1,41 @@
 // Check 8 of a list of marks: the lowest that is not 0 or 1.
 ghost use mathlib.Core.Path.{_≡_};
-ghost use Prim.Native.Nat.{_≤_, max};
+ghost use mathlib.Core.Bool.{cond};
+ghost use mathlib.Core.Option.{none};
+ghost use Prim.Native.Nat.{_≤_};
+ghost use lib.Bits.{bitOr, bitXor};
+ghost use lib.Dec.{ltb};
 ghost use lib.ListN.{length};
 ghost use Rattle.model.specs.RoundSheet.{byte};
 ghost use Rattle.model.specs.Refusals.{badMark};
 ghost use Rattle.refusals.specs.Answers.{checkOf};
 ghost use Rattle.sheet_sizes.specs.Bounds.{mostEntries};
-ghost use Rattle.mark_checks.specs.Marks.{AtMost, marksIn};
+ghost use Rattle.mark_checks.specs.Marks.{surveyed, marksIn};
 use model::BAD_MARK;
 use refusals::Screened;
 use sheet_sizes::MAX_ENTRIES;
 
-fn higher(a: u8, b: u8) -> u8
-    ensures { λ r. ⌜ r ≡ max a b ⌝ }
+fn with_mark(seen: u8, mark: u8) -> u8
+    ensures { λ r. ⌜ r ≡ bitOr seen (bitXor mark 1) ⌝ }
 {
-    if a < b { b } else { a }
+    seen | (mark ^ 1)
 }
 
-// A number that no mark is above.
-fn greatest(marks: &[u8]) -> u8
-    ensures { λ r. ⌜ AtMost (now (marks .entry)) r (length (now (marks .entry))) ⌝ }
+// All marks by one pass without a branch: 0 where each is 1, at most 1 where each is 0 or 1.
+pub fn survey(marks: &[u8]) -> u8
+    ensures { λ r. ⌜ r ≡ surveyed (now (marks .entry)) (length (now (marks .entry))) ⌝ }
 {
-    let mut top: u8 = 0;
+    let mut seen: u8 = 0;
     let mut t: usize = 0;
     'entries: while t < marks.len() {
-        top = higher(top, marks[t]);
+        seen = with_mark(seen, marks[t]);
         t += 1;
     }
-    top
+    seen
 }
 
 // Check 8, mark by mark.
-fn search(marks: &[u8]) -> Screened
+fn search_each(marks: &[u8]) -> Screened
     requires { ⌜ length (now marks) ≤ mostEntries ⌝ }
     ensures { λ r. ⌜ checkOf r ≡ badMark (byte (now (marks .entry))) (length (now (marks .entry))) ⌝ }
 {
@@ -46,15 +50,22 @@ fn search(marks: &[u8]) -> Screened
     Screened::Passed
 }
 
-// Check 8, by one pass that never ends early where all marks are 0 or 1. More marks than a sheet can have pass unseen.
-pub fn check(marks: &[u8]) -> Screened
-    ensures { λ r. ⌜ checkOf r ≡ marksIn (now (marks .entry)) ⌝ }
+// Check 8, made where what was seen of the marks is above 1. More marks than a sheet can have pass unseen.
+pub fn search(marks: &[u8], seen: u8) -> Screened
+    ensures { λ r. ⌜ checkOf r ≡ cond (ltb 1 seen) (marksIn (now (marks .entry))) none ⌝ }
 {
+    if seen <= 1 {
+        return Screened::Passed;
+    }
     if MAX_ENTRIES < marks.len() {
         return Screened::Passed;
     }
-    if greatest(marks) <= 1 {
-        return Screened::Passed;
-    }
-    search(marks)
+    search_each(marks)
+}
+
+// Check 8.
+pub fn check(marks: &[u8]) -> Screened
+    ensures { λ r. ⌜ checkOf r ≡ marksIn (now (marks .entry)) ⌝ }
+{
+    search(marks, survey(marks))
 }

@@ -1,27 +1,28 @@
-// Check 9 of marks and, for each, a reading of four bytes, entry by entry: the lowest that is missing with bytes that
-// are not zero.
+// Check 9 of marks and, for each, a reading of four bytes: the lowest that is missing with bytes that are not zero.
 ghost use mathlib.Core.Path.{_≡_};
-ghost use mathlib.Core.Bool.{not, _||_};
-ghost use Prim.Native.Nat.{_*_, _≤_, _<_};
+ghost use mathlib.Core.Bool.{cond, not, _||_};
+ghost use Prim.Native.Nat.{_*_, _≤_, _<_, min};
 ghost use lib.Dec.{ltb, eqb};
 ghost use lib.ListN.{length};
+ghost use Rattle.arithmetic.specs.Counting.{lowest};
 ghost use Rattle.model.specs.RoundSheet.{byte, word};
-ghost use Rattle.model.specs.Refusals.{notZero, badMissing};
+ghost use Rattle.model.specs.Refusals.{notZero};
 ghost use Rattle.refusals.specs.Answers.{checkOf};
 ghost use Rattle.sheet_sizes.specs.Bounds.{mostEntries};
 ghost use Rattle.missing_search.specs.Missing.{missingIn};
+ghost use Rattle.missing_search.specs.Places.{placeOf};
 use model::BAD_MISSING;
 use refusals::Screened;
 use sheet_sizes::MAX_ENTRIES;
 
-// Whether an entry is missing with bytes that are not zero. An entry that is present is not looked at.
+// A place past every entry.
+const NOWHERE: u32 = 131_072;
+
+// Whether an entry is missing with bytes that are not zero.
 fn not_zero(marks: &[u8], readings: &[u8], e: usize) -> bool
     requires { ⌜ (length (now readings) ≡ 4 * length (now marks)) × (e < length (now marks)) ⌝ }
     ensures { λ r. ⌜ r ≡ notZero (byte (now (marks .entry)) e) (word (now (readings .entry)) (4 * e)) ⌝ }
 {
-    if blanks::is_marked(marks[e]) {
-        return false;
-    }
     let i = 4 * e;
     let bits = words::join(
         readings[i],
@@ -29,25 +30,38 @@ fn not_zero(marks: &[u8], readings: &[u8], e: usize) -> bool
         readings[i + 2],
         readings[i + 3],
     );
-    blanks::is_filled(bits)
+    blanks::is_missing(marks[e]) & blanks::is_filled(bits)
 }
 
-// Check 9 of lists that fit.
-fn search_each(marks: &[u8], readings: &[u8]) -> Screened
+// An entry's place, or nowhere if it is not at fault.
+fn place_if(bad: bool, e: u32) -> u32
+    ensures { λ r. ⌜ r ≡ cond bad e mostEntries ⌝ }
+{
+    if bad { e } else { NOWHERE }
+}
+
+fn lower(a: u32, b: u32) -> u32
+    ensures { λ r. ⌜ r ≡ min a b ⌝ }
+{
+    if a < b { a } else { b }
+}
+
+// The lowest entry at fault, or nowhere: one pass that has no branch on what it reads.
+fn lowest_place(marks: &[u8], readings: &[u8]) -> u32
     requires { ⌜ (length (now readings) ≡ 4 * length (now marks)) × (length (now marks) ≤ mostEntries) ⌝ }
     ensures { λ r.
-        ⌜ checkOf r
-        ≡ badMissing (byte (now (marks .entry))) (λ e. word (now (readings .entry)) (4 * e))
-        (length (now (marks .entry))) ⌝ }
+        ⌜ r
+        ≡ placeOf (lowest (λ e. notZero (byte (now (marks .entry)) e) (word (now (readings .entry)) (4 * e)))
+        (length (now (marks .entry)))) ⌝ }
 {
+    let mut place: u32 = NOWHERE;
     let mut entry: usize = 0;
     'entries: while entry < marks.len() {
-        if not_zero(marks, readings, entry) {
-            return Screened::Refused(refusals::refuse_at(BAD_MISSING, entry as u32));
-        }
+        let here = place_if(not_zero(marks, readings, entry), entry as u32);
+        place = lower(place, here);
         entry += 1;
     }
-    Screened::Passed
+    place
 }
 
 // Whether the readings are not four bytes for each mark, or the marks are more than a sheet can have.
@@ -64,5 +78,9 @@ pub fn search(marks: &[u8], readings: &[u8]) -> Screened
     if misfit(marks.len(), readings.len()) {
         return Screened::Passed;
     }
-    search_each(marks, readings)
+    let place = lowest_place(marks, readings);
+    if place == NOWHERE {
+        return Screened::Passed;
+    }
+    Screened::Refused(refusals::refuse_at(BAD_MISSING, place))
 }

@@ -14,9 +14,9 @@ use lib.Seq.{length-take-le, getD-take, getD-drop, take-all}
 use Rattle.arithmetic.specs.Counting.{anyBelow, lowest}
 use Rattle.arithmetic.proofs.Counting.{any-ext, lowest-ext}
 use Rattle.model.specs.RoundSheet.{byte, word}
-use Rattle.model.specs.Refusals.{Check, refuseIf, atEntry, orNext, firstOf, badMark, badMissing, notZero}
+use Rattle.model.specs.Refusals.{Check, refuseIf, atEntry, orNext, firstOf, arrayChecks, badMark, badMissing, notZero}
 use Rattle.model.specs.Refusals.{badMarkNumber, badMissingNumber, badRolesNumber}
-use Rattle.refusal_laws.proofs.Checks.{next-none}
+use Rattle.refusal_laws.proofs.Checks.{next-none, first-snoc}
 use Rattle.trace.specs.Trace.{traceHeaderSize, roleAt, soundAt, senderOf, traceEntries, tracedMark, tracedBits}
 use Rattle.sheet_sizes.specs.Bounds.{mostEntries}
 use Rattle.mark_checks.specs.Marks.{marksIn}
@@ -135,17 +135,20 @@ module _ (s : List ℕ) (n rounds : ℕ) (shaped : Shaped s n rounds) where
 
   -- what is found in the parts says which refuses
   pub body-parts :
-      (from to : ℕ) → from ≡ start → to ≡ start + entries → {eighth ninth last later x : Check}
-      → eighth ≡ marksIn (part s from to) → ninth ≡ missingIn (part s from to) (part s to (length s))
-      → last ≡ rolesIn roles (part s from to) → later ≡ orNext ninth last → x ≡ orNext eighth later
+      (from to : ℕ) → from ≡ start → to ≡ start + entries → {found last x : Check}
+      → found ≡ orNext (marksIn (part s from to)) (missingIn (part s from to) (part s to (length s)))
+      → last ≡ rolesIn roles (part s from to) → x ≡ orNext found last
       → x ≡ firstOf (bodyOf s n rounds)
   unfolding bodyOf firstOf
-  body-parts from to f t a b c l x =
+  body-parts from to f t a c x =
       let same : part s from to ≡ marks = ap₂ (part s) f t in
       let rest : part s to (length s) ≡ readings = ap (λ (k : ℕ). part s k (length s)) t in
       x
       ∙ ap₂ orNext
-      (a ∙ ap marksIn same ∙ marks-checked)
-      (l ∙ ap₂ orNext
-      (b ∙ ap₂ missingIn same rest ∙ missing-checked)
-      (c ∙ ap (rolesIn roles) same ∙ roles-checked ∙ sym (next-none (rolesOf s n rounds))))
+      (a
+      ∙ ap₂ orNext
+      (ap marksIn same ∙ marks-checked)
+      (ap₂ missingIn same rest ∙ missing-checked
+      ∙ sym (next-none (badMissing (tracedMark s n) (tracedBits s n rounds) entries))))
+      (c ∙ ap (rolesIn roles) same ∙ roles-checked)
+      ∙ sym (first-snoc (arrayChecks (tracedMark s n) (tracedBits s n rounds) entries) (rolesOf s n rounds))

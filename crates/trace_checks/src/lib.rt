@@ -21,11 +21,9 @@ fn check_entries(trace: &[u8], n: u8, rounds: u8) -> Screened
     let body = trace_sizes::readings_start(n, rounds);
     let marks = &trace[start..body];
     let last = TRACE_HEADER_SIZE + (n as usize);
-    let eighth = mark_checks::check(marks);
-    let ninth = missing_checks::check(marks, &trace[body..]);
+    let entries = entry_checks::check_parts(marks, &trace[body..]);
     let roles = role_checks::check(&trace[TRACE_HEADER_SIZE..last], marks);
-    let later = refusals::first_of(ninth, roles);
-    refusals::first_of(eighth, later)
+    refusals::first_of(entries, roles)
 }
 
 // A trace's settings, or the first refusal of checks 1 to 5, 13, 7, 8, 9 and 14, for a buffer of this length.

@@ -1,7 +1,7 @@
 -- Check 8 of a list of marks.
 --   marksIn    the check; more marks than a sheet can have pass
---   surveyed   the first n marks as one number, the bits in which one of them differs from 1: 0 where each is 1, at most
---              1 where each is 0 or 1
+--   surveyed   the first n marks as one number, the bits in which one of them differs from 1: it is 0 where each is 1,
+--              and at most 1 where each is 0 or 1
 use mathlib.Core.Bool.{cond}
 use mathlib.Core.List.{List}
 use mathlib.Core.Option.{none}

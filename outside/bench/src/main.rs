@@ -270,6 +270,26 @@ fn show_reading(engines: &Engines, slices: usize) {
     }
 }
 
+/// Settling and reading sheets with gaps; false where the engines do not agree.
+fn show_gaps(engines: &Engines, slices: usize) -> bool {
+    println!();
+    println!("Settling and reading sheets of good readings of which one in eight is missing:");
+    for (rule, rule_name) in RULES {
+        for n in SIZES {
+            let (sheets, kind) = (sheets::sheets_with_gaps(n, rule), Kind::SomeLiars);
+            if !agree(engines, Call::Settle, &sheets, kind) {
+                println!("FAILED: {rule_name}, gaps, N {n}: the answers are not as they should be");
+                return false;
+            }
+            for (call, name) in [(Call::Settle, "gaps"), (Call::Read, "read, gaps")] {
+                let ns = side_by_side(engines, call, &sheets, slices);
+                println!("{}", Cell { rule, kind, n, ns }.start_of_line(name));
+            }
+        }
+    }
+    true
+}
+
 /// Replays, and the settlings of the same sheets; false where the engines do not agree.
 fn show_replays(engines: &Engines, slices: usize) -> bool {
     println!();
@@ -336,6 +356,9 @@ fn main() -> ExitCode {
         return ExitCode::FAILURE;
     }
     show_reading(&engines, options.slices);
+    if !show_gaps(&engines, options.slices) {
+        return ExitCode::FAILURE;
+    }
     if options.sheets {
         return ExitCode::SUCCESS;
     }

@@ -54,11 +54,48 @@ pub fn sheets_with_spread(n: u8, kind: Kind) -> Vec<Vec<u8>> {
     sheets
 }
 
-fn sheet(random: &Random, n: u8, rule: u8, kind: Kind, estimator: u8) -> Vec<u8> {
-    let m = (n - 1) / 3;
-    let settings = Settings { n, m, rule, estimator, window: WINDOW as u32 };
-    let (n, m) = (n as usize, m as usize);
-    let inside = || Some(random.between(0, WINDOW) as i32);
+/// Sheets of good readings of which one in eight is missing, but at most m of a row.
+pub fn sheets_with_gaps(n: u8, rule: u8) -> Vec<Vec<u8>> {
+    let random = Random::new(n as u64);
+    let row = |copies: bool| {
+        let (value, mut left) = (inside(&random), faults(n));
+        let mut entry = || {
+            let gone = left > 0 && random.below(8) == 0;
+            left -= gone as u8;
+            if gone {
+                None
+            } else if copies {
+                value
+            } else {
+                inside(&random)
+            }
+        };
+        (0..n).map(|_| entry()).collect::<Vec<_>>()
+    };
+    let entries = || match rule {
+        FCA => row(false),
+        _ => (0..n).flat_map(|_| row(true)).collect(),
+    };
+    (0..6).map(|i| bytes(n, rule, i % 3, &entries())).collect()
+}
+
+fn faults(n: u8) -> u8 {
+    (n - 1) / 3
+}
+
+fn inside(random: &Random) -> Option<i32> {
+    Some(random.between(0, WINDOW) as i32)
+}
+
+fn bytes(n: u8, rule: u8, estimator: u8, entries: &[Option<i32>]) -> Vec<u8> {
+    let settings = Settings { n, m: faults(n), rule, estimator, window: WINDOW as u32 };
+    let (marks, readings) = marks_and_readings(entries);
+    sheet_bytes(&settings, &marks, &readings)
+}
+
+fn sheet(random: &Random, cabinets: u8, rule: u8, kind: Kind, estimator: u8) -> Vec<u8> {
+    let (n, m) = (cabinets as usize, faults(cabinets) as usize);
+    let inside = || inside(random);
     let entries: Vec<Option<i32>> = match (kind, rule) {
         (Kind::AllAccepted, FCA) => (0..n).map(|_| inside()).collect(),
         (Kind::AllAccepted, _) => (0..n).flat_map(|_| vec![inside(); n]).collect(),
@@ -90,8 +127,7 @@ fn sheet(random: &Random, n: u8, rule: u8, kind: Kind, estimator: u8) -> Vec<u8>
             (0..n).flat_map(row).collect()
         }
     };
-    let (marks, readings) = marks_and_readings(&entries);
-    sheet_bytes(&settings, &marks, &readings)
+    bytes(cabinets, rule, estimator, &entries)
 }
 
 /// N readings in any order, m of them lies.

@@ -16,7 +16,7 @@ use refusals::Screened;
 use sheet_sizes::MAX_ENTRIES;
 
 // A place past every entry.
-const NOWHERE: u32 = 131_072;
+const NOWHERE: u32 = MAX_ENTRIES as u32;
 
 // Whether an entry is missing with bytes that are not zero.
 fn not_zero(marks: &[u8], readings: &[u8], e: usize) -> bool

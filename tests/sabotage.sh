@@ -172,9 +172,9 @@ edited() { # TEXT
     tests/edits_differ words/sabotage >/dev/null 2>&1
     return 0
 }
-sabotage "edits: a correct rewrite" 'edited "$rewrite"' tests/check_must_fail_reasons "words/sabotage: no program tells it from the engine"
+sabotage "edits: a correct rewrite" 'edited "$rewrite"' tests/check_must_fail_reasons "words/sabotage, byte_at: no program tells it from the engine"
 sabotage "edits: an ill-typed contract" 'edited "$ill_typed"' tests/check_must_fail_reasons "words/sabotage: what is edited is not well-formed"
-sabotage "edits: one not tried" "sed -i 's/^new: /new: 0 + /' crates/words/must-fail/base_255.edit" tests/check_must_fail_reasons "words/base_255: not tried as it is"
+sabotage "edits: one not tried" "sed -i 's/^new: /new: 0 + /' crates/words/must-fail/base_255.edit" tests/check_must_fail_reasons "words/base_255, word_at: not tried as it is"
 sabotage "edits: one not in the table" "sed -i '/words.base_255/d' docs/MUST-FAIL.md" tests/check_must_fail_table "words/base_255"
 
 # ---- sheets and plans

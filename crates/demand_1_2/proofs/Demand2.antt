@@ -15,7 +15,7 @@ use lib.IntN.{ℤ}
 use lib.ListN.{length}
 use Rattle.arithmetic.specs.Counting.{sum}
 use Rattle.arithmetic.specs.Writing.{overwrite}
-use Rattle.arithmetic.proofs.Bools.{clash, and-left, and-right, and-intro}
+use Rattle.arithmetic.proofs.Bools.{and-left, and-right, and-intro}
 use Rattle.model.specs.declared.Settings.{Settings}
 use Rattle.model.specs.Ensemble.{missing, present, Readings, quorum}
 use Rattle.model.specs.RoundSheet.{cca, median, settingsAt}

@@ -17,9 +17,9 @@ use Rattle.planner_laws.proofs.Ceiling.{ceil-past}
 use Rattle.round_laws.specs.Naturals.{Even, even-nat, half-up, half-down, mean-nat}
 use Rattle.value_laws.proofs.Means.{mean-low, mean-high, mean-shift}
 use Rattle.limit_laws.proofs.Means.{rise, fall, no-half, mean-fall, up-sum, rise-odd}
-use Rattle.run.specs.Run.{Station, N, m, δ, κ, Start, Sends, Allowed, start}
+use Rattle.run.specs.Run.{Station, N, m, δ, Sends, start}
 use Rattle.run.proofs.Ready.{ready-start, some-n}
-use Rattle.demand_3.specs.Guarantee.{Each, First, apart, Good, bad, wideGap}
+use Rattle.demand_3.specs.Guarantee.{First, apart, bad}
 use Rattle.demand_3.specs.Exact.{excess, exactGap, ExactFirst}
 use Rattle.demand_3.specs.Odd.{oddWideGap, OddWide, OddExact, OddLimits}
 use Rattle.demand_3.proofs.Distances.{mean-above-zero, mean-below-zero}

@@ -4,12 +4,12 @@
 -- Assumes nothing.
 use mathlib.Core.Bool.{Bool, true, false, cond}
 use mathlib.Core.Logic.{⊎-elim}
-use mathlib.Core.Path.{_≡_, refl, ap, _∙_}
-use Prim.Native.Nat.{ℕ, suc, _+_, _*_, _-_, _/_, _%_, _≤_, _<_}
-use native.Mathlib.Nat.{div-mul-le-self, lt-div-mul-add, mul-comm, mul-assoc, le-div-iff-mul-le, add-mul-div-right}
-use native.Mathlib.Nat.{mul-le-mul-left, mul-le-mul-right, mul-add, mul-suc, add-mul, one-mul, zero-mul}
+use mathlib.Core.Path.{_≡_, refl}
+use Prim.Native.Nat.{ℕ, suc, _+_, _*_, _-_, _%_, _≤_, _<_}
+use native.Mathlib.Nat.{mul-comm, mul-assoc, le-div-iff-mul-le, add-mul-div-right}
+use native.Mathlib.Nat.{mul-le-mul-left, mul-le-mul-right, mul-add, mul-suc, add-mul, one-mul}
 use native.Mathlib.Omega.{arith}
-use borrow.Author.Tests.{leb-true, leb-false, ltb-true, ltb-false, eqb-true, eqb-false}
+use borrow.Author.Tests.{leb-true, leb-false, ltb-true, ltb-false, eqb-true}
 use lib.Dec.{leb, ltb}
 use Rattle.arithmetic.proofs.Bools.{both-ways}
 use Rattle.arithmetic.specs.Naturals.{total}
@@ -17,7 +17,7 @@ use Rattle.arithmetic.proofs.Sums.{total-mono, total-add, total-scale}
 use Rattle.model.specs.Planner.{ceilDiv, pastDiv}
 use Rattle.planner_laws.proofs.Ceiling.{ceil-div-covers}
 use Rattle.round_laws.specs.Naturals.{even-nat, half-up, half-down, mean-nat}
-use Rattle.value_laws.proofs.Means.{Nearest, odd-one, half-up-mono, half-down-mono, half-down-below, half-up-next}
+use Rattle.value_laws.proofs.Means.{odd-one, half-up-mono, half-down-mono, half-down-below, half-up-next}
 use Rattle.value_laws.proofs.Means.{half-up-shift, half-down-shift, half-up-zero, up-least, up-most, down-least, down-most}
 use Rattle.value_laws.proofs.Means.{mean-even, mean-odd, mean-low, mean-high, mean-mono, mean-nearest}
 

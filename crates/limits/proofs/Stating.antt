@@ -25,7 +25,7 @@ use Rattle.demand_3.specs.Exact.{halfUp, halfDown}
 use Rattle.sharpness.specs.Sharpness.{Covered}
 use Rattle.reached_limits.specs.Reached.{reachable}
 use Rattle.limits.specs.Limits.{Stated, planned, wider, nothing, refused}
-use Rattle.limits.specs.Limits.{stationOf, widerAt, bounds, stated}
+use Rattle.limits.specs.Limits.{widerAt, bounds, stated}
 
 ceil-div-le : (n : ℕ) → 0 < n → (a : ℕ) → ceilDiv a n ≤ a
 ceil-div-le n some-n a =

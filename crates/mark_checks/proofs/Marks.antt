@@ -9,7 +9,7 @@ use native.Mathlib.Nat.{div-add-mod', mod-lt, not-suc-le-zero}
 use native.Mathlib.Numerals.{add-one}
 use native.Mathlib.Omega.{arith}
 use borrow.Author.Tests.{le-ltb, lt-ltb, ltb-false}
-use lib.Bits.{bitOr, bitAnd, bitXor, differ, xor-step, xor-zero-r, or-add-and, and-le-l, and-le-r}
+use lib.Bits.{bitOr, bitXor, differ, xor-step, xor-zero-r, or-add-and, and-le-l, and-le-r}
 use lib.Dec.{ltb, lit<}
 use lib.ListN.{length}
 use Rattle.arithmetic.proofs.Counting.{lowest-none}

@@ -3,11 +3,10 @@
 -- the spread; with it the laws of one round hold as they are, and what two cabinets read of a good one differs by at
 -- most the spread.
 -- Assumes nothing.
-use mathlib.Core.Bool.{Bool, true}
-use mathlib.Core.List.{List}
-use mathlib.Core.Path.{_≡_, refl, sym, ap, _∙_, subst, subst⁻¹}
+use mathlib.Core.Bool.{Bool}
+use mathlib.Core.Path.{_≡_, refl, ap, _∙_, subst, subst⁻¹}
 use Prim.Native.Nat.{ℕ, _+_, _*_, _%_, _≤_, _<_}
-use native.Mathlib.Nat.{le-refl, le-trans, lt-of-lt-of-le}
+use native.Mathlib.Nat.{le-refl, lt-of-lt-of-le}
 use native.Mathlib.Omega.{arith}
 use lib.IntN.{ℤ}
 use lib.Signed.{mag}
@@ -25,7 +24,7 @@ use Rattle.model.specs.Steps.{Round, roundOf, roundAt, spanWidth}
 use Rattle.model.specs.Calls.{granted}
 use Rattle.refusal_laws.proofs.Limits.{Limits}
 use Rattle.value_laws.proofs.Sheets.{readings-fit}
-use Rattle.limit_laws.proofs.Settled.{Receiver, accepts, valueBy, Few, Truth}
+use Rattle.limit_laws.proofs.Settled.{Receiver, valueBy, Few, Truth}
 use Rattle.limit_laws.proofs.Settled as receiving
 use Rattle.limit_laws.proofs.Means.{MeansClose}
 use Rattle.limit_laws.proofs.Limits.{unrefused, accuracy-bad, precision-spread}

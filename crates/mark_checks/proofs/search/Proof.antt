@@ -2,7 +2,6 @@
 -- Assumes nothing.
 use borrow.Author.Needs.{needs}
 use mathlib.Core.Path.{_∙_}
-use native.Mathlib.Omega.{arith}
 use Rattle.mark_checks.proofs.Marks.{seen-small, too-many, seen-searched}
 use Rattle.mark_checks.proofs.search.Statement.{statement}
 use Rattle.mark_checks.proofs.search.Tie as tie

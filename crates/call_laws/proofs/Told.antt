@@ -31,7 +31,7 @@ use Rattle.refusal_laws.proofs.Checks.{first-snoc, next-none-left}
 use Rattle.refusal_laws.proofs.Limits.{limits, entries-most}
 use Rattle.refusal_laws.proofs.Numbers.{check-more, plain-append, plain-one, each}
 use Rattle.refusal_laws.proofs.Numbers.{length-says, room-says, faults-says, plan-says, target-says, cabinets-say}
-use Rattle.refusal_laws.proofs.Numbers.{plain-settings, plain-sheet, plain-spread}
+use Rattle.refusal_laws.proofs.Numbers.{plain-settings, plain-planner, plain-sheet, plain-spread}
 use Rattle.sheet_laws.proofs.Checks.{settings-passed}
 use Rattle.sheet_laws.proofs.Words.{word-fits}
 use Rattle.sheet_laws.proofs.Orders.{read-checks, write-checks, spread-passed, no-spread, settle-checks}
@@ -56,7 +56,7 @@ module _ (c : Settings) where
 
   planning-sound : (fails : Bool) → Sound 12 (firstOf (planningChecks c fails))
   planning-sound fails =
-      plain-sound (plain-append (plain-settings c) (plain-one (plan-says fails))) (unfold each in refl)
+      plain-sound (plain-append (plain-planner c) (plain-one (plan-says fails))) (unfold each in refl)
 
 length-sound : (given wanted : ℕ) → Sound 12 (badLength given wanted)
 length-sound given wanted = says-sound (length-says given wanted) refl
@@ -103,7 +103,7 @@ target-sound : (c : Settings) (κ target : ℕ) → Sound 12 (firstOf (targetChe
 unfolding targetChecks
 target-sound c κ target =
     plain-sound
-    (plain-append (plain-settings c)
+    (plain-append (plain-planner c)
     (check-more (plan-says (ltb maxAccuracy κ)) (plain-one (target-says (windowAfter maxRounds c κ) target))))
     (unfold each in refl)
 

@@ -31,7 +31,8 @@ use Rattle.model.specs.Calls.{Verdict, granted, refused, verdict, lent, marksOf
 use Rattle.model.specs.Calls.{plan, step, Target}
 use Rattle.refusal_laws.proofs.Checks.{none-at}
 use Rattle.refusal_laws.proofs.Numbers.{no-refusal, Plain, check-more, no-checks, plain-append, plain-one}
-use Rattle.refusal_laws.proofs.Numbers.{plain-first, plain-settings, plain-sheet, plain-spread, length-says, room-says, faults-says}
+use Rattle.refusal_laws.proofs.Numbers.{plain-first, plain-settings, plain-planner, plain-sheet, plain-spread, length-says, room-says}
+use Rattle.refusal_laws.proofs.Numbers.{faults-says}
 use Rattle.refusal_laws.proofs.Numbers.{plan-says, target-says, each}
 use Rattle.sheet_laws.proofs.Answer.{length-answerBytes}
 use Rattle.sheet_laws.proofs.Checks.{length-passed, room-passed}
@@ -239,7 +240,7 @@ plain-place {ns} {xs} p r h =
 module _ (c : Settings) (κ : ℕ) where
   plain-plan : (k : ℕ) → Plain (2 ∷ 3 ∷ 4 ∷ 5 ∷ 11 ∷ []) (planChecks c κ k)
   unfolding planChecks
-  plain-plan k = plain-append (plain-settings c) (plain-one (plan-says (ltb maxAccuracy κ || ltb maxRounds k)))
+  plain-plan k = plain-append (plain-planner c) (plain-one (plan-says (ltb maxAccuracy κ || ltb maxRounds k)))
 
   plans : (k : ℕ) → OfPlan c κ k
   unfolding plan
@@ -255,7 +256,7 @@ module _ (c : Settings) (κ : ℕ) where
     plain-target : Plain (2 ∷ 3 ∷ 4 ∷ 5 ∷ 11 ∷ 12 ∷ []) (targetChecks c κ target)
     unfolding targetChecks
     plain-target =
-        plain-append (plain-settings c)
+        plain-append (plain-planner c)
         (check-more (plan-says (ltb maxAccuracy κ)) (plain-one (target-says (windowAfter maxRounds c κ) target)))
 
     target-gives :
@@ -290,7 +291,7 @@ module _ (p : Plan) where
   plain-step : Plain (2 ∷ 3 ∷ 4 ∷ 5 ∷ 11 ∷ []) (stepChecks p)
   unfolding stepChecks
   plain-step =
-      plain-append (plain-settings (p .settings))
+      plain-append (plain-planner (p .settings))
       (plain-one (plan-says (leb maxRounds (p .rounds) || ltb maxStepAccuracy (p .accuracy))))
 
   steps : OfStep p

@@ -9,7 +9,7 @@ use mathlib.Core.Path.{_≡_, refl, sym, ap, _∙_, subst, subst⁻¹}
 use Prim.Native.Nat.{ℕ, _+_, _*_, _≤_, _<_}
 use native.Mathlib.Nat.{one-mul, lt-of-not-le}
 use native.Mathlib.Omega.{arith}
-use borrow.Author.Tests.{eqb-true, eq-eqb}
+use borrow.Author.Tests.{eqb-true, eq-eqb, ne-eqb}
 use lib.Dec.{eqb}
 use lib.IntN.{ℤ}
 use lib.ListN.{length}
@@ -99,7 +99,7 @@ module _ (c : Settings) (entry : Readings) (r : ℕ) (three : 3 * c .m + 1 ≤ c
   decision : Decided c entry r
   decision =
       record {
-        direct = λ e. read-direct c entry r (ap (λ (k : ℕ). eqb k cca) e);
+        direct = λ other. read-direct c entry r (ne-eqb (c .rule) cca other);
         value = value;
         knownFaulty = known-faulty;
       }

@@ -1,22 +1,23 @@
 -- Demand 2 of settling: "Where no earlier check refuses, "too many faults" is said when no span as wide as the window
--- holds N-m readings, and never otherwise".
+-- holds N-m readings, and never otherwise", by FCA and CCA.
 -- Assumes nothing.
 use mathlib.Core.Bool.{Bool, true, false, not}
 use mathlib.Core.List.{List, [], _∷_, _++_}
 use mathlib.Core.Logic.{_↔_}
 use mathlib.Core.Option.{none, some}
 use mathlib.Core.Path.{_≡_, refl, sym, ap, _∙_}
-use Prim.Native.Nat.{ℕ, _<_}
+use Prim.Native.Nat.{ℕ, _*_, _-_, _≤_, _<_}
 use native.Mathlib.Omega.{arith}
-use borrow.Author.Tests.{eqb-true, eq-eqb, ne-eqb}
+use borrow.Author.Tests.{eqb-true, eq-eqb, ne-eqb, le-ltb, ltb-false}
 use lib.Dec.{eqb}
 use lib.ListN.{length, getD, List·getD-append}
-use Rattle.arithmetic.proofs.Bools.{clash}
+use Rattle.arithmetic.proofs.Bools.{clash, not-true-false}
 use Rattle.model.specs.declared.Refusal.{Refusal}
-use Rattle.model.specs.Ensemble.{quorum}
-use Rattle.model.specs.RoundSheet.{settingsAt, entryCount, entryAt, markAt, bitsAt}
+use Rattle.model.specs.declared.Settings.{Settings}
+use Rattle.model.specs.Ensemble.{Readings, quorum}
+use Rattle.model.specs.RoundSheet.{cca, trims, settingsAt, entryCount, entryAt, markAt, bitsAt}
 use Rattle.model.specs.AnswerSheet.{answerLength}
-use Rattle.model.specs.Steps.{readingsOf, roundAt}
+use Rattle.model.specs.Steps.{readingsOf, trimmedRound, roundBy, roundAt}
 use Rattle.model.specs.Refusals.{refusal, Check, refuseIf, orNext, firstOf, noRoom, tooManyFaults, settingsChecks}
 use Rattle.model.specs.Refusals.{spreadChecks, entryChecks, settleChecks, tooManyFaultsNumber}
 use Rattle.model.specs.Calls.{granted, verdict, settleSpread}
@@ -90,10 +91,27 @@ module _ (s : List ℕ) (D : ℕ) (answer : List ℕ) where
       let f = l .faults in
       omega arith
 
-  faults : firstOf front ≡ none → (roundAt s D .count ≡ 0) ↔ NoSpan s D
-  unfolding roundAt
-  faults pass =
-      too-many-faults (settingsAt s) D (readingsOf (settingsAt s) (entryAt s (entryCount (settingsAt s)))) (enough pass)
+  abbrev own : Settings
+  own = settingsAt s
+
+  abbrev readings : Readings
+  readings = readingsOf (settingsAt s) (entryAt s (entryCount (settingsAt s)))
+
+  -- by FCA and CCA nothing is counted where no span holds enough
+  faults : firstOf front ≡ none → trims (settingsAt s .rule) ≡ false → (roundAt s D .count ≡ 0) ↔ NoSpan s D
+  unfolding roundAt roundBy
+  faults pass spans = rw spans (too-many-faults own D readings (enough pass))
+
+  -- by rules 2 and 3 something is
+  trimmed-some : firstOf front ≡ none → trims (settingsAt s .rule) ≡ true → roundAt s D .count ≡ 0 → ⊥
+  unfolding roundAt roundBy trimmedRound
+  trimmed-some pass trimmed z =
+      let l = limits own (settings-passed s (spread-passed s D (none-left (spreadChecks s D) _ pass) .1)) in
+      let count : own .n - 2 * own .m ≡ 0 = rw trimmed at z in
+      omega (arith, l .faults)
+
+  by-spans : firstOf front ≡ none → roundAt s D .count ≡ 0 → trims (settingsAt s .rule) ≡ false
+  by-spans pass z = not-true-false (trims (settingsAt s .rule)) (λ t. trimmed-some pass t z)
 
   last-ten : (x : Check) (k : ℕ) → x ≡ none → k ≡ 0 → orNext x (tooManyFaults k) ≡ some (refusal tooManyFaultsNumber 0)
   unfolding tooManyFaults
@@ -103,14 +121,16 @@ module _ (s : List ℕ) (D : ℕ) (answer : List ℕ) where
   unfolding settleSpread
   too-many-said =
       record {
-        said = λ pass none-holds.
+        said = λ spans pass none-holds.
             let front-pass = passed-front pass in
+            let counted = faults front-pass (le-ltb cca (settingsAt s .rule) spans) in
             ap (λ (x : Check). verdict x (answerLength (settingsAt s .n)))
-            (first-row ∙ last-ten (firstOf front) (roundAt s D .count) front-pass (faults front-pass .1 none-holds));
+            (first-row ∙ last-ten (firstOf front) (roundAt s D .count) front-pass (counted .1 none-holds));
         never = λ r h is-ten.
             let row = refused-some (firstOf (settleChecks s D (length answer))) (answerLength (settingsAt s .n)) r h in
             let parts = last-says r is-ten (firstOf front) refl (sym first-row ∙ row) in
-            (front-passed (parts .0), faults (parts .0) .0 (parts .1));
+            let spans = by-spans (parts .0) (parts .1) in
+            (ltb-false cca (settingsAt s .rule) spans, front-passed (parts .0), faults (parts .0) spans .0 (parts .1));
       }
 
   -- where the checks before 10 pass, the settings are within their limits, and what accepts a reading is granted

@@ -4,8 +4,9 @@
 -- It speaks of `roundOf`, `readingsOf`, `settleSpread`, `read`, `write`, `plan` and `step` of crates/model/specs, the
 -- same definitions that the functions' promises are equations with, and says in the words of the paper and of document
 -- 01 what they are: any span, and not only those that start at a reading; what an estimate is among the accepted
--- readings; what the mean is nearest to. What `settleSpread` writes is `roundAt` of the sheet and the spread: `roundOf`
--- its settings and its `readingsOf`. `settle` is `settleSpread` with the spread 0.
+-- readings; what the mean is nearest to. What `settleSpread` writes is `roundAt` of the sheet and the spread: for FCA and
+-- CCA `roundOf` its settings and its `readingsOf`. `settle` is `settleSpread` with the spread 0. What the rounds of
+-- document 02's rules 2 and 3 are is said in crates/trim_guarantee/specs/Guarantee.antt.
 --
 -- What is not claimed: an estimate where no reading is accepted; a decision where N is below 3m+1. No call grants
 -- there.
@@ -20,7 +21,7 @@
 --   Used                             used values, and the new value
 --   Bytes, Shown                     bytes; what the answer sheet shows of the round
 --   PlannedRounds, Forward           the planner; one round of it
---   Passed, NoSpan, TooManyFaults    refusal 10
+--   Passed, BySpans, NoSpan, TooManyFaults    refusal 10
 --   ReadThenWritten, WrittenThenRead the round trips
 --   Demand2                          all of it
 use mathlib.Core.Bool.{true, false, cond, _&&_}
@@ -39,7 +40,7 @@ use Rattle.arithmetic.specs.Writing.{overwrite}
 use Rattle.model.specs.declared.Settings.{Settings}
 use Rattle.model.specs.declared.Refusal.{Refusal}
 use Rattle.model.specs.Ensemble.{missing, present, Readings, ticks, quorum}
-use Rattle.model.specs.RoundSheet.{fca, cca, average, median, midpoint, byte, word, settingsAt, entryCount, entryAt}
+use Rattle.model.specs.RoundSheet.{cca, average, median, midpoint, byte, word, settingsAt, entryCount, entryAt}
 use Rattle.model.specs.Steps.{same, readingsOf, inside, held, acceptedAt, roundOf, roundAt, spanWidth}
 use Rattle.model.specs.Planner.{Plan, planFrom, withWindow, maxRounds}
 use Rattle.model.specs.Refusals.{refusal, settleChecks, tooManyFaultsNumber}
@@ -125,10 +126,10 @@ pub record Estimate (c : Settings) (D : ℕ) (v : Readings) (z : ℤ) : Type 0 w
 abbrev pub copiesEqual : Settings → Readings → ℕ → ℤ → ℕ
 copiesEqual c entry r z = count (λ s. same (present z) (entry (r * c .n + s))) (c .n)
 
--- what is read of r. FCA: what r sent. "CCA first decides each row: the value that at least N-m present copies equal.
--- If there is none, that cabinet is known faulty and its reading missing"
+-- what is read of r. FCA, and rules 2 and 3: what r sent. "CCA first decides each row: the value that at least N-m
+-- present copies equal. If there is none, that cabinet is known faulty and its reading missing"
 pub record Decided (c : Settings) (entry : Readings) (r : ℕ) : Type 0 where
-  pub direct : c .rule ≡ fca → readingsOf c entry r ≡ entry r
+  pub direct : (c .rule ≡ cca → ⊥) → readingsOf c entry r ≡ entry r
   pub value : c .rule ≡ cca → (z : ℤ) → (readingsOf c entry r ≡ present z) ↔ (quorum c ≤ copiesEqual c entry r z)
   pub knownFaulty : c .rule ≡ cca → (readingsOf c entry r ≡ missing) ↔ ((z : ℤ) → copiesEqual c entry r z < quorum c)
 
@@ -221,11 +222,18 @@ Passed s D answer = (i : ℕ) → i < 10 → getD (settleChecks s D (length answ
 abbrev pub NoSpan : List ℕ → ℕ → Type 0
 NoSpan s D = FullSpan (settingsAt s) D (readingsOf (settingsAt s) (entryAt s (entryCount (settingsAt s)))) → ⊥
 
+-- the rule is FCA or CCA: document 02, request 5: "what demand 2 says of spans is for FCA and CCA"
+abbrev pub BySpans : List ℕ → Type 0
+BySpans s = settingsAt s .rule ≤ cca
+
 pub record TooManyFaults (s : List ℕ) (D : ℕ) (answer : List ℕ) : Type 0 where
-  pub said : Passed s D answer → NoSpan s D → settleSpread s D answer .verdict ≡ refused (refusal tooManyFaultsNumber 0)
-  -- "and never otherwise"
+  pub said :
+      BySpans s → Passed s D answer → NoSpan s D
+      → settleSpread s D answer .verdict ≡ refused (refusal tooManyFaultsNumber 0)
+  -- "and never otherwise"; with rules 2 and 3 "refusal 10 does not arise"
   pub never :
-      (r : Refusal) → settleSpread s D answer .verdict ≡ refused r → r .number ≡ 10 → Passed s D answer × NoSpan s D
+      (r : Refusal) → settleSpread s D answer .verdict ≡ refused r → r .number ≡ 10
+      → BySpans s × Passed s D answer × NoSpan s D
 
 -- ---- Round trips
 
@@ -268,7 +276,7 @@ pub record Demand2 : Type 0 where
   pub planned : (c : Settings) (κ : ℕ) → PlannedRounds c κ
   pub forward : (p q : Plan) → step p ≡ granted q → Forward p q
   -- "Where no earlier check refuses, "too many faults" is said when no span as wide as the window holds N-m readings,
-  -- and never otherwise"
+  -- and never otherwise"; by FCA and CCA
   pub tooManyFaults : (s : List ℕ) (D : ℕ) (answer : List ℕ) → TooManyFaults s D answer
   -- "A sheet read and written again has the same bytes, and one written reads back the same"
   pub readThenWritten :

@@ -19,7 +19,7 @@ use Rattle.model.specs.Refusals.{firstOf, planChecks}
 use Rattle.model.specs.Ensemble.{maxCabinets, maxWindow}
 use Rattle.planner_laws.proofs.Ceiling.{ceil-div-least}
 use Rattle.planner_laws.proofs.Checks.{none-may-start}
-use Rattle.refusal_laws.proofs.Limits.{Limits}
+use Rattle.refusal_laws.proofs.Limits.{Planned}
 use Rattle.value_laws.proofs.Means.{odd-one}
 use Rattle.demand_3.specs.Exact.{halfUp, halfDown}
 use Rattle.sharpness.specs.Sharpness.{Covered}
@@ -48,7 +48,7 @@ by-half x n w d = go (eqb (w % 2) 0) refl
         ap (λ (a : ℕ). a / d) s
 
 module _ (c : Settings) where
-  module _ (l : Limits c) (parts : ℕ) (few : parts ≤ 256) where
+  module _ (l : Planned c) (parts : ℕ) (few : parts ≤ 256) where
     product-le : parts * c .window ≤ 256000000
     product-le = mul-le-mul {n₂ = 256} {m₂ = maxWindow} few (l .window)
 
@@ -61,7 +61,7 @@ module _ (c : Settings) where
 
   -- the sizes of what is multiplied and added, where the planner grants the settings and fewer than N-m are bad
   pub record Sizes (κ t : ℕ) : Type 0 where
-    pub passes : Limits c
+    pub passes : Planned c
     pub accurate : κ ≤ maxAccuracy
     pub few : t ≤ maxCabinets
     pub gap : pastDiv ((c .n + 2 * t + 2 * c .m) * c .window) (c .n) ≤ 256000001

@@ -2,20 +2,20 @@
 -- the refusal that it gets. The checker computes each.
 -- Assumes nothing.
 use mathlib.Core.List.{List, [], _∷_}
-use mathlib.Core.Option.{some}
+use mathlib.Core.Option.{none, some}
 use mathlib.Core.Path.{_≡_, refl}
 use Prim.Native.Nat.{ℕ, _+_, _-_}
 use lib.IntN.{ℤ, pos}
 use Rattle.arithmetic.specs.Counting.{count, anyBelow, lowest}
 use Rattle.model.specs.declared.Settings.{Settings}
 use Rattle.model.specs.Ensemble.{maxWindow, maxSpread}
-use Rattle.model.specs.RoundSheet.{fca, cca, median, word, entryCount, sheetLength, entryAt, bytes4, readingBytes}
+use Rattle.model.specs.RoundSheet.{fca, cca, trimmedMidpoint, trimmedMean, average, median, word, entryCount, sheetLength, entryAt, bytes4, readingBytes}
 use Rattle.model.specs.RoundSheet.{sizeBytes, sheetBytes}
 use Rattle.model.specs.AnswerSheet.{answerLength}
-use Rattle.model.specs.Steps.{readingsOf, accepted, acceptedAt, roundOf, roundAt}
+use Rattle.model.specs.Steps.{readingsOf, accepted, acceptedAt, roundOf, trimmedRound, roundBy, roundAt}
 use Rattle.model.specs.Planner.{maxAccuracy, maxRounds, ceilDiv, pastDiv, windowFactor, nextWindow, growth, advance, after}
-use Rattle.model.specs.Refusals.{Check, refusal, firstOf, tooShort, badCabinets, badFaults, badMethod, badWindow, badLength, noRoom, badMark}
-use Rattle.model.specs.Refusals.{badMissing, tooManyFaults, badPlan, targetMissed, badSpread, settingsChecks, sheetChecks, spreadChecks, entryChecks}
+use Rattle.model.specs.Refusals.{Check, refusal, firstOf, tooShort, badCabinets, badFaults, badMethod, unplanned, badWindow, badLength, noRoom, badMark}
+use Rattle.model.specs.Refusals.{badMissing, tooManyFaults, badPlan, targetMissed, badSpread, settingsChecks, plannerChecks, sheetChecks, spreadChecks, entryChecks}
 use Rattle.model.specs.Refusals.{readChecks, writeChecks, rowChecks, settleChecks, planChecks, stepChecks, targetChecks}
 use Rattle.model.specs.Refusals.{badCabinetsNumber, badFaultsNumber, badLengthNumber, badMarkNumber}
 use Rattle.model.specs.Refusals.{badMethodNumber, badMissingNumber, badPlanNumber, badWindowNumber}
@@ -70,7 +70,7 @@ settleWanted =
     ∷ []
 
 pub settle-order : settleFirsts ≡ settleWanted
-unfolding count anyBelow lowest word entryCount entryAt bytes4 readingBytes sizeBytes sheetBytes readingsOf accepted acceptedAt roundOf roundAt firstOf tooShort badCabinets badFaults badMethod badWindow badLength noRoom badMark badMissing tooManyFaults badSpread settingsChecks spreadChecks entryChecks settleChecks settleFirsts settleWanted
+unfolding count anyBelow lowest word entryCount entryAt bytes4 readingBytes sizeBytes sheetBytes readingsOf accepted acceptedAt roundOf roundBy roundAt firstOf tooShort badCabinets badFaults badMethod badWindow badLength noRoom badMark badMissing tooManyFaults badSpread settingsChecks spreadChecks entryChecks settleChecks settleFirsts settleWanted
 settle-order = refl
 
 -- the reader: 6 before 7, 7 before 8, 8 before 9; the row accessor: 8 before 9; the writer: 5 before 6, 6 before 7, and so on
@@ -114,5 +114,48 @@ unfoldable pub planWanted : List Check
 planWanted = some (refusal badWindowNumber 0) ∷ some (refusal badWindowNumber 0) ∷ some (refusal badPlanNumber 0) ∷ []
 
 pub plan-order : planFirsts ≡ planWanted
-unfolding ceilDiv pastDiv windowFactor nextWindow growth advance after firstOf badCabinets badFaults badMethod badWindow badPlan targetMissed settingsChecks planChecks stepChecks targetChecks planFirsts planWanted
+unfolding ceilDiv pastDiv windowFactor nextWindow growth advance after firstOf badCabinets badFaults unplanned badWindow badPlan targetMissed plannerChecks planChecks stepChecks targetChecks planFirsts planWanted
 plan-order = refl
+
+-- ---- Document 02, request 5: rules 2 and 3, in the sizes of a sheet of four cabinets, and in a plan
+
+abbrev trimmed : ℕ → ℕ → ℕ → Settings
+trimmed rule estimator window = record { n = 4; m = 1; rule = rule; estimator = estimator; window = window }
+
+-- none of the readings is present
+abbrev silent : ℕ → List ℕ
+silent rule = sheetBytes (trimmed rule average 0) (0 ∷ 0 ∷ 0 ∷ 0 ∷ []) (pos 0 ∷ pos 0 ∷ pos 0 ∷ pos 0 ∷ [])
+
+-- no rule 4; "The estimator byte must be 0, else refusal 4", before 5; "D must be 0 here, else refusal 16", before 6; "refusal 10 does not
+-- arise"; "The planner still refuses these rules under 4"
+unfoldable pub trimmedFirsts : List Check
+trimmedFirsts =
+    firstOf (settleChecks (sheetBytes (trimmed (trimmedMean + 1) average 0) [] []) 0 0)
+    ∷ firstOf (settleChecks (sheetBytes (trimmed trimmedMidpoint median (maxWindow + 1)) [] []) 0 0)
+    ∷ firstOf (settleChecks (sheetBytes (trimmed trimmedMean average (maxWindow + 1)) [] []) 1 0)
+    ∷ firstOf (settleChecks (sheetBytes (trimmed trimmedMidpoint average 0) [] []) 1 0)
+    ∷ firstOf (settleChecks (sheetBytes (trimmed trimmedMean average 0) [] []) 1 0)
+    ∷ firstOf (settleChecks (silent trimmedMidpoint) 0 (answerLength 4))
+    ∷ firstOf (settleChecks (silent trimmedMean) 0 (answerLength 4))
+    ∷ firstOf (planChecks (trimmed trimmedMidpoint average (maxWindow + 1)) 0 0)
+    ∷ firstOf (stepChecks (record { settings = trimmed trimmedMean average 0; accuracy = 0; rounds = maxRounds }))
+    ∷ firstOf (targetChecks (trimmed trimmedMidpoint average 0) 0 0)
+    ∷ []
+
+unfoldable pub trimmedWanted : List Check
+trimmedWanted =
+    some (refusal badMethodNumber 0)
+    ∷ some (refusal badMethodNumber 0)
+    ∷ some (refusal badWindowNumber 0)
+    ∷ some (refusal badSpreadNumber 0)
+    ∷ some (refusal badSpreadNumber 0)
+    ∷ none
+    ∷ none
+    ∷ some (refusal badMethodNumber 0)
+    ∷ some (refusal badMethodNumber 0)
+    ∷ some (refusal badMethodNumber 0)
+    ∷ []
+
+pub trimmed-order : trimmedFirsts ≡ trimmedWanted
+unfolding lowest word entryCount entryAt bytes4 readingBytes sizeBytes sheetBytes readingsOf trimmedRound roundBy roundAt firstOf tooShort badCabinets badFaults badMethod unplanned badWindow badLength noRoom badMark badMissing tooManyFaults badPlan targetMissed badSpread settingsChecks plannerChecks spreadChecks entryChecks settleChecks planChecks stepChecks targetChecks trimmedFirsts trimmedWanted
+trimmed-order = refl

@@ -6,15 +6,17 @@
 --   sheet1, listing1 case 1's sheet in bytes, and the listing of it: document 01's, with document 02's new value
 --   rowsShown        what the row accessor shows of case 1's and of case 10's sheet
 --   halves           document 02, request 4: more halves, and windows that stand still
-use mathlib.Core.List.{List, [], _∷_, map}
+--   trimmedShown     document 02, request 5: rounds by rules 2 and 3
+use mathlib.Core.List.{List, [], _∷_, _++_, map}
 use mathlib.Core.Option.{none, some}
 use Prim.Native.Nat.{ℕ, _-_}
 use lib.ListN.{getD}
 use lib.IntN.{ℤ, pos, negsuc, natAbs, _-ℤ_}
+use Rattle.arithmetic.specs.Writing.{table}
 use Rattle.model.specs.declared.Settings.{Settings}
 use Rattle.model.specs.Ensemble.{Reading, missing, present, ticks}
-use Rattle.model.specs.RoundSheet.{fca, cca, average, median, midpoint, sheetBytes}
-use Rattle.model.specs.Steps.{Decision, decided, knownFaulty, decideRow, Round, readingsOf, roundOf}
+use Rattle.model.specs.RoundSheet.{fca, cca, trimmedMidpoint, trimmedMean, average, median, midpoint, sheetBytes}
+use Rattle.model.specs.Steps.{Decision, decided, knownFaulty, decideRow, Round, readingsOf, roundBy}
 use Rattle.model.specs.Planner.{planFrom, after, ceilDiv}
 use Rattle.model.specs.Refusals.{Check, firstOf, tooManyFaults, targetChecks}
 use Rattle.model.specs.Calls.{row}
@@ -53,7 +55,7 @@ ofDecision knownFaulty = faulty
 
 -- the round that a list of entries makes, with a spread; without one
 abbrev pub spreadFrom : Settings → ℕ → List Reading → Round
-spreadFrom c D entries = roundOf c D (readingsOf c (λ e. getD entries e missing))
+spreadFrom c D entries = roundBy c D (readingsOf c (λ e. getD entries e missing))
 
 abbrev pub roundFrom : Settings → List Reading → Round
 roundFrom c entries = spreadFrom c 0 entries
@@ -219,4 +221,48 @@ halves =
     -- "That plan's window now settles at 2": it is there after 7 rounds, and after 32
     ∷ case 0 (planned plan11 100 7) (gives (pos 2 ∷ pos 154 ∷ []))
     ∷ case 0 (planned plan11 100 32) (gives (pos 2 ∷ pos 179 ∷ []))
+    ∷ []
+
+-- ---- Document 02, request 5: "Rule 2 drops the m lowest and m highest of N and takes half the sum of the extremes left;
+-- rule 3 takes the mean of those left"
+
+-- the count, the estimate and the new value; then the mark of each cabinet; then its used value
+abbrev pub ofAll : ℕ → Round → List ℤ
+ofAll n r =
+    (pos (r .count) ∷ r .estimate ∷ r .value ∷ []) ++ (table (λ i. pos (r .mark i)) n ++ table (r .used) n)
+
+-- N 4, m 1 and a window of 0
+abbrev pub trimmed : ℕ → List Reading → List ℤ
+trimmed rule readings = ofAll 4 (roundFrom (settings 4 1 rule average 0) readings)
+
+unfoldable pub trimmedShown : List (List ℤ)
+trimmedShown =
+    -- half of 4 + 11 is 7.5, and goes to 8; half of -5 is -2.5, and goes to -2
+    trimmed trimmedMidpoint (at 500 ∷ at 4 ∷ at 11 ∷ minus 9 ∷ [])
+    ∷ trimmed trimmedMidpoint (minus 3 ∷ minus 2 ∷ at 0 ∷ minus 4 ∷ [])
+    -- "equal readings order by cabinet number"
+    ∷ trimmed trimmedMean (at 5 ∷ at 5 ∷ at 5 ∷ at 5 ∷ [])
+    -- "A missing reading counts as 0": it is dropped as the lowest, and it is kept
+    ∷ trimmed trimmedMean (at 10 ∷ missing ∷ at 20 ∷ at 31 ∷ [])
+    ∷ trimmed trimmedMean (minus 10 ∷ missing ∷ at 6 ∷ at 7 ∷ [])
+    -- N 7, m 2: those left are 2, 3 and 11, whose mean is 16/3; the extremes are together 13
+    ∷ ofAll 3
+    (roundFrom (settings 7 2 trimmedMean average 0) (at 3 ∷ at 11 ∷ at 2 ∷ at 90 ∷ at 0 ∷ at 1 ∷ at 80 ∷ []))
+    ∷ ofAll 3
+    (roundFrom (settings 7 2 trimmedMidpoint average 0) (at 3 ∷ at 11 ∷ at 2 ∷ at 90 ∷ at 0 ∷ at 1 ∷ at 80 ∷ []))
+    -- the sum of two readings at the end of 32 bits takes 33
+    ∷ trimmed trimmedMidpoint (at 2147483647 ∷ at 2147483647 ∷ at 2147483646 ∷ at 2147483647 ∷ [])
+    ∷ []
+
+unfoldable pub trimmedWanted : List (List ℤ)
+trimmedWanted =
+    (pos 2 ∷ pos 8 ∷ pos 8 ∷ pos 2 ∷ pos 1 ∷ pos 1 ∷ pos 2 ∷ pos 8 ∷ pos 4 ∷ pos 11 ∷ pos 8 ∷ [])
+    ∷ (pos 2 ∷ negsuc 1 ∷ negsuc 1 ∷ pos 1 ∷ pos 1 ∷ pos 2 ∷ pos 2 ∷ negsuc 2 ∷ negsuc 1 ∷ negsuc 1 ∷ negsuc 1 ∷ [])
+    ∷ (pos 2 ∷ pos 5 ∷ pos 5 ∷ pos 2 ∷ pos 1 ∷ pos 1 ∷ pos 2 ∷ pos 5 ∷ pos 5 ∷ pos 5 ∷ pos 5 ∷ [])
+    ∷ (pos 2 ∷ pos 15 ∷ pos 15 ∷ pos 1 ∷ pos 0 ∷ pos 1 ∷ pos 2 ∷ pos 10 ∷ pos 15 ∷ pos 20 ∷ pos 15 ∷ [])
+    ∷ (pos 2 ∷ pos 3 ∷ pos 3 ∷ pos 2 ∷ pos 0 ∷ pos 1 ∷ pos 2 ∷ pos 3 ∷ pos 3 ∷ pos 6 ∷ pos 3 ∷ [])
+    ∷ (pos 3 ∷ pos 5 ∷ pos 5 ∷ pos 1 ∷ pos 1 ∷ pos 1 ∷ pos 3 ∷ pos 11 ∷ pos 2 ∷ [])
+    ∷ (pos 3 ∷ pos 6 ∷ pos 6 ∷ pos 1 ∷ pos 1 ∷ pos 1 ∷ pos 3 ∷ pos 11 ∷ pos 2 ∷ [])
+    ∷ (pos 2 ∷ pos 2147483647 ∷ pos 2147483647 ∷ pos 1 ∷ pos 1 ∷ pos 2 ∷ pos 2
+    ∷ pos 2147483647 ∷ pos 2147483647 ∷ pos 2147483647 ∷ pos 2147483647 ∷ [])
     ∷ []

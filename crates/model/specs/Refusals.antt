@@ -6,7 +6,8 @@
 --   firstOf                     "Checks run in this order, those that apply to the call": the first that refuses
 --   tooShort .. targetMissed    checks 1 to 12
 --   badSpread                   check 16
---   settingsChecks              2 to 5, of settings
+--   settingsChecks              2 to 5, of a sheet's settings
+--   plannerChecks               2 to 5, of a plan's settings
 --   sizeChecks, sheetChecks     1 to 5, of a sheet's sizes; 1 to 6, of a sheet
 --   spreadChecks                1 to 5, 16 and 6, of a sheet and a spread
 --   arrayChecks, entryChecks    8 and 9, of two parallel arrays; of a sheet's entries
@@ -23,7 +24,8 @@ use Rattle.arithmetic.specs.Counting.{lowest}
 use Rattle.model.specs.declared.Settings.{Settings}
 use Rattle.model.specs.declared.Refusal.{Refusal}
 use Rattle.model.specs.Ensemble.{maxCabinets, maxWindow, maxSpread}
-use Rattle.model.specs.RoundSheet.{cca, midpoint, headerSize, byte, settingsAt, entryCount, sheetLength}
+use Rattle.model.specs.RoundSheet.{fca, trimmedMean, trims, average, midpoint, headerSize}
+use Rattle.model.specs.RoundSheet.{byte, settingsAt, entryCount, sheetLength}
 use Rattle.model.specs.RoundSheet.{markAt, bitsAt, bitsIn}
 use Rattle.model.specs.AnswerSheet.{answerLength}
 use Rattle.model.specs.Steps.{roundAt}
@@ -116,12 +118,20 @@ badCabinets c = refuseIf (eqb (c .n) 0 || ltb maxCabinets (c .n)) badCabinetsNum
 unfoldable pub badFaults : Settings → Check
 badFaults c = refuseIf (ltb (c .n) (3 * c .m + 1)) badFaultsNumber
 
--- 4 (rule): "unknown rule or estimator"
+-- 4 (rule): "unknown rule or estimator"; document 02, request 5: with rules 2 and 3 "the estimator byte must be 0, else
+-- refusal 4"
 abbrev pub unknownMethod : ℕ → ℕ → Bool
-unknownMethod rule estimator = ltb cca rule || ltb midpoint estimator
+unknownMethod rule estimator = ltb trimmedMean rule || ltb (cond (trims rule) average midpoint) estimator
 
 unfoldable pub badMethod : Settings → Check
 badMethod c = refuseIf (unknownMethod (c .rule) (c .estimator)) badMethodNumber
+
+-- "The planner still refuses these rules under 4"
+abbrev pub unplannedMethod : ℕ → ℕ → Bool
+unplannedMethod rule estimator = trims rule || ltb midpoint estimator
+
+unfoldable pub unplanned : Settings → Check
+unplanned c = refuseIf (unplannedMethod (c .rule) (c .estimator)) badMethodNumber
 
 -- 5 (window): "δ above 1,000,000"
 unfoldable pub badWindow : Settings → Check
@@ -147,7 +157,7 @@ notZero mark bits = eqb mark 0 && not (eqb bits 0)
 unfoldable pub badMissing : (ℕ → ℕ) → (ℕ → ℕ) → ℕ → Check
 badMissing mark bits E = atEntry (lowest (λ e. notZero (mark e) (bits e)) E) badMissingNumber
 
--- 10 (too many faults): "no reading accepted"
+-- 10 (too many faults): "no reading accepted"; with rules 2 and 3 it "does not arise", since N-2m are counted
 unfoldable pub tooManyFaults : ℕ → Check
 tooManyFaults accepted = refuseIf (eqb accepted 0) tooManyFaultsNumber
 
@@ -159,16 +169,21 @@ badPlan fails = refuseIf fails badPlanNumber
 unfoldable pub targetMissed : ℕ → ℕ → Check
 targetMissed last target = refuseIf (ltb target last) targetMissedNumber
 
--- 16: "D above 100,000, or above 0 with CCA" (document 02, request 2)
+-- 16: "D above 100,000, or above 0 with CCA" (document 02, request 2); with rules 2 and 3 "D must be 0 here, else refusal
+-- 16" (request 5)
 abbrev pub unfitSpread : ℕ → ℕ → Bool
-unfitSpread rule D = ltb maxSpread D || (ltb 0 D && eqb rule cca)
+unfitSpread rule D = ltb maxSpread D || (ltb 0 D && not (eqb rule fca))
 
 unfoldable pub badSpread : Settings → ℕ → Check
 badSpread c D = refuseIf (unfitSpread (c .rule) D) badSpreadNumber
 
--- checks 2 to 5, of any settings
+-- checks 2 to 5, of a sheet's settings
 unfoldable pub settingsChecks : Settings → List Check
 settingsChecks c = badCabinets c ∷ badFaults c ∷ badMethod c ∷ badWindow c ∷ []
+
+-- the same of a plan's
+unfoldable pub plannerChecks : Settings → List Check
+plannerChecks c = badCabinets c ∷ badFaults c ∷ unplanned c ∷ badWindow c ∷ []
 
 -- checks 1 to 5, of a sheet's sizes
 abbrev pub sizeChecks : List ℕ → List Check
@@ -218,7 +233,7 @@ settleChecks s D answer =
 
 -- checks 2 to 5, and then 11
 abbrev pub planningChecks : Settings → Bool → List Check
-planningChecks c fails = settingsChecks c ++ (badPlan fails ∷ [])
+planningChecks c fails = plannerChecks c ++ (badPlan fails ∷ [])
 
 -- the planner: checks 2 to 5 and 11
 unfoldable pub planChecks : Settings → ℕ → ℕ → List Check
@@ -232,4 +247,4 @@ stepChecks p = planningChecks (p .settings) (leb maxRounds (p .rounds) || ltb ma
 -- the count for a target: checks 2 to 5, 11 and 12
 unfoldable pub targetChecks : Settings → ℕ → ℕ → List Check
 targetChecks c κ target =
-    settingsChecks c ++ (badPlan (ltb maxAccuracy κ) ∷ targetMissed (windowAfter maxRounds c κ) target ∷ [])
+    plannerChecks c ++ (badPlan (ltb maxAccuracy κ) ∷ targetMissed (windowAfter maxRounds c κ) target ∷ [])

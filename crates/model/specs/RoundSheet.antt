@@ -1,4 +1,5 @@
 -- Document 01, "The round sheet" (docs/FORMAT.md, 3).
+--   fca, cca, trimmedMidpoint, trimmedMean    the rules; trims, whether one is the third or the fourth
 --   byte, word               a byte; a number of four bytes, least significant first
 --   settingsAt               the sizes, bytes 0 to 7
 --   entryCount (E)           the number of entries
@@ -9,10 +10,10 @@
 --   bytes4, readingBytes     a number, and a list of readings, as bytes
 --   bitsIn                   the bits of an entry's reading in a list of readings
 --   sheetBytes               the sheet that settings, marks and readings make
-use mathlib.Core.Bool.{cond}
+use mathlib.Core.Bool.{Bool, cond}
 use mathlib.Core.List.{List, [], _∷_, _++_}
 use Prim.Native.Nat.{ℕ, _+_, _*_, _/_, _%_}
-use lib.Dec.{eqb}
+use lib.Dec.{ltb, eqb}
 use lib.ListN.{getD, take, drop}
 use lib.IntN.{ℤ, pos}
 use mir.Syntax.{w32}
@@ -26,6 +27,18 @@ fca = 0
 
 abbrev pub cca : ℕ
 cca = 1
+
+-- document 02, request 5: "Rule 2 drops the m lowest and m highest of N and takes half the sum of the extremes left; rule
+-- 3 takes the mean of those left"
+abbrev pub trimmedMidpoint : ℕ
+trimmedMidpoint = 2
+
+abbrev pub trimmedMean : ℕ
+trimmedMean = 3
+
+-- of the rules 0 to 3, whether one drops the lowest and the highest
+abbrev pub trims : ℕ → Bool
+trims rule = ltb cca rule
 
 abbrev pub average : ℕ
 average = 0
@@ -51,7 +64,7 @@ word s i = byte s i + 256 * byte s (i + 1) + 65536 * byte s (i + 2) + 16777216 *
 abbrev pub settingsAt : List ℕ → Settings
 settingsAt s = record { n = byte s 0; m = byte s 1; rule = byte s 2; estimator = byte s 3; window = word s 4 }
 
--- "E is N for FCA. For CCA it is N × N"
+-- "E is N for FCA. For CCA it is N × N"; document 02, request 5: "The sheet layout follows FCA"
 unfoldable pub entryCount : Settings → ℕ
 entryCount c = cond (eqb (c .rule) cca) (c .n * c .n) (c .n)
 
@@ -70,7 +83,7 @@ bitsAt s E e = word s (headerSize + E + 4 * e)
 unfoldable pub entryAt : List ℕ → ℕ → ℕ → Reading
 entryAt s E e = cond (eqb (markAt s e) 1) (present (toZ w32 (bitsAt s E e))) missing
 
--- "For FCA that is its one reading of four bytes, for CCA its N readings"
+-- "For FCA that is its one reading of four bytes, for CCA its N readings"; rules 2 and 3 follow FCA
 unfoldable pub rowEntries : Settings → ℕ
 rowEntries c = cond (eqb (c .rule) cca) (c .n) 1
 

@@ -1,6 +1,6 @@
 -- Document 01, "Steps of a round" (document 004, section 3; docs/FORMAT.md, 5), with what document 02 changes in it:
 -- "Paper 2. Cable runs differ", the caller's spread D is added to the window, and is 0 without one; "Paper 4. Halves go
--- to the even tick", the mean's rounding.
+-- to the even tick", the mean's rounding; "Paper 5. Trimming rules", the rules 2 and 3.
 --   Decision, decideRow       the crusaders decision of a row
 --   readingsOf                the reading of each cabinet: FCA as sent, CCA as decided
 --   inside, held              a reading lies in a span; how many readings a span holds
@@ -10,8 +10,14 @@
 --   mean                      to the nearest whole number, a half going to the even neighbour
 --   spanWidth                 how wide a span may be: the window and the spread
 --   acceptedAt                accepted, by the settings and the spread
---   Round, roundOf, roundAt   what a settled round has; the round of given readings; the round of a sheet
-use mathlib.Core.Bool.{Bool, false, cond, _&&_}
+--   Round, roundOf            what a settled round has; the round of given readings by FCA or CCA
+--   precedes, rank            a reading comes before another; how many come before it
+--   keptCount, isKept         how many are left, and which: neither the m lowest nor the m highest
+--   ranked                    the reading before which so many come
+--   trimmedValue              the new value by rule 2 or 3
+--   trimmedWith, trimmedRound the round of given readings by rule 2 or 3
+--   roundBy, roundAt          the round of given readings by any rule; the round of a sheet
+use mathlib.Core.Bool.{Bool, false, cond, _&&_, _||_}
 use mathlib.Core.Option.{Option, none, some}
 use Prim.Native.Nat.{ℕ, _+_, _*_, _-_, _/_, _%_}
 use lib.Dec.{leb, ltb, eqb}
@@ -19,9 +25,10 @@ use lib.IntN.{ℤ, pos, natAbs, _+ℤ_}
 use lib.Signed.{leZ, ltZ}
 use Rattle.arithmetic.specs.Counting.{count, anyBelow, lowest, sum, eqZ, floorDiv}
 use Rattle.model.specs.declared.Settings.{Settings}
-use Rattle.model.specs.Ensemble.{Reading, missing, present, Readings, ticks, quorum}
+use Rattle.model.specs.Ensemble.{Reading, missing, present, Readings, isPresent, ticks, quorum}
 use mathlib.Core.List.{List}
-use Rattle.model.specs.RoundSheet.{cca, average, median, settingsAt, entryCount, entryAt}
+use Rattle.model.specs.RoundSheet.{cca, trimmedMidpoint, trims, average, median}
+use Rattle.model.specs.RoundSheet.{settingsAt, entryCount, entryAt}
 
 -- "If there is none, that cabinet is known faulty and its reading missing"
 pub data Decision : Type 0 where
@@ -155,6 +162,63 @@ acceptedAt c D v r = accepted (spanWidth c D) (quorum c) (c .n) v r
 unfoldable pub roundOf : Settings → ℕ → Readings → Round
 roundOf c D v = roundWith (c .n) v (acceptedAt c D v) (estimate (c .estimator) (acceptedAt c D v) (c .n) v)
 
+-- ---- Document 02, "Paper 5. Trimming rules"
+
+-- the reading of s comes before that of r: "A missing reading counts as 0; equal readings order by cabinet number"
+abbrev pub precedes : Readings → ℕ → ℕ → Bool
+precedes v s r = ltZ (ticks (v s)) (ticks (v r)) || (eqZ (ticks (v s)) (ticks (v r)) && ltb s r)
+
+-- how many come before it
+unfoldable pub rank : ℕ → Readings → ℕ → ℕ
+rank n v r = count (λ s. precedes v s r) n
+
+-- how many are left, missing ones among them: "the count is N-2m"
+abbrev pub keptCount : ℕ → ℕ → ℕ
+keptCount n m = n - 2 * m
+
+-- "drops the m lowest and m highest of N"
+unfoldable pub isKept : ℕ → ℕ → Readings → ℕ → Bool
+isKept n m v r = leb m (rank n v r) && ltb (rank n v r) (n - m)
+
+-- the ticks of the reading before which k come
+unfoldable pub ranked : ℕ → Readings → ℕ → ℤ
+ranked n v k = ticksAt v (lowest (λ r. eqb (rank n v r) k) n)
+
+-- "half the sum of the extremes left": m come before the lowest, and N-m-1 before the highest
+unfoldable pub trimmedMidpointOf : ℕ → ℕ → Readings → ℤ
+trimmedMidpointOf n m v = mean 2 (ranked n v m +ℤ ranked n v (n - m - 1))
+
+-- "the mean of those left"
+unfoldable pub trimmedMeanOf : ℕ → ℕ → Readings → ℤ
+trimmedMeanOf n m v = mean (keptCount n m) (sum (λ r. cond (isKept n m v r) (ticks (v r)) (pos 0)) n)
+
+-- "Both round as Paper 4 says"
+unfoldable pub trimmedValue : ℕ → ℕ → ℕ → Readings → ℤ
+trimmedValue rule n m v = cond (eqb rule trimmedMidpoint) (trimmedMidpointOf n m v) (trimmedMeanOf n m v)
+
+-- "kept present places use their reading, all other places and the estimate field show the new value"
+abbrev pub trimmedUsed : ℕ → ℕ → Readings → ℤ → ℕ → ℤ
+trimmedUsed n m v value r = cond (isKept n m v r && isPresent (v r)) (ticks (v r)) value
+
+-- "A kept present reading has mark 1, a dropped one 2, a missing one 0"
+abbrev pub trimmedWith : ℕ → ℕ → Readings → ℤ → Round
+trimmedWith n m v value =
+    record {
+      count = keptCount n m;
+      estimate = value;
+      value = value;
+      mark = λ r. markOf (isKept n m v r) (v r);
+      used = trimmedUsed n m v value;
+    }
+
+unfoldable pub trimmedRound : Settings → Readings → Round
+trimmedRound c v = trimmedWith (c .n) (c .m) v (trimmedValue (c .rule) (c .n) (c .m) v)
+
+-- ---- By any rule
+
+unfoldable pub roundBy : Settings → ℕ → Readings → Round
+roundBy c D v = cond (trims (c .rule)) (trimmedRound c v) (roundOf c D v)
+
 -- the round that a sheet's entries make
 unfoldable pub roundAt : List ℕ → ℕ → Round
-roundAt s D = roundOf (settingsAt s) D (readingsOf (settingsAt s) (entryAt s (entryCount (settingsAt s))))
+roundAt s D = roundBy (settingsAt s) D (readingsOf (settingsAt s) (entryAt s (entryCount (settingsAt s))))

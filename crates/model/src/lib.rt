@@ -27,6 +27,10 @@ pub const FCA: u8 = 0;
 
 pub const CCA: u8 = 1;
 
+pub const TRIMMED_MIDPOINT: u8 = 2;
+
+pub const TRIMMED_MEAN: u8 = 3;
+
 // The estimators.
 pub const AVERAGE: u8 = 0;
 
@@ -74,9 +78,9 @@ pub struct Settings {
     pub n: u8,
     // m, the faults planned for.
     pub m: u8,
-    // 0 FCA, 1 CCA.
+    // 0 FCA, 1 CCA, 2 trimmed midpoint, 3 trimmed mean.
     pub rule: u8,
-    // 0 average, 1 median, 2 midpoint.
+    // 0 average, 1 median, 2 midpoint; 0 with the trimmed rules.
     pub estimator: u8,
     // The window in ticks.
     pub window: u32,

@@ -28,7 +28,7 @@ fn bad_step(accuracy: u32, rounds: u32) -> bool
 fn check_all(settings: Settings, fails: bool) -> Screened
     ensures { λ r. ⌜ checkOf r ≡ firstOf (planningChecks settings fails) ⌝ }
 {
-    let of_settings = settings_checks::screen(settings);
+    let of_settings = settings_checks::screen_plan(settings);
     let of_plan = refusals::refuse_if(fails, BAD_PLAN);
     refusals::first_of(of_settings, of_plan)
 }

@@ -7,9 +7,9 @@ use Prim.Native.Nat.{ℕ, suc, _≤_, _<_}
 use native.Mathlib.Omega.{arith}
 use Rattle.model.specs.declared.Settings.{Settings}
 use Rattle.model.specs.Planner.{Plan, planFrom, advance, after, windowAfter, maxRounds, maxStepAccuracy}
-use Rattle.model.specs.Refusals.{refusal, firstOf, settingsChecks, planChecks, targetMissedNumber}
+use Rattle.model.specs.Refusals.{refusal, firstOf, plannerChecks, planChecks, targetMissedNumber}
 use Rattle.model.specs.Calls.{granted, refused, Target}
-use Rattle.refusal_laws.proofs.Limits.{limits-pass}
+use Rattle.refusal_laws.proofs.Limits.{planner-pass}
 use Rattle.planner_laws.proofs.Checks.{MayStart, MayStep}
 use Rattle.planner_laws.proofs.Steps.{may-step-after}
 use Rattle.planner_laws.proofs.Targets.{target-missed, target-reached}
@@ -29,10 +29,10 @@ module _ (c : Settings) (κ k : ℕ) {q : Plan} (e : q ≡ after k (planFrom c �
 
   -- the next turn's step is granted
   pub turn-allowed : (j : ℕ) → MayStart c κ j → k < maxRounds
-      → (firstOf (settingsChecks (q .settings)) ≡ none) × ((q .rounds < maxRounds) × (q .accuracy ≤ maxStepAccuracy))
+      → (firstOf (plannerChecks (q .settings)) ≡ none) × ((q .rounds < maxRounds) × (q .accuracy ≤ maxStepAccuracy))
   turn-allowed j s l =
       let step = subst MayStep (sym e) (may-step-after (planFrom c κ) k (s .passes) (s .accurate) (omega arith)) in
-      (limits-pass (q .settings) (step .passes), (step .early, step .accurate))
+      (planner-pass (q .settings) (step .passes), (step .early, step .accurate))
 
   module _ (target : ℕ) (s : firstOf (planChecks c κ 0) ≡ none) (l : k ≤ maxRounds) where
     window-is : q .settings .window ≡ windowAfter k c κ

@@ -3,7 +3,7 @@ ghost use mathlib.Core.Path.{_≡_};
 ghost use mathlib.Core.Option.{none};
 ghost use Prim.Native.Nat.{_≤_, _<_};
 ghost use Rattle.model.specs.Planner.{planFrom, advance, after, maxRounds, maxStepAccuracy};
-ghost use Rattle.model.specs.Refusals.{firstOf, settingsChecks, planChecks};
+ghost use Rattle.model.specs.Refusals.{firstOf, plannerChecks, planChecks};
 ghost use Rattle.model.specs.Calls.{plan, step, Target};
 ghost use Rattle.planner.specs.Answers.{planOf, plannedOf, countedOf};
 use model::Refusal;
@@ -34,7 +34,7 @@ pub enum Counted {
 
 // The plan one round on.
 fn advance(current: Plan) -> Plan
-    requires { ⌜ firstOf (settingsChecks (current .settings)) ≡ none ⌝ }
+    requires { ⌜ firstOf (plannerChecks (current .settings)) ≡ none ⌝ }
     requires { ⌜ (current .rounds < maxRounds) × (current .accuracy ≤ maxStepAccuracy) ⌝ }
     ensures { λ r. ⌜ planOf r ≡ advance (planOf current) ⌝ }
 {

@@ -10,25 +10,25 @@ use borrow.Author.Tests.{ltb-false, leb-false, le-ltb, lt-leb}
 use Rattle.arithmetic.proofs.Bools.{or-false, or-left, or-right}
 use Rattle.model.specs.declared.Settings.{Settings}
 use Rattle.model.specs.Planner.{Plan, maxAccuracy, maxRounds, maxStepAccuracy}
-use Rattle.model.specs.Refusals.{firstOf, settingsChecks, planChecks, stepChecks, badPlan, badPlanNumber}
+use Rattle.model.specs.Refusals.{firstOf, plannerChecks, planChecks, stepChecks, badPlan, badPlanNumber}
 use Rattle.refusal_laws.proofs.Checks.{first-snoc, none-at, none-left, none-right, when-none}
-use Rattle.refusal_laws.proofs.Limits.{Limits, limits, limits-pass}
+use Rattle.refusal_laws.proofs.Limits.{Planned, planner-limits, planner-pass}
 
 -- checks 2 to 5, and then 11
 module _ (c : Settings) (fails : Bool) where
-  none-eleven : firstOf (settingsChecks c ++ (badPlan fails ∷ [])) ≡ none → Limits c × (fails ≡ false)
+  none-eleven : firstOf (plannerChecks c ++ (badPlan fails ∷ [])) ≡ none → Planned c × (fails ≡ false)
   unfolding badPlan
   none-eleven e =
-      let eleven = none-at (badPlan fails ∷ []) (none-right (settingsChecks c) (badPlan fails ∷ []) e) 0 in
-      (limits c (none-left (settingsChecks c) (badPlan fails ∷ []) e), when-none fails badPlanNumber eleven)
+      let eleven = none-at (badPlan fails ∷ []) (none-right (plannerChecks c) (badPlan fails ∷ []) e) 0 in
+      (planner-limits c (none-left (plannerChecks c) (badPlan fails ∷ []) e), when-none fails badPlanNumber eleven)
 
-  eleven-none : Limits c → fails ≡ false → firstOf (settingsChecks c ++ (badPlan fails ∷ [])) ≡ none
+  eleven-none : Planned c → fails ≡ false → firstOf (plannerChecks c ++ (badPlan fails ∷ [])) ≡ none
   unfolding badPlan
-  eleven-none p t = first-snoc (settingsChecks c) (badPlan fails) ∙ (rw (limits-pass c p, t))
+  eleven-none p t = first-snoc (plannerChecks c) (badPlan fails) ∙ (rw (planner-pass c p, t))
 
 -- a start that the planner grants for k rounds
 pub record MayStart (c : Settings) (κ k : ℕ) : Type 0 where
-  pub passes : Limits c
+  pub passes : Planned c
   pub accurate : κ ≤ maxAccuracy
   pub few : k ≤ maxRounds
 
@@ -51,7 +51,7 @@ module _ (c : Settings) (κ k : ℕ) where
 
 -- a plan whose step is granted
 pub record MayStep (p : Plan) : Type 0 where
-  pub passes : Limits (p .settings)
+  pub passes : Planned (p .settings)
   pub early : p .rounds < maxRounds
   pub accurate : p .accuracy ≤ maxStepAccuracy
 

@@ -12,7 +12,7 @@ use Rattle.model.specs.Planner.{Plan, planFrom, advance, after, maxAccuracy, ma
 use Rattle.model.specs.Refusals.{Check, firstOf, planChecks, stepChecks}
 use Rattle.model.specs.Calls.{granted, refused, verdict, plan, step}
 use Rattle.planner_laws.specs.Stepping.{thenStep, steps}
-use Rattle.refusal_laws.proofs.Limits.{Limits}
+use Rattle.refusal_laws.proofs.Limits.{Planned}
 use Rattle.planner_laws.proofs.Checks.{MayStep, none-may-start, may-step-none}
 use Rattle.planner_laws.proofs.Rounds.{rounds-after}
 use Rattle.planner_laws.proofs.Verdicts.{granted-check, refused-check}
@@ -24,7 +24,7 @@ unfolding planChecks
 plan-checks-rounds c κ k l = rw (le-ltb maxRounds k l)
 
 -- an accuracy that may start allows every step within 32 rounds
-pub may-step-after : (p : Plan) (k : ℕ) → Limits (p .settings) → p .accuracy ≤ maxAccuracy → p .rounds + k < maxRounds
+pub may-step-after : (p : Plan) (k : ℕ) → Planned (p .settings) → p .accuracy ≤ maxAccuracy → p .rounds + k < maxRounds
     → MayStep (after k p)
 may-step-after p k s h l =
     let r = rounds-after k p in

@@ -12,7 +12,7 @@ use native.Mathlib.Nat.{le-trans}
 use Rattle.model.specs.declared.Settings.{Settings}
 use Rattle.model.specs.declared.Refusal.{Refusal}
 use Rattle.model.specs.Planner.{planFrom, windowAfter, maxAccuracy, maxRounds}
-use Rattle.model.specs.Refusals.{Check, orNext, refusal, firstOf, settingsChecks, planChecks, targetChecks}
+use Rattle.model.specs.Refusals.{Check, orNext, refusal, firstOf, plannerChecks, planChecks, targetChecks}
 use Rattle.model.specs.Refusals.{targetMissed, targetMissedNumber}
 use Rattle.model.specs.Calls.{granted, refused, Target}
 use Rattle.refusal_laws.proofs.Checks.{first-snoc}
@@ -27,7 +27,7 @@ module _ (c : Settings) (κ target : ℕ) where
   -- the checks of a start for 0 rounds, and then check 12
   target-checks : planChecks c κ 0 ++ (targetMissed (windowAfter maxRounds c κ) target ∷ []) ≡ targetChecks c κ target
   unfolding planChecks targetChecks
-  target-checks = append-assoc (settingsChecks c) _ _ ∙ (rw (or-none (ltb maxAccuracy κ)))
+  target-checks = append-assoc (plannerChecks c) _ _ ∙ (rw (or-none (ltb maxAccuracy κ)))
 
   by-check : {check : Check} → firstOf (planChecks c κ 0) ≡ check
       → firstOf (targetChecks c κ target) ≡ orNext check (targetMissed (windowAfter maxRounds c κ) target)

@@ -14,7 +14,7 @@ use Rattle.model.specs.declared.Settings.{Settings}
 use Rattle.model.specs.Planner.{Plan, ceilDiv, pastDiv, windowFactor, nextWindow, growth, withWindow, advance, after}
 use Rattle.model.specs.Ensemble.{maxWindow}
 use Rattle.planner_laws.proofs.Ceiling.{ceil-div-least, ceil-past}
-use Rattle.refusal_laws.proofs.Limits.{Limits}
+use Rattle.refusal_laws.proofs.Limits.{Planned}
 use Rattle.planner_laws.proofs.Rounds.{after-add}
 
 -- the factor of the next window is 1 or 2
@@ -60,7 +60,7 @@ past-le f n m w h l some-w =
     let q : f * (m * w) / n < w = div-lt-iff-lt-mul h .1 (omega arith) in
     omega arith
 
-pub next-window-le : (c : Settings) → Limits c → nextWindow c ≤ c .window
+pub next-window-le : (c : Settings) → Planned c → nextWindow c ≤ c .window
 next-window-le c s = go (eqb (c .m) 0) refl (eqb (c .window) 0) refl
   where
     go : (a : Bool) → eqb (c .m) 0 ≡ a → (b : Bool) → eqb (c .window) 0 ≡ b → nextWindow c ≤ c .window
@@ -95,7 +95,7 @@ ceil-next-le c some-n = go (eqb (c .m) 0) refl (eqb (c .window) 0) refl
         rw (next-past c (eqb-false (c .m) 0 ea) (eqb-false (c .window) 0 eb))
         (ceil-past (c .n) some-n (windowFactor c * (c .m * c .window)))
 
-pub growth-le : (c : Settings) → Limits c → growth c ≤ c .window
+pub growth-le : (c : Settings) → Planned c → growth c ≤ c .window
 unfolding growth
 growth-le c s =
     let one = ap (λ (a : ℕ). ceilDiv a (c .n)) (one-mul (c .m * c .window)) in
@@ -103,7 +103,7 @@ growth-le c s =
     omega arith
 
 -- settings pass with any window that does
-passes-window : (c : Settings) (w : ℕ) → Limits c → w ≤ maxWindow → Limits (withWindow c w)
+passes-window : (c : Settings) (w : ℕ) → Planned c → w ≤ maxWindow → Planned (withWindow c w)
 passes-window c w s l =
     record {
       someCabinet = s .someCabinet;
@@ -113,27 +113,27 @@ passes-window c w s l =
       window = l;
     }
 
-passes-advance : (p : Plan) → Limits (p .settings) → Limits (advance p .settings)
+passes-advance : (p : Plan) → Planned (p .settings) → Planned (advance p .settings)
 unfolding advance
 passes-advance p s = passes-window (p .settings) _ s (le-trans (next-window-le (p .settings) s) (s .window))
 
-pub passes-after : (k : ℕ) (p : Plan) → Limits (p .settings) → Limits (after k p .settings)
+pub passes-after : (k : ℕ) (p : Plan) → Planned (p .settings) → Planned (after k p .settings)
 unfolding after
 passes-after zero p s = s
 passes-after (suc k) p s = passes-advance (after k p) (passes-after k p s)
 
 -- ---- windows never grow
 
-window-advance-le : (p : Plan) → Limits (p .settings) → advance p .settings .window ≤ p .settings .window
+window-advance-le : (p : Plan) → Planned (p .settings) → advance p .settings .window ≤ p .settings .window
 unfolding advance
 window-advance-le p s = next-window-le (p .settings) s
 
-pub window-after-le : (k : ℕ) (p : Plan) → Limits (p .settings) → after k p .settings .window ≤ p .settings .window
+pub window-after-le : (k : ℕ) (p : Plan) → Planned (p .settings) → after k p .settings .window ≤ p .settings .window
 unfolding after
 window-after-le zero p s = le-refl _
 window-after-le (suc k) p s = le-trans (window-advance-le (after k p) (passes-after k p s)) (window-after-le k p s)
 
-pub window-after-mono : (j k : ℕ) (p : Plan) → Limits (p .settings) → j ≤ k
+pub window-after-mono : (j k : ℕ) (p : Plan) → Planned (p .settings) → j ≤ k
     → after k p .settings .window ≤ after j p .settings .window
 window-after-mono j k p s l =
     let e : k - j + j ≡ k = omega arith in
@@ -145,13 +145,13 @@ window-after-mono j k p s l =
 
 -- ---- the accuracy grows each round by at most the widest window
 
-accuracy-advance-le : (p : Plan) → Limits (p .settings) → advance p .accuracy ≤ p .accuracy + maxWindow
+accuracy-advance-le : (p : Plan) → Planned (p .settings) → advance p .accuracy ≤ p .accuracy + maxWindow
 unfolding advance
 accuracy-advance-le p s =
     let g = growth-le (p .settings) s in
     omega arith
 
-pub accuracy-after-le : (k : ℕ) (p : Plan) → Limits (p .settings) → after k p .accuracy ≤ p .accuracy + k * maxWindow
+pub accuracy-after-le : (k : ℕ) (p : Plan) → Planned (p .settings) → after k p .accuracy ≤ p .accuracy + k * maxWindow
 unfolding after
 accuracy-after-le zero p s = omega arith
 accuracy-after-le (suc k) p s =

@@ -36,7 +36,7 @@ use Rattle.trace.specs.Trace.{roundsAt, roleAt, entryNumber, tracedMark, traced
 use Rattle.trace.specs.Trace.{soundAt, tracedStation, tracedSends}
 use Rattle.trace.specs.Replay.{stateTo, refusedIn}
 use Rattle.run.proofs.Entries.{seen}
-use Rattle.refusal_laws.proofs.Limits.{Limits}
+use Rattle.refusal_laws.proofs.Limits.{Planned}
 use Rattle.run.proofs.Ready.{plan-settings, limits-hold}
 use Rattle.trace.proofs.Traced.{Recorded, traced-start, traced-ready, traced-seen, traced-holds, windowIn, foundIn, replay-refuses}
 use Rattle.playing.specs.Playing.{HeldTo, Playable, below}
@@ -85,7 +85,7 @@ module _ (s : List ℕ) (small : (j : ℕ) → byte s j < 256) (ok : Playable s)
         plan-settings st (traced-start s recorded 0 (lit≤ tt)) k (stateTo s k)
         (traced-ready s recorded 0 (lit≤ tt) k (omega (arith, soon)))
 
-    pub planned-within : Limits (withWindow (settingsAt s) (windowIn s recorded 0 (lit≤ tt) k))
+    pub planned-within : Planned (withWindow (settingsAt s) (windowIn s recorded 0 (lit≤ tt) k))
     planned-within =
         limits-hold st (traced-start s recorded 0 (lit≤ tt)) k (stateTo s k)
         (traced-ready s recorded 0 (lit≤ tt) k (omega (arith, soon)))

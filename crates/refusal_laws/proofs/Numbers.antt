@@ -18,8 +18,9 @@ use Rattle.model.specs.declared.Refusal.{Refusal}
 use Rattle.model.specs.Ensemble.{maxCabinets, maxWindow}
 use Rattle.model.specs.RoundSheet.{headerSize, settingsAt, sheetLength}
 use Rattle.model.specs.Refusals.{refusal, Check, refuseIf, atEntry, orNext, firstOf, tooShort, badCabinets, badFaults}
-use Rattle.model.specs.Refusals.{badMethod, badWindow, badLength, noRoom, badMark, badMissing, tooManyFaults, badPlan}
-use Rattle.model.specs.Refusals.{targetMissed, badSpread, settingsChecks, sizeChecks, sheetChecks, spreadChecks, unknownMethod, unfitSpread}
+use Rattle.model.specs.Refusals.{badMethod, unplanned, badWindow, badLength, noRoom, badMark, badMissing, tooManyFaults, badPlan}
+use Rattle.model.specs.Refusals.{targetMissed, badSpread, settingsChecks, plannerChecks, sizeChecks, sheetChecks, spreadChecks}
+use Rattle.model.specs.Refusals.{unknownMethod, unplannedMethod, unfitSpread}
 use Rattle.model.specs.Refusals.{tooShortNumber, badCabinetsNumber, badFaultsNumber, badMethodNumber, badWindowNumber}
 use Rattle.model.specs.Refusals.{badLengthNumber, noRoomNumber, badMarkNumber, badMissingNumber, tooManyFaultsNumber}
 use Rattle.model.specs.Refusals.{badPlanNumber, targetMissedNumber, badSpreadNumber}
@@ -121,13 +122,24 @@ pub spread-says : (c : Settings) (D : ℕ) → Says badSpreadNumber (badSpread c
 unfolding badSpread
 spread-says c D = says-if (unfitSpread (c .rule) D) badSpreadNumber
 
-pub plain-settings : (c : Settings) → Plain (2 ∷ 3 ∷ 4 ∷ 5 ∷ []) (settingsChecks c)
-unfolding settingsChecks badFaults badMethod badWindow
-plain-settings c =
+-- by what is said of the rule and the estimator
+plain-by :
+    (c : Settings) (unknown : Bool)
+    → Plain (2 ∷ 3 ∷ 4 ∷ 5 ∷ []) (badCabinets c ∷ badFaults c ∷ refuseIf unknown badMethodNumber ∷ badWindow c ∷ [])
+unfolding badFaults badWindow
+plain-by c unknown =
     check-more (cabinets-say c)
     (check-more (says-if (ltb (c .n) (3 * c .m + 1)) badFaultsNumber)
-    (check-more (says-if (unknownMethod (c .rule) (c .estimator)) badMethodNumber)
+    (check-more (says-if unknown badMethodNumber)
     (check-more (says-if (ltb maxWindow (c .window)) badWindowNumber) no-checks)))
+
+pub plain-settings : (c : Settings) → Plain (2 ∷ 3 ∷ 4 ∷ 5 ∷ []) (settingsChecks c)
+unfolding settingsChecks badMethod
+plain-settings c = plain-by c (unknownMethod (c .rule) (c .estimator))
+
+pub plain-planner : (c : Settings) → Plain (2 ∷ 3 ∷ 4 ∷ 5 ∷ []) (plannerChecks c)
+unfolding plannerChecks unplanned
+plain-planner c = plain-by c (unplannedMethod (c .rule) (c .estimator))
 
 pub plain-one : {number : ℕ} {x : Check} → Says number x → Plain (number ∷ []) (x ∷ [])
 plain-one f = check-more f no-checks

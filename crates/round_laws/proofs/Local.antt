@@ -1,6 +1,6 @@
 -- A round depends on the readings of the cabinets below N alone: readings that agree there give the same round and the same answer sheet.
 -- Assumes nothing.
-use mathlib.Core.Bool.{Bool, true, cond, _&&_}
+use mathlib.Core.Bool.{Bool, true, false, cond, _&&_}
 use mathlib.Core.Option.{Option, none, some}
 use mathlib.Core.Path.{_≡_, refl, ap, ap₂, _∙_}
 use Prim.Native.Nat.{ℕ, _+_, _/_, _<_}
@@ -14,10 +14,10 @@ use Rattle.arithmetic.proofs.Sums.{sum-ext}
 use Rattle.arithmetic.proofs.Writing.{table-ext}
 use Rattle.model.specs.declared.Settings.{Settings}
 use Rattle.model.specs.Ensemble.{Readings, ticks, quorum}
-use Rattle.model.specs.RoundSheet.{average, median}
+use Rattle.model.specs.RoundSheet.{trims, average, median}
 use Rattle.model.specs.AnswerSheet.{answerHeader, answerBytes}
 use Rattle.model.specs.Steps.{within, accepted, acceptedAt, numbered, ticksAt, averageOf, medianOf, midpointOf, estimate, mean, usedValue, markOf, Round, roundOf}
-use Rattle.model.specs.Steps.{spanWidth}
+use Rattle.model.specs.Steps.{spanWidth, trimmedRound, roundBy}
 
 -- two functions agree below n
 abbrev pub EqualBelow : {A : Type 0} → ℕ → (ℕ → A) → (ℕ → A) → Type 0
@@ -131,3 +131,14 @@ pub answer-local : (n : ℕ) (a b : Round) → EqualRounds n a b → answerBytes
 unfolding answerBytes answerHeader
 answer-local n a b s =
     simp (s .count, s .estimate, s .value, table-ext (a .mark) (b .mark) n (s .mark), table-ext (a .used) (b .used) n (s .used))
+
+-- ---- the round by its rule
+
+module _ (c : Settings) (D : ℕ) (v : Readings) where
+  pub round-by-spans : trims (c .rule) ≡ false → roundBy c D v ≡ roundOf c D v
+  unfolding roundBy
+  round-by-spans e = rw e
+
+  pub round-by-trimming : trims (c .rule) ≡ true → roundBy c D v ≡ trimmedRound c v
+  unfolding roundBy
+  round-by-trimming e = rw e

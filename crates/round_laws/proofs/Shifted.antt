@@ -128,7 +128,7 @@ module _ (k : ℕ) (pres : ℕ → Bool) (x : ℕ → ℕ) where
         (λ r e. sub r (and-left (acc r) _ (lowest-found (is-numbered acc n x h) n r e .passes)))
 
     -- the sum over acc, moved down by k for each of them
-    picked-down : (m : ℕ) → sum (λ r. cond (acc r) (ticks (shifted k pres x r)) (pos 0)) m ≡ down (count acc m * k) (total (λ r. cond (acc r) (x r) 0) m)
+    pub picked-down : (m : ℕ) → sum (λ r. cond (acc r) (ticks (shifted k pres x r)) (pos 0)) m ≡ down (count acc m * k) (total (λ r. cond (acc r) (x r) 0) m)
     unfolding sum count total
     picked-down zero = pos-down 0 ∙ down-cong 0 0 (0 * k) 0 (ap (λ (y : ℕ). 0 + y) (zero-mul k))
     picked-down (suc m) = go (acc m) refl (picked-down m)

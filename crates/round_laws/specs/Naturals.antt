@@ -10,7 +10,11 @@
 --   Even, even-nat     a number that is twice another; whether one is: `even-down`
 --   half-up, half-down the mean to the nearest, a half going up, and one going down
 --   mean-nat           the mean to the nearest, a half going to the even neighbour: `mean-down`, where k is even
-use mathlib.Core.Bool.{Bool, true, false, cond, _&&_}
+-- The new value by rules 2 and 3 (document 02, request 5), where a missing reading is the natural k:
+--   precedes-nat, rank-nat, kept-nat    the order, and what is left of it: `rank-down`, `kept-down`
+--   ranked-nat         the number before which so many come: `ranked-down`
+--   kept-total, trimmed-nat    the sum of those left; the new value: `trimmed-down`
+use mathlib.Core.Bool.{Bool, true, false, cond, _&&_, _||_}
 use mathlib.Core.Option.{Option, none, some}
 use mathlib.Core.Path.{_≡_}
 use Prim.Native.Nat.{ℕ, _+_, _*_, _-_, _/_, _%_}
@@ -18,7 +22,7 @@ use lib.Dec.{leb, ltb, eqb}
 use Rattle.arithmetic.specs.Counting.{count, anyBelow, lowest}
 use Rattle.arithmetic.specs.Naturals.{down, total}
 use Rattle.model.specs.Ensemble.{Reading, missing, present, Readings}
-use Rattle.model.specs.RoundSheet.{average, median}
+use Rattle.model.specs.RoundSheet.{trimmedMidpoint, average, median}
 
 -- the reading of one cabinet
 abbrev pub shift : ℕ → Bool → ℕ → Reading
@@ -91,3 +95,26 @@ mean-nat n s = cond (even-nat (half-up n s)) (half-up n s) (half-down n s)
 
 abbrev pub used-nat : (ℕ → Bool) → (ℕ → ℕ) → ℕ → ℕ → ℕ
 used-nat acc x e r = cond (acc r) (x r) e
+
+-- ---- rules 2 and 3
+
+abbrev pub precedes-nat : (ℕ → ℕ) → ℕ → ℕ → Bool
+precedes-nat x s r = ltb (x s) (x r) || (eqb (x s) (x r) && ltb s r)
+
+unfoldable pub rank-nat : ℕ → (ℕ → ℕ) → ℕ → ℕ
+rank-nat n x r = count (λ s. precedes-nat x s r) n
+
+unfoldable pub kept-nat : ℕ → ℕ → (ℕ → ℕ) → ℕ → Bool
+kept-nat n m x r = leb m (rank-nat n x r) && ltb (rank-nat n x r) (n - m)
+
+-- the number of the one index before which h come
+unfoldable pub ranked-nat : ℕ → (ℕ → ℕ) → ℕ → ℕ
+ranked-nat n x h = total (λ r. cond (eqb (rank-nat n x r) h) (x r) 0) n
+
+unfoldable pub kept-total : ℕ → ℕ → (ℕ → ℕ) → ℕ
+kept-total n m x = total (λ r. cond (kept-nat n m x r) (x r) 0) n
+
+unfoldable pub trimmed-nat : ℕ → ℕ → ℕ → (ℕ → ℕ) → ℕ
+trimmed-nat rule n m x =
+    cond (eqb rule trimmedMidpoint) (mean-nat 2 (ranked-nat n x m + ranked-nat n x (n - m - 1)))
+    (mean-nat (n - 2 * m) (kept-total n m x))

@@ -21,13 +21,13 @@ use Rattle.decision_laws.proofs.Decision.{decide-ext}
 use Rattle.decision_laws.proofs.Rows.{read-direct, read-decided}
 use Rattle.model.specs.declared.Settings.{Settings}
 use Rattle.model.specs.Ensemble.{present, Readings, ticks, quorum}
-use Rattle.model.specs.RoundSheet.{cca, settingsAt, entryCount, entryAt, sheetLength, sheetBytes}
+use Rattle.model.specs.RoundSheet.{cca, trims, settingsAt, entryCount, entryAt, sheetLength, sheetBytes}
 use Rattle.model.specs.AnswerSheet.{answerLength, answerBytes}
 use Rattle.model.specs.Refusals.{refusal, firstOf, settingsChecks, settleChecks, tooManyFaults, tooManyFaultsNumber}
 use Rattle.model.specs.Calls.{granted, refused, Outcome, writtenAfter, write, settleSpread, settle}
 use Rattle.model.specs.Planner.{withWindow}
 use Rattle.model.specs.Steps.{Round, decidedReading, readingsOf, roundOf, roundAt}
-use Rattle.round_laws.proofs.Local.{EqualBelow, EqualRounds, round-local, answer-local}
+use Rattle.round_laws.proofs.Local.{EqualBelow, EqualRounds, round-local, round-by-spans, answer-local}
 use Rattle.sheet_laws.proofs.Answer.{answer-value}
 use Rattle.sheet_laws.proofs.Checks.{room-pass}
 use Rattle.run.proofs.Filled.{marksFrom, ticksFrom, filled-well-formed, filled-entry, filled-write}
@@ -81,6 +81,7 @@ module _ (st : Station) (now : State) (x : Sends) (w p : ℕ) where
 
   module _ (plan : now .plan .settings ≡ withWindow (st .settings) w)
       (pass : firstOf (settingsChecks (withWindow (st .settings) w)) ≡ none)
+      (spans : trims (st .settings .rule) ≡ false)
       (allowed : Allowed st x)
       (fits : (e : ℕ) → e < entryCount (st .settings) → SFits w32 (ticks (entryOf st now x p e))) where
     same-entries : entryCount c ≡ entryCount (st .settings)
@@ -114,7 +115,7 @@ module _ (st : Station) (now : State) (x : Sends) (w p : ℕ) where
     round-is : EqualRounds (N st) (roundAt bytes 0) found
     unfolding roundAt bytes seen
     round-is =
-        rw settings-is
+        rw (settings-is, round-by-spans c 0 (readingsOf c (entryAt bytes (entryCount c))) spans)
         (round-local c 0
         (readingsOf c (entryAt bytes (entryCount c)))
         (readingsOf c entries)

@@ -2,7 +2,7 @@
 -- are readings of 32 bits (`Ready`). So each sheet passes checks 1 to 9, and is granted or refused under 10; the
 -- plan's step is granted; and the next state is ready.
 -- Assumes nothing.
-use mathlib.Core.Bool.{true}
+use mathlib.Core.Bool.{true, false}
 use mathlib.Core.Logic.{_⊎_, inl, inr}
 use mathlib.Core.Option.{none}
 use mathlib.Core.Path.{_≡_, refl, ap, _∙_, subst, subst⁻¹}
@@ -13,12 +13,12 @@ use mir.Val.{SFits}
 use Rattle.arithmetic.proofs.Bools.{clash}
 use Rattle.model.specs.declared.Settings.{Settings}
 use Rattle.model.specs.Ensemble.{missing, present, isPresent, ticks}
-use Rattle.model.specs.RoundSheet.{entryCount}
+use Rattle.model.specs.RoundSheet.{entryCount, trims}
 use Rattle.model.specs.AnswerSheet.{answerLength, answerBytes}
 use Rattle.model.specs.Planner.{Plan, planFrom, advance, after, withWindow, maxRounds}
 use Rattle.model.specs.Refusals.{refusal, firstOf, settingsChecks, tooManyFaults, tooManyFaultsNumber}
 use Rattle.model.specs.Calls.{Verdict, granted, refused, writtenAfter, step}
-use Rattle.refusal_laws.proofs.Limits.{Limits, limits-pass}
+use Rattle.refusal_laws.proofs.Limits.{Planned, limits-pass, planned-limits, planned-spans}
 use Rattle.planner_laws.proofs.Checks.{none-may-start}
 use Rattle.planner_laws.proofs.Rounds.{settings-after}
 use Rattle.planner_laws.proofs.Steps.{start-step-granted}
@@ -47,10 +47,10 @@ module _ (st : Station) (begins : Start st) (j : ℕ) (now : State) (ready : Rea
       subst⁻¹ (λ (p : Plan). p .settings ≡ withWindow (st .settings) (p .settings .window)) (ready .plan)
       (settings-after j (planFrom (st .settings) (κ st)))
 
-  pub limits-hold : Limits c
+  pub limits-hold : Planned c
   limits-hold =
-      subst Limits plan-settings
-      (subst⁻¹ (λ (p : Plan). Limits (p .settings)) (ready .plan)
+      subst Planned plan-settings
+      (subst⁻¹ (λ (p : Plan). Planned (p .settings)) (ready .plan)
       (passes-after j (planFrom (st .settings) (κ st))
       (none-may-start (st .settings) (κ st) 0 (begins .grants) .passes)))
 
@@ -61,7 +61,10 @@ module _ (st : Station) (begins : Start st) (j : ℕ) (now : State) (ready : Rea
   planned = omega (arith, limits-hold .faults)
 
   pass : firstOf (settingsChecks c) ≡ none
-  pass = limits-pass c limits-hold
+  pass = limits-pass c (planned-limits c limits-hold)
+
+  spans : trims (c .rule) ≡ false
+  spans = planned-spans c limits-hold
 
   pub plan-steps : j < maxRounds → step (now .plan) ≡ granted (advance (now .plan))
   unfolding after
@@ -89,13 +92,13 @@ module _ (st : Station) (begins : Start st) (j : ℕ) (now : State) (ready : Rea
           settled st now x p
           ≡ writtenAfter (tooManyFaults (found st now x w p .count)) (answerLength (N st))
           (answerBytes (N st) (found st now x w p)) (x .buffer p)
-      settles = settled-is st now x w p plan-settings pass allowed (fits p)
+      settles = settled-is st now x w p plan-settings pass spans allowed (fits p)
 
       pub refuses : found st now x w p .count ≡ 0 → settled st now x p .verdict ≡ refused (refusal tooManyFaultsNumber 0)
-      refuses = settled-refused st now x w p plan-settings pass allowed (fits p)
+      refuses = settled-refused st now x w p plan-settings pass spans allowed (fits p)
 
       pub grants : 0 < found st now x w p .count → settled st now x p .verdict ≡ granted (answerLength (N st))
-      grants = settled-granted st now x w p plan-settings pass allowed (fits p)
+      grants = settled-granted st now x w p plan-settings pass spans allowed (fits p)
 
       -- where no reading is accepted p holds nothing, and else the round's new value
       pub holds-nothing : found st now x w p .count ≡ 0 → next st now x .held p ≡ missing
@@ -110,7 +113,7 @@ module _ (st : Station) (begins : Start st) (j : ℕ) (now : State) (ready : Rea
 
         pub holds-value : next st now x .held p ≡ present (found st now x w p .value)
         unfolding next
-        holds-value = settled-holds st now x w p plan-settings pass allowed (fits p) some-acc value-fits
+        holds-value = settled-holds st now x w p plan-settings pass spans allowed (fits p) some-acc value-fits
 
       -- by what p accepts
       either : {A : Type 0} → (found st now x w p .count ≡ 0 → A) → (0 < found st now x w p .count → A) → A

@@ -16,7 +16,7 @@ use Rattle.model.specs.declared.Settings.{Settings}
 use Rattle.model.specs.Ensemble.{isPresent, ticks}
 use Rattle.model.specs.RoundSheet.{word, settingsAt, entryCount, entryAt, bytes4, readingBytes, sizeBytes, sheetBytes}
 use Rattle.model.specs.AnswerSheet.{answerHeader, answerBytes}
-use Rattle.model.specs.Steps.{readingsOf, accepted, acceptedAt, numbered, medianOf, estimate, mean, roundOf, roundAt}
+use Rattle.model.specs.Steps.{readingsOf, accepted, acceptedAt, numbered, medianOf, estimate, mean, roundOf, roundBy, roundAt}
 use Rattle.model.specs.Steps.{spanWidth}
 use Rattle.model.specs.Planner.{ceilDiv, pastDiv}
 use Rattle.model.specs.Refusals.{firstOf, tooShort, badCabinets, badFaults, badMethod, badWindow, badLength, noRoom}
@@ -127,7 +127,7 @@ reached-tested δ D lowest highest counts at-low at-high near is-low is-high wid
 all-reached : SpreadReached × Reached 2 4 (negsuc 1) (pos 6) × OddSpreadReached
 unfolding
     count anyBelow lowest sum table overwrite word entryCount entryAt bytes4 readingBytes sizeBytes sheetBytes
-    answerHeader answerBytes readingsOf accepted acceptedAt numbered medianOf estimate mean roundOf roundAt ceilDiv pastDiv firstOf
+    answerHeader answerBytes readingsOf accepted acceptedAt numbered medianOf estimate mean roundOf roundBy roundAt ceilDiv pastDiv firstOf
     tooShort badCabinets badFaults badMethod badWindow badLength noRoom badMark badMissing tooManyFaults badSpread
     settingsChecks spreadChecks entryChecks settleChecks settleSpread
 all-reached = (

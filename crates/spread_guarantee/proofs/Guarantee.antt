@@ -8,6 +8,7 @@ use mathlib.Core.Path.{_≡_, refl, ap, _∙_, subst, subst⁻¹}
 use Prim.Native.Nat.{ℕ, _+_, _*_, _%_, _≤_, _<_}
 use native.Mathlib.Nat.{le-refl, lt-of-lt-of-le}
 use native.Mathlib.Omega.{arith}
+use borrow.Author.Tests.{le-ltb}
 use lib.IntN.{ℤ}
 use lib.Signed.{mag}
 use mir.Syntax.{w32}
@@ -18,11 +19,12 @@ use Rattle.arithmetic.specs.Words.{twoTo31}
 use Rattle.arithmetic.proofs.Shift.{down-up}
 use Rattle.model.specs.declared.Settings.{Settings}
 use Rattle.model.specs.Ensemble.{ticks}
-use Rattle.model.specs.RoundSheet.{settingsAt}
+use Rattle.model.specs.RoundSheet.{cca, settingsAt}
 use Rattle.model.specs.AnswerSheet.{answerLength}
-use Rattle.model.specs.Steps.{Round, roundOf, roundAt, spanWidth}
+use Rattle.model.specs.Steps.{Round, roundOf, roundBy, roundAt, spanWidth}
 use Rattle.model.specs.Calls.{granted}
 use Rattle.refusal_laws.proofs.Limits.{Limits}
+use Rattle.round_laws.proofs.Local.{round-by-spans}
 use Rattle.value_laws.proofs.Sheets.{readings-fit}
 use Rattle.limit_laws.proofs.Settled.{Receiver, valueBy, Few, Truth}
 use Rattle.limit_laws.proofs.Settled as receiving
@@ -37,7 +39,8 @@ use Rattle.spread_guarantee.specs.Guarantee.{Cabinet, reading, settled, 
 use Rattle.spread_guarantee.specs.Guarantee.{spreadGap, oddSpreadGap, spreadError, SpreadGuarantee}
 use Rattle.spread_guarantee.proofs.Rounding.{parts-are}
 
-module _ (c : Settings) (D κ : ℕ) (truth : ℤ) (good : ℕ → Bool) (few : bad c good ≤ c .m) where
+module _ (c : Settings) (D κ : ℕ) (truth : ℤ) (good : ℕ → Bool) (spans : c .rule ≤ cca)
+    (few : bad c good ≤ c .m) where
   -- the span's width
   abbrev w : ℕ
   w = spanWidth c D
@@ -93,7 +96,9 @@ module _ (c : Settings) (D κ : ℕ) (truth : ℤ) (good : ℕ → Bool) (few : 
     -- the round of its sheet
     round-is : roundAt (p .sheet) D ≡ roundOf c D (reading p)
     unfolding roundAt
-    round-is = ap (λ (d : Settings). roundOf d D (reading p)) (h .settings)
+    round-is =
+        ap (λ (d : Settings). roundBy d D (reading p)) (h .settings)
+        ∙ round-by-spans c D (reading p) (le-ltb cca (c .rule) spans)
 
     some-accepted : 0 < roundOf c D (reading p) .count
     some-accepted =
@@ -158,10 +163,10 @@ module _ (c : Settings) (D κ : ℕ) (truth : ℤ) (good : ℕ → Bool) (few : 
       near-odd odd = near-by (oddSpreadGap c D (bad c good)) (above .odd odd) (below .odd odd)
 
 pub spread-guarantee : SpreadGuarantee
-spread-guarantee c D κ truth good few =
+spread-guarantee c D κ truth good spans few =
     record {
-      unrefused = no-refusal c D κ truth good few;
-      precise = near-each c D κ truth good few;
-      odd = λ odd p q hp hq alike. near-odd c D κ truth good few p q hp hq alike odd;
-      accurate = near-true c D κ truth good few;
+      unrefused = no-refusal c D κ truth good spans few;
+      precise = near-each c D κ truth good spans few;
+      odd = λ odd p q hp hq alike. near-odd c D κ truth good spans few p q hp hq alike odd;
+      accurate = near-true c D κ truth good spans few;
     }

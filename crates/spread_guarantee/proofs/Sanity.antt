@@ -14,7 +14,7 @@ use Rattle.spread_guarantee.proofs.Guarantee.{spread-guarantee}
 
 module _ (δ D : ℕ) (met : Met δ D) where
   limits : SpreadLimits (wired δ) D D (pos 0) (below 3)
-  limits = spread-guarantee (wired δ) D D (pos 0) (below 3) (rw (met .counts) (lit≤ tt))
+  limits = spread-guarantee (wired δ) D D (pos 0) (below 3) (lit≤ tt) (rw (met .counts) (lit≤ tt))
 
   pub gap-promised : apart (newValue D (low δ D)) (newValue D (high δ D)) ≤ spreadGap (wired δ) D 1
   gap-promised =
@@ -30,5 +30,5 @@ reached-promised = gap-promised 1 2 (spread-reached .met)
 pub odd-promised : apart (newValue 1 fiveLow) (newValue 1 fiveHigh) ≤ oddSpreadGap fifth 1 1
 odd-promised =
     rw (odd-spread-reached .counts) at
-    (spread-guarantee fifth 1 1 (pos 0) (below 4) (rw (odd-spread-reached .counts) (lit≤ tt)) .odd refl
+    (spread-guarantee fifth 1 1 (pos 0) (below 4) (lit≤ tt) (rw (odd-spread-reached .counts) (lit≤ tt)) .odd refl
     fiveLow fiveHigh (odd-spread-reached .readsLow) (odd-spread-reached .readsHigh) (odd-spread-reached .alike))

@@ -18,7 +18,7 @@
 --   spreadGap, spreadError    the two limits
 --   oddSpreadGap          the first for an odd N
 --   SpreadLimits          what holds of all sound cabinets
---   SpreadGuarantee       of all settings, spreads, good sets and true values
+--   SpreadGuarantee       of all settings by FCA or CCA, spreads, good sets and true values
 use mathlib.Core.Bool.{Bool, true, not}
 use mathlib.Core.List.{List}
 use mathlib.Core.Path.{_≡_}
@@ -29,7 +29,7 @@ use mir.Val.{toZ}
 use Rattle.arithmetic.specs.Counting.{count}
 use Rattle.model.specs.declared.Settings.{Settings}
 use Rattle.model.specs.Ensemble.{Reading, isPresent, ticks}
-use Rattle.model.specs.RoundSheet.{word, settingsAt, entryCount, entryAt}
+use Rattle.model.specs.RoundSheet.{cca, word, settingsAt, entryCount, entryAt}
 use Rattle.model.specs.AnswerSheet.{answerLength}
 use Rattle.model.specs.Steps.{readingsOf, spanWidth}
 use Rattle.model.specs.Planner.{ceilDiv, pastDiv}
@@ -109,7 +109,8 @@ pub record SpreadLimits (c : Settings) (D κ : ℕ) (true-value : ℤ) (good : �
       (p : Cabinet) → Reads c D κ true-value good p
       → apart (newValue D p) true-value ≤ spreadError c D κ (bad c good)
 
--- "For one round with t at most m"
+-- "For one round with t at most m", by FCA or CCA
 abbrev pub SpreadGuarantee : Type 0
 SpreadGuarantee =
-    (c : Settings) (D κ : ℕ) (true-value : ℤ) (good : ℕ → Bool) → bad c good ≤ c .m → SpreadLimits c D κ true-value good
+    (c : Settings) (D κ : ℕ) (true-value : ℤ) (good : ℕ → Bool)
+    → c .rule ≤ cca → bad c good ≤ c .m → SpreadLimits c D κ true-value good

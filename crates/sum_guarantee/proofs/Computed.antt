@@ -7,7 +7,7 @@ use Rattle.arithmetic.specs.Counting.{count, anyBelow, lowest, sum}
 use Rattle.arithmetic.specs.Writing.{table, overwrite}
 use Rattle.model.specs.RoundSheet.{word, entryCount, entryAt, bytes4, readingBytes, sizeBytes, sheetBytes}
 use Rattle.model.specs.AnswerSheet.{answerHeader, answerBytes}
-use Rattle.model.specs.Steps.{readingsOf, accepted, acceptedAt, numbered, midpointOf, estimate, mean, roundOf, roundAt}
+use Rattle.model.specs.Steps.{readingsOf, accepted, acceptedAt, numbered, midpointOf, estimate, mean, roundOf, roundBy, roundAt}
 use Rattle.model.specs.Refusals.{firstOf, tooShort, badCabinets, badFaults, badMethod, badWindow, badLength, noRoom}
 use Rattle.model.specs.Refusals.{badMark, badMissing, tooManyFaults, badSpread, settingsChecks, spreadChecks}
 use Rattle.model.specs.Refusals.{entryChecks, settleChecks}
@@ -17,7 +17,7 @@ use Rattle.sum_guarantee.specs.Witnesses.{SumReached, HalvesEven}
 both : SumReached × HalvesEven
 unfolding
     count anyBelow lowest sum table overwrite word entryCount entryAt bytes4 readingBytes sizeBytes sheetBytes
-    answerHeader answerBytes readingsOf accepted acceptedAt numbered midpointOf estimate mean roundOf roundAt firstOf
+    answerHeader answerBytes readingsOf accepted acceptedAt numbered midpointOf estimate mean roundOf roundBy roundAt firstOf
     tooShort badCabinets badFaults badMethod badWindow badLength noRoom badMark badMissing tooManyFaults badSpread
     settingsChecks spreadChecks entryChecks settleChecks settleSpread
 both = (

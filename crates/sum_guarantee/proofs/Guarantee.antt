@@ -21,15 +21,15 @@ use Rattle.arithmetic.proofs.Shift.{down-cong, pos-down, add-down, add-pos-down
 use Rattle.arithmetic.proofs.Sums.{total-ext, total-add, total-const, sum-ext, sum-down}
 use Rattle.model.specs.declared.Settings.{Settings}
 use Rattle.model.specs.Ensemble.{Reading, missing, present, Readings, isPresent, ticks, quorum, maxCabinets, maxWindow, maxSpread}
-use Rattle.model.specs.RoundSheet.{settingsAt}
+use Rattle.model.specs.RoundSheet.{cca, settingsAt}
 use Rattle.model.specs.AnswerSheet.{answerLength}
-use Rattle.model.specs.Steps.{acceptedAt, roundAt, spanWidth}
+use Rattle.model.specs.Steps.{acceptedAt, Round, roundOf, roundAt, spanWidth}
 use Rattle.model.specs.Refusals.{firstOf, settleChecks}
 use Rattle.model.specs.Calls.{granted, settleSpread}
 use Rattle.refusal_laws.proofs.Limits.{Limits}
 use Rattle.sheet_laws.proofs.Outcomes.{granted-none}
 use Rattle.round_laws.specs.Naturals.{shifted, Even, even-nat, mean-nat}
-use Rattle.round_laws.proofs.Local.{EqualBelow}
+use Rattle.round_laws.proofs.Local.{EqualBelow, round-by-spans}
 use Rattle.round_laws.proofs.Represent.{reach, reach-above, raise, represented}
 use Rattle.round_laws.proofs.Natural.{accepted-present, acc-of, used-of, round-count, round-used, round-value}
 use Rattle.value_laws.proofs.Extremes.{LeastOf, least}
@@ -37,7 +37,7 @@ use Rattle.round_laws.proofs.Shifted.{even-down}
 use Rattle.value_laws.proofs.Means.{odd-one, rounds-up, mean-split}
 use Rattle.value_laws.proofs.Apart as apart
 use Rattle.value_laws.proofs.Sheets.{settled-limits, settled-spread, settled-some}
-use Rattle.demand_1_2.specs.Demand2.{LowestAccepted}
+use Rattle.demand_1_2.specs.Demand2.{LowestAccepted, BySpans}
 use Rattle.demand_1_2.proofs.Represented.{le-of-down, accepted-up}
 use Rattle.sum_guarantee.specs.Guarantee.{readings, width, distance, rounded, apartLimit, sumLimit, widestSum, closeLimit, SumLimits, SumGuarantee}
 
@@ -90,7 +90,8 @@ rounded-down k n total low even =
     ∙ add-pos-down k (low + total / n) (bit (rounds-up n (total % n) (low + total / n)))
     ∙ ap (down k) (omega arith))
 
-module _ (s : List ℕ) (D : ℕ) (answer : List ℕ) (size : ℕ) (ok : settleSpread s D answer .verdict ≡ granted size) where
+module _ (s : List ℕ) (D : ℕ) (answer : List ℕ) (size : ℕ) (spans : BySpans s)
+    (ok : settleSpread s D answer .verdict ≡ granted size) where
   passes : firstOf (settleChecks s D (length answer)) ≡ none
   unfolding settleSpread
   passes = granted-none (firstOf (settleChecks s D (length answer))) (answerLength (settingsAt s .n)) size ok
@@ -133,9 +134,15 @@ module _ (s : List ℕ) (D : ℕ) (answer : List ℕ) (size : ℕ) (ok : settleS
   abbrev acc : ℕ → Bool
   acc = acc-of own D here x
 
-  some-acc : 0 < count acc n
+  -- the round by FCA or CCA
+  round-is : roundAt s D ≡ roundOf own D v
   unfolding roundAt
-  some-acc = subst (λ (a : ℕ). 0 < a) (round-count own D here x v k same) (settled-some s D answer passes)
+  round-is = round-by-spans own D v (le-ltb cca (own .rule) spans)
+
+  some-acc : 0 < count acc n
+  some-acc =
+      subst (λ (a : ℕ). 0 < a) (ap (λ (r : Round). r .count) round-is ∙ round-count own D here x v k same)
+      (settled-some s D answer passes)
 
   lo : LeastOf acc x n
   lo = least acc x n some-acc
@@ -182,9 +189,9 @@ module _ (s : List ℕ) (D : ℕ) (answer : List ℕ) (size : ℕ) (ok : settleS
   -- ---- the distances
 
   distance-is : (r : ℕ) → r < n → distance s D (down k low) r ≡ pos (d r)
-  unfolding roundAt
   distance-is r l =
-      ap (λ z. z -ℤ down k low) (round-used own D here x v k same some-acc r l)
+      ap (λ z. z -ℤ down k low)
+      (ap (λ (t : Round). t .used r) round-is ∙ round-used own D here x v k same some-acc r l)
       ∙ sub-down k (used-of own D here x k r) low (used-above r l)
 
   sum-is : sum (distance s D (down k low)) n ≡ pos (total d n)
@@ -201,9 +208,9 @@ module _ (s : List ℕ) (D : ℕ) (answer : List ℕ) (size : ℕ) (ok : settleS
       ∙ ap (λ (j : ℕ). total d n + j) (total-const low n ∙ mul-comm n low)
 
   value-is : roundAt s D .value ≡ rounded n (total d n) (down k low)
-  unfolding roundAt
   value-is =
-      round-value own D here x v k same (within .someCabinet) even-k some-acc
+      ap (λ (t : Round). t .value) round-is
+      ∙ round-value own D here x v k same (within .someCabinet) even-k some-acc
       ∙ ap (λ (t : ℕ). down k (mean-nat n t)) used-total
       ∙ ap (down k) (sym (mean-split n (within .someCabinet) (total d n) low))
       ∙ sym (rounded-down k n (total d n) low even-k)
@@ -255,4 +262,4 @@ module _ (s : List ℕ) (D : ℕ) (answer : List ℕ) (size : ℕ) (ok : settleS
       }
 
 pub sum-guarantee : SumGuarantee
-sum-guarantee s D answer size ok = limits s D answer size ok
+sum-guarantee s D answer size spans ok = limits s D answer size spans ok

@@ -1,7 +1,7 @@
 -- Document 02, "Paper 3. Sums in 32 bits" (docs/FORMAT.md, 5): the mean of a round by the distances of its used values
 -- from the lowest accepted reading, rounded as "Paper 4" has it, and how large their sum can be. It is said of every
--- sheet and spread that settling grants, whatever the faults: nothing is asked of the cabinets. The theorem is
--- `sum-guarantee` of proofs/Guarantee.antt.
+-- sheet by FCA or CCA and every spread that settling grants, whatever the faults: nothing is asked of the cabinets. The
+-- theorem is `sum-guarantee` of proofs/Guarantee.antt.
 --
 -- The round is `roundAt` of crates/model/specs/Steps.antt, whose new value is the mean that it defines: what request 3
 -- asks for is another way to the same value.
@@ -12,7 +12,7 @@
 --   rounded       a number and the whole part of a quotient, and 1 more by the remainder
 --   apartLimit, sumLimit, widestSum, closeLimit     the limits of one distance, and of the sum of all
 --   SumLimits     what holds of a sheet that settling grants
---   SumGuarantee  of all sheets, spreads and answer buffers
+--   SumGuarantee  of all sheets by FCA or CCA, spreads and answer buffers
 use mathlib.Core.Bool.{not, _&&_, _||_}
 use mathlib.Core.List.{List}
 use mathlib.Core.Path.{_≡_}
@@ -25,7 +25,7 @@ use Rattle.model.specs.Ensemble.{Readings, maxCabinets, maxWindow, maxSpread}
 use Rattle.model.specs.RoundSheet.{settingsAt, entryCount, entryAt}
 use Rattle.model.specs.Steps.{readingsOf, isEven, roundAt, spanWidth}
 use Rattle.model.specs.Calls.{granted, settleSpread}
-use Rattle.demand_1_2.specs.Demand2.{LowestAccepted}
+use Rattle.demand_1_2.specs.Demand2.{LowestAccepted, BySpans}
 
 abbrev pub readings : List ℕ → Readings
 readings s = readingsOf (settingsAt s) (entryAt s (entryCount (settingsAt s)))
@@ -81,4 +81,5 @@ pub record SumLimits (s : List ℕ) (D : ℕ) : Type 0 where
 
 abbrev pub SumGuarantee : Type 0
 SumGuarantee =
-    (s : List ℕ) (D : ℕ) (answer : List ℕ) (size : ℕ) → settleSpread s D answer .verdict ≡ granted size → SumLimits s D
+    (s : List ℕ) (D : ℕ) (answer : List ℕ) (size : ℕ)
+    → BySpans s → settleSpread s D answer .verdict ≡ granted size → SumLimits s D

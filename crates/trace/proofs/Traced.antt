@@ -19,13 +19,13 @@ use mir.ValLaws.{toZ-fits}
 use Rattle.arithmetic.specs.Words.{twoTo32}
 use Rattle.model.specs.declared.Settings.{Settings}
 use Rattle.model.specs.Ensemble.{Reading, missing, present}
-use Rattle.model.specs.RoundSheet.{fca, cca, byte, word, settingsAt}
+use Rattle.model.specs.RoundSheet.{fca, cca, trims, byte, word, settingsAt}
 use Rattle.model.specs.AnswerSheet.{answerLength}
 use Rattle.model.specs.Planner.{withWindow, maxAccuracy, maxRounds}
 use Rattle.model.specs.Refusals.{refusal, firstOf, settingsChecks, tooManyFaultsNumber}
 use Rattle.model.specs.Calls.{Verdict}
 use Rattle.model.specs.Steps.{Round}
-use Rattle.refusal_laws.proofs.Limits.{limits}
+use Rattle.refusal_laws.proofs.Limits.{limits, limits-planned}
 use Rattle.planner_laws.proofs.Checks.{may-start-none}
 use Rattle.sheet_laws.proofs.Words.{word-fits}
 use Rattle.run.specs.Run.{IsReading, Station, Start, Sends, Allowed, State, start, heard, settled, next, stateAfter}
@@ -58,7 +58,13 @@ module _ (s : List ℕ) (recorded : Recorded s) (κ : ℕ) (small : κ ≤ maxAc
       record {
         grants =
             may-start-none (settingsAt s) κ 0
-            (record { passes = limits (settingsAt s) (recorded .passes); accurate = small; few = lit≤ tt });
+            (record {
+              passes =
+                  limits-planned (settingsAt s) (limits (settingsAt s) (recorded .passes))
+                  (ap (λ (rule : ℕ). trims rule) (recorded .direct));
+              accurate = small;
+              few = lit≤ tt;
+            });
         readings = λ p. bits-fit s _ (recorded .bytes);
       }
 

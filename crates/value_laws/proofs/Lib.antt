@@ -1,9 +1,11 @@
 pub mod Counts
 pub mod Extremes
 pub mod Ranks
+pub mod Order
 pub mod Estimates
 pub mod Means
 pub mod Acceptance
 pub mod Apart
+pub mod Trimmed
 pub mod Fits
 pub mod Sheets

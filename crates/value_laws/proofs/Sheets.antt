@@ -29,7 +29,7 @@ use Rattle.refusal_laws.proofs.Checks.{next-none-left, next-none-right, when-no
 use Rattle.sheet_laws.proofs.Orders.{settle-checks, spread-passed}
 use Rattle.refusal_laws.proofs.Limits.{Limits, limits, spread-most}
 use Rattle.sheet_laws.proofs.Checks.{settings-passed}
-use Rattle.value_laws.proofs.Fits.{estimate-fits, used-fits, value-fits}
+use Rattle.value_laws.proofs.Fits.{NumbersFit, round-fits}
 
 -- 32 bits hold the ticks of a reading
 abbrev Holds : Reading → Type 0
@@ -112,14 +112,16 @@ module _ (s : List ℕ) (small : (j : ℕ) → byte s j < 256) where
     some-here : 0 < roundAt s D .count
     some-here = settled-some s D answer granted
 
-    pub settled-estimate : SFits w32 (roundAt s D .estimate)
+    here : NumbersFit (settingsAt s .n) (roundAt s D)
     unfolding roundAt
-    settled-estimate = estimate-fits (settingsAt s) D readings readings-fit some-here
+    here =
+        round-fits (settingsAt s) D readings readings-fit (omega (arith, settled-limits s D answer granted .faults)) some-here
+
+    pub settled-estimate : SFits w32 (roundAt s D .estimate)
+    settled-estimate = here .estimate
 
     pub settled-value : SFits w32 (roundAt s D .value)
-    unfolding roundAt
-    settled-value = value-fits (settingsAt s) D readings readings-fit some-here (settled-limits s D answer granted .someCabinet)
+    settled-value = here .value
 
     pub settled-used : (r : ℕ) → r < settingsAt s .n → SFits w32 (roundAt s D .used r)
-    unfolding roundAt
-    settled-used = used-fits (settingsAt s) D readings readings-fit some-here
+    settled-used = here .used

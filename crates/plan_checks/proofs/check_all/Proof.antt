@@ -2,13 +2,13 @@
 -- Assumes nothing.
 use borrow.Author.Needs.{needs}
 use mathlib.Core.Path.{sym, ap₂, _∙_}
-use Rattle.model.specs.Refusals.{orNext, badPlan, settingsChecks}
+use Rattle.model.specs.Refusals.{orNext, badPlan, plannerChecks}
 use Rattle.refusal_laws.proofs.Checks.{first-snoc}
 use Rattle.plan_checks.proofs.check_all.Statement.{statement}
 use Rattle.plan_checks.proofs.check_all.Tie as tie
 
-screen-requires : tie.Need-screen-requires
-screen-requires c κs = search needs
+screen-plan-requires : tie.Need-screen-plan-requires
+screen-plan-requires c κs = search needs
 
 refuse-if-requires : tie.Need-refuse-if-requires
 refuse-if-requires c κs = search needs
@@ -21,8 +21,8 @@ unfolding badPlan
 returns c =
     let a = c .before .before .before .args in
     c .first-of .ensures
-    ∙ ap₂ orNext (c .before .before .screen .ensures) (c .before .refuse-if .ensures)
-    ∙ sym (first-snoc (settingsChecks (a .settings)) (badPlan (a .fails)))
+    ∙ ap₂ orNext (c .before .before .screen-plan .ensures) (c .before .refuse-if .ensures)
+    ∙ sym (first-snoc (plannerChecks (a .settings)) (badPlan (a .fails)))
 
 pub check-all-spec : {M : Type 1} → statement M
-check-all-spec = tie.close (tie.spec screen-requires refuse-if-requires first-of-requires returns)
+check-all-spec = tie.close (tie.spec screen-plan-requires refuse-if-requires first-of-requires returns)

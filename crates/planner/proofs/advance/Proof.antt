@@ -6,7 +6,7 @@ use mathlib.Core.Path.{ap₂}
 use Prim.Native.Nat.{ℕ, _+_}
 use native.Mathlib.Omega.{arith}
 use Rattle.model.specs.Planner.{advance, withWindow}
-use Rattle.refusal_laws.proofs.Limits.{limits}
+use Rattle.refusal_laws.proofs.Limits.{planner-limits}
 use Rattle.planner_laws.proofs.Windows.{next-window-le, growth-le}
 use Rattle.planner.proofs.advance.Statement.{statement}
 use Rattle.planner.proofs.advance.Tie as tie
@@ -18,7 +18,7 @@ cast-next : tie.Need-cast-next
 cast-next c =
     let start = c .before .before in
     let settings = start .args .current .settings in
-    let passes = limits settings (start .pre .0) in
+    let passes = planner-limits settings (start .pre .0) in
     omega (arith, passes .window, next-window-le settings passes, c .next-window .ensures)
 
 growth-requires : tie.Need-growth-requires
@@ -28,14 +28,14 @@ cast-t5 : tie.Need-cast-t5
 cast-t5 c =
     let start = c .before .before .before in
     let settings = start .args .current .settings in
-    let passes = limits settings (start .pre .0) in
+    let passes = planner-limits settings (start .pre .0) in
     omega (arith, passes .window, growth-le settings passes, c .growth .ensures)
 
 add-t6 : tie.Need-add-t6
 add-t6 c =
     let start = c .before .before .before .before in
     let settings = start .args .current .settings in
-    let passes = limits settings (start .pre .0) in
+    let passes = planner-limits settings (start .pre .0) in
     omega (arith, start .pre .1 .1, passes .window, growth-le settings passes, c .before .growth .ensures)
 
 add-t7 : tie.Need-add-t7

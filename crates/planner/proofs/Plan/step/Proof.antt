@@ -6,7 +6,7 @@ use mathlib.Core.Path.{_≡_, sym, ap, _∙_}
 use Rattle.model.specs.Refusals.{firstOf, stepChecks}
 use Rattle.model.specs.Calls.{granted}
 use Rattle.refusals.specs.Answers.{checkOf}
-use Rattle.refusal_laws.proofs.Limits.{limits-pass}
+use Rattle.refusal_laws.proofs.Limits.{planner-pass}
 use Rattle.planner_laws.proofs.Checks.{none-may-step}
 use Rattle.planner_laws.proofs.Steps.{step-by-check}
 use Rattle.planner.specs.Answers.{planOf}
@@ -30,7 +30,7 @@ advance-requires : tie.Need-advance-requires
 advance-requires c κs =
     let self = c .before .before .before .before .args .self in
     let s = none-may-step (planOf self) (passes c) in
-    (limits-pass (self .settings) (s .passes), (s .early, s .accurate))
+    (planner-pass (self .settings) (s .passes), (s .early, s .accurate))
 
 returns : tie.Need-returns
 returns c =

@@ -23,7 +23,7 @@ use Rattle.model.specs.Ensemble.{maxCabinets}
 use Rattle.round_laws.specs.Naturals.{shift}
 use Rattle.round_laws.proofs.Local.{estimate-local, used-local}
 use Rattle.held.specs.Held.{presentIn, valueAt, readingsIn, keptMark, unfit}
-use Rattle.held.proofs.Held.{fit-few}
+use Rattle.held.proofs.Held.{mark-kept, fit-few}
 use Rattle.summaries.specs.Summaries.{farApart, ungathered}
 use Rattle.summaries.proofs.Fits.{far-ext}
 use Rattle.estimates.specs.Values.{estimateOfHeld, meanIn, evaluatedOf, nothing}
@@ -31,7 +31,7 @@ use Rattle.estimates.specs.declared.Estimated.{Estimated}
 use Rattle.acceptance.specs.Values.{acceptedIn, acceptedCount, listsMisfit, countGiven, flagsOf}
 use Rattle.acceptance.proofs.Spans.{held-present}
 use Rattle.agreement.specs.Values.{markAt, agreedMarks, agreedRound, agreedOf}
-use Rattle.agreement.proofs.Kept.{struck, struck-kept, mark-kept}
+use Rattle.agreement.proofs.Kept.{struck, struck-kept}
 
 or-again : (a b : Bool) → (a || (b || a)) ≡ (a || b)
 or-again true b = refl

@@ -2,7 +2,7 @@
 -- what they were.
 -- Assumes nothing.
 use mathlib.Core.Bool.{Bool}
-use mathlib.Core.Path.{_≡_, sym, ap, _∙_}
+use mathlib.Core.Path.{_≡_, ap, _∙_}
 use mathlib.Core.List.{List}
 use Prim.Native.Nat.{ℕ, _<_}
 use native.Mathlib.Omega.{arith}
@@ -11,18 +11,15 @@ use lib.ListN.{length}
 use Rattle.arithmetic.specs.Counting.{sum}
 use Rattle.arithmetic.specs.Naturals.{down, up, total}
 use Rattle.arithmetic.proofs.Counting.{count-le}
-use Rattle.arithmetic.proofs.Shift.{up-down}
 use Rattle.arithmetic.specs.Words.{twoTo31}
 use Rattle.model.specs.Steps.{mean, usedValue}
 use Rattle.round_laws.specs.Naturals.{estimate-nat, mean-nat, used-nat}
 use Rattle.round_laws.proofs.Shifted.{estimate-shifted, value-shifted, even-31}
+use Rattle.held.proofs.Held.{moved-back}
 use Rattle.held.specs.Held.{presentIn, valueAt, readingsIn}
 use Rattle.acceptance.specs.Values.{acceptedIn, acceptedCount}
 use Rattle.acceptance.proofs.Spans.{held-present}
 use Rattle.agreement.specs.Values.{agreedRound}
-
-moved-back : (z : ℤ) (x : ℕ) → z ≡ down twoTo31 x → down twoTo31 (up twoTo31 z) ≡ z
-moved-back z x e = ap (λ y. down twoTo31 (up twoTo31 y)) e ∙ ap (down twoTo31) (up-down twoTo31 x) ∙ sym e
 
 module _ (w need kind : ℕ) (marks values : List ℕ) (some : 0 < acceptedCount w need marks values) where
   abbrev acc : ℕ → Bool

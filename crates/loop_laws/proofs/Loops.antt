@@ -1,18 +1,20 @@
 -- Loops that count indices below n, or store a table, one at a time; sums of one index more.
---   Counts p n c t   c counts those below t that pass p
+--   Counts p n c t       c counts those below t that pass p
+--   Storing f n old now t    the first t of n entries are stored in a list
 -- Assumes nothing.
 use mathlib.Core.Bool.{Bool, true, false}
 use mathlib.Core.List.{List, [], _∷_, _++_}
 use mathlib.Core.Path.{_≡_, refl, sym, ap, ap₂, _∙_}
 use Prim.Native.Nat.{ℕ, _+_, _≤_, _<_, zero-le}
-use native.Mathlib.Nat.{le-refl, le-antisymm}
+use native.Mathlib.Nat.{add-zero, le-refl, le-antisymm}
 use native.Mathlib.Numerals.{add-one}
 use native.Mathlib.Omega.{arith}
-use lib.ListN.{length, set}
+use lib.ListN.{length, getD, set, drop}
+use lib.Seq.{getD-append-add, getD-drop}
 use mir.Val.{boolByte}
 use Rattle.arithmetic.specs.Counting.{bit, count}
 use Rattle.arithmetic.specs.Writing.{table, overwrite}
-use Rattle.arithmetic.proofs.Writing.{length-table, overwrite-snoc}
+use Rattle.arithmetic.proofs.Writing.{length-table, length-overwrite, overwrite-snoc}
 use Rattle.arithmetic.proofs.Counting.{count-le}
 use Rattle.arithmetic.specs.Naturals.{total}
 
@@ -72,3 +74,43 @@ module _ {A : Type 0} where
 
   pub store-ended : (f : ℕ → A) (n e : ℕ) (old now : List A) → e ≤ n → n ≤ e → now ≡ overwrite (table f e) old → now ≡ overwrite (table f n) old
   store-ended f n e old now a b s = s ∙ ap (λ (k : ℕ). overwrite (table f k) old) (le-antisymm a b)
+
+  -- what comes behind the entries stored is what was there
+  pub stored-behind : (f : ℕ → A) (r : ℕ) (old : List A) (d : A) → getD (overwrite (table f r) old) r d ≡ getD old r d
+  unfolding overwrite
+  stored-behind f r old d =
+      let long = length-table f r in
+      ap (λ (k : ℕ). getD (overwrite (table f r) old) k d) (sym (add-zero r) ∙ ap (λ (k : ℕ). k + 0) (sym long))
+      ∙ getD-append-add (table f r) (drop (length (table f r)) old) 0 d
+      ∙ getD-drop (length (table f r)) old 0 d
+      ∙ ap (λ (k : ℕ). getD old k d) (add-zero (length (table f r)) ∙ long)
+
+  -- a list in which a table of n entries is stored, one at a time
+  module _ (f : ℕ → A) (n : ℕ) (old : List A) where
+    pub record Storing (now : List A) (t : ℕ) : Type 0 where
+      pub upTo : t ≤ n
+      pub room : n ≤ length old
+      pub written : now ≡ overwrite (table f t) old
+
+    pub storing-none : n ≤ length old → Storing old 0
+    storing-none room = record { upTo = zero-le; room = room; written = store-none f old }
+
+    module _ (now : List A) (t : ℕ) (so-far : Storing now t) where
+      pub storing-long : length now ≡ length old
+      storing-long =
+          ap length (so-far .written)
+          ∙ length-overwrite (table f t) old (rw (length-table f t) (omega (arith, so-far .upTo, so-far .room)))
+
+      pub storing-behind : (d : A) → getD now t d ≡ getD old t d
+      storing-behind d = ap (λ (l : List A). getD l t d) (so-far .written) ∙ stored-behind f t old d
+
+      pub storing-next : t < n → (x : A) → x ≡ f t → Storing (set now t x) (t + 1)
+      storing-next here x e =
+          record {
+            upTo = omega arith;
+            room = so-far .room;
+            written = store-next f t old now x (so-far .written) e (omega (arith, so-far .room));
+          }
+
+      pub storing-all : n ≤ t → now ≡ overwrite (table f n) old
+      storing-all ended = store-ended f n t old now (so-far .upTo) ended (so-far .written)

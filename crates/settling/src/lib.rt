@@ -3,12 +3,14 @@
 ghost use mathlib.Core.Path.{_≡_};
 ghost use lib.ListN.{length};
 ghost use Prim.Native.Nat.{_≤_};
-ghost use Rattle.model.specs.Ensemble.{maxWindow, maxSpread};
+ghost use Rattle.model.specs.Ensemble.{maxCabinets, maxWindow, maxSpread};
 ghost use Rattle.model.specs.AnswerSheet.{answerLength};
 ghost use Rattle.model.specs.Calls.{settleSpread, settle};
 ghost use Rattle.model.specs.Steps.{spanWidth};
 ghost use Rattle.settling.specs.Answers.{settlingOf};
-ghost use Rattle.settling.specs.Rounds.{Ready, spreadOf, settlingBy};
+ghost use Rattle.settling.specs.Rounds.{Ready, spreadOf, settlingBy, numbersBy, marksBy};
+use estimates::Estimated;
+use model::CCA;
 use model::NO_ROOM;
 use model::Refusal;
 use model::Settings;
@@ -29,8 +31,24 @@ fn span_width(settings: Settings, spread: u32) -> u32
     settings.window + spread
 }
 
-// Settles a sheet that passes checks 1 to 9 and 16 by spans of a width, with lent places for each cabinet's mark and
-// value: what check 10 says.
+// The round of the readings that two lists hold, by their rule: by spans of a width, or by dropping the lowest and the
+// highest.
+fn settle_by(settings: Settings, span: u32, marks: &mut [u8], values: &[u32]) -> Estimated
+    requires { ⌜ settings .m ≤ settings .n ⌝ }
+    ensures { λ r. ⌜ r ≡ numbersBy settings span (now (marks .entry)) (now (values .entry)) ⌝ }
+    ensures { λ _. ⌜ now (marks .exit) ≡ marksBy settings span (now (marks .entry)) (now (values .entry)) ⌝ }
+    ensures { λ r. ⌜ r .count ≤ maxCabinets ⌝ }
+{
+    if CCA < settings.rule {
+        trimming::trim(marks, values, settings.m, settings.rule)
+    } else {
+        let need = settings.n - settings.m;
+        agreement::agree(marks, values, span, need as u32, settings.estimator)
+    }
+}
+
+// Settles a sheet that passes checks 1 to 9 and 16, with lent places for each cabinet's mark and value: what check 10
+// says.
 fn settle_in(
     sheet: &[u8],
     settings: Settings,
@@ -46,8 +64,7 @@ fn settle_in(
         ≡ settleSpread (now (sheet .entry)) (spreadOf settings span) (now (answer .entry)) ⌝ }
 {
     reception::receive(sheet, settings, &mut *marks, &mut *values);
-    let need = settings.n - settings.m;
-    let settled = agreement::agree(&mut *marks, &*values, span, need as u32, settings.estimator);
+    let settled = settle_by(settings, span, &mut *marks, &*values);
     outcomes::conclude(
         settled.count as u8,
         settled.estimate,

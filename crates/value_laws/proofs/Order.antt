@@ -42,7 +42,7 @@ count-more p q (suc n) i l sub pi qi =
     omega arith)
     (split-last i n l)
 
-none-pass : (k : ℕ) → count (λ _. false) k ≡ 0
+pub none-pass : (k : ℕ) → count (λ _. false) k ≡ 0
 unfolding count
 none-pass zero = refl
 none-pass (suc k) = omega (arith, none-pass k)

@@ -1,15 +1,13 @@
--- `settling::settle_in` meets its contract: what is received holds the sheet's readings, so the round that is agreed
--- on and written is the sheet's, and none is where nothing is accepted.
+-- `settling::settle_in` meets its contract: what is received holds the sheet's readings, so the round that is settled
+-- and written is the sheet's, and none is where nothing is counted.
 -- Assumes nothing.
 use borrow.Author.Needs.{needs}
 use mathlib.Core.Path.{_≡_, sym, ap, _∙_}
 use Prim.Native.Nat.{ℕ, _+_, _-_, _≤_}
 use native.Mathlib.Omega.{arith}
-use Rattle.model.specs.Ensemble.{quorum}
 use Rattle.model.specs.Steps.{spanWidth}
 use Rattle.refusals.specs.Answers.{checkOf}
-use Rattle.agreement.specs.Values.{agreedOf, agreedMarks}
-use Rattle.settling.specs.Rounds.{spreadOf}
+use Rattle.settling.specs.Rounds.{spreadOf, numbersBy, marksBy}
 use Rattle.settling.proofs.Settling.{CallsLeave, concludes, few-faults}
 use Rattle.settling.proofs.settle_in.Statement.{statement}
 use Rattle.settling.proofs.settle_in.Tie as tie
@@ -19,10 +17,10 @@ use Rattle.settling.proofs.settle_in.Tie as tie
 abbrev call : tie.After-receive → tie.Start
 call c = c .before .before .before .before .before .before .before
 
-abbrev received : tie.After-agree → tie.After-receive
-received c = c .before .before .before .before .before .before .before .before
+abbrev received : tie.After-settle-by → tie.After-receive
+received c = c .before .before .before .before .before .before .before
 
-abbrev agreed : tie.After-conclude → tie.After-agree
+abbrev agreed : tie.After-conclude → tie.After-settle-by
 agreed c = c .before .before .before .before .before .before .before
 
 -- the span is as wide as its window and its spread
@@ -31,13 +29,13 @@ wide l = omega arith
 
 -- what the calls leave
 left :
-    (c : tie.After-agree)
+    (c : tie.After-settle-by)
     → let s = call (received c) in
     let a = s .args in
     let r = received c .receive .last in
     CallsLeave (a .sheet .now) (a .settings) (spreadOf (a .settings) (a .span)) (a .marks .now) (a .values .now) (r .1 .1 .0) (r .1 .1 .1 .0)
-    (c .agree .last .0)
-    (c .agree .result)
+    (c .settle-by .last .1 .1 .0)
+    (c .settle-by .result)
 left c =
     let known = received c .before .before .before .before .before .before in
     let s = known .before in
@@ -47,32 +45,27 @@ left c =
     let values = r .last .1 .1 .1 .0 in
     let span : a .span ≡ spanWidth (a .settings) (spreadOf (a .settings) (a .span)) = wide (s .pre .0 .1) in
     record {
-      small = λ j. known .shared-slice-known .given j .fits;
-      markRoom = s .pre .1 .0;
-      valueRoom = s .pre .1 .1;
-      marked = r .ensures .1 .0;
-      valued = r .ensures .1 .1;
-      agrees =
-          c .agree .ensures .0
-          ∙ ap (λ (w : ℕ). agreedOf w (quorum (a .settings)) (a .settings .estimator) marks values) span;
-      keeps = c .agree .ensures .1 .0 ∙ ap (λ (w : ℕ). agreedMarks w (quorum (a .settings)) marks values) span;
+      receives =
+          record {
+            small = λ j. known .shared-slice-known .given j .fits;
+            markRoom = s .pre .1 .0;
+            valueRoom = s .pre .1 .1;
+            marked = r .ensures .1 .0;
+            valued = r .ensures .1 .1;
+          };
+      agrees = c .settle-by .ensures .0 ∙ ap (λ (w : ℕ). numbersBy (a .settings) w marks values) span;
+      keeps = c .settle-by .ensures .1 .0 ∙ ap (λ (w : ℕ). marksBy (a .settings) w marks values) span;
     }
 
 receive-requires : tie.Need-receive-requires
 receive-requires c κs = search needs
 
-sub-need : tie.Need-sub-need
-sub-need c =
-    let s = call (c .before .before .before .before .before) in
+settle-by-requires : tie.Need-settle-by-requires
+settle-by-requires c κs =
+    let s = call (c .before .before .before .before .before .before) in
     few-faults (s .args .sheet .now) (s .args .settings) (spreadOf (s .args .settings) (s .args .span)) (s .args .answer .now)
     (s .pre .0 .0)
     .0
-
-cast-agree : tie.Need-cast-agree
-cast-agree c = search needs
-
-agree-requires : tie.Need-agree-requires
-agree-requires c κs = search needs
 
 cast-conclude : tie.Need-cast-conclude
 cast-conclude c = search needs
@@ -101,8 +94,8 @@ returns c =
     (a .values .now)
     (r .1 .1 .0)
     (r .1 .1 .1 .0)
-    (agreed concluded .agree .last .0)
-    (agreed concluded .agree .result)
+    (agreed concluded .settle-by .last .1 .1 .0)
+    (agreed concluded .settle-by .result)
     (left (agreed concluded))
     (out .last .1 .1 .1 .1 .1 .0)
     (out .ensures .1)
@@ -114,9 +107,7 @@ settle-in-spec =
     tie.close
     (tie.spec
     receive-requires
-    sub-need
-    cast-agree
-    agree-requires
+    settle-by-requires
     cast-conclude
     conclude-requires
     same-length

@@ -1,0 +1,107 @@
+-- `trimming::settle_value` meets its contract: the sums of numbers that have a rank are those that the rules ask for.
+-- Assumes nothing.
+use borrow.Author.Needs.{needs}
+use native.Mathlib.Omega.{arith}
+use mathlib.Core.Path.{_≡_, sym, ap, ap₂, _∙_}
+use Prim.Native.Nat.{ℕ, _+_, _*_, _-_, _<_}
+use lib.ListN.{length}
+use Rattle.arithmetic.specs.Words.{twoTo32}
+use Rattle.held.specs.Held.{valueAt}
+use Rattle.round_laws.specs.Naturals.{mean-nat}
+use Rattle.trimming.proofs.Values.{ends-small, sum-of-kept, sum-small, by-midpoint, by-mean}
+use Rattle.trimming.proofs.settle_value.Statement.{statement}
+use Rattle.trimming.proofs.settle_value.Tie as tie
+
+sub-end : tie.Need-sub-end
+sub-end c = search needs
+
+add-sum-between : tie.Need-add-sum-between
+add-sum-between c = search needs
+
+sum-between-requires : tie.Need-sum-between-requires
+sum-between-requires c κs = search needs
+
+sub-sum-between : tie.Need-sub-sum-between
+sub-sum-between c = search needs
+
+sum-between-requires-2 : tie.Need-sum-between-requires-2
+sum-between-requires-2 c κs = search needs
+
+add-nearest : tie.Need-add-nearest
+add-nearest c = search needs
+
+nearest-requires : tie.Need-nearest-requires
+nearest-requires c κs =
+    let known = c .before .before .before .before in
+    let a = known .before .args in
+    let p = known .before .pre .1 in
+    let e =
+    ends-small (a .numbers .now) (a .ranks .now) (a .m) (p .0) (p .1) (λ i. known .shared-slice-known .given i .fits)
+    (c .before .sum-between .result) (c .sum-between2 .result) (c .before .sum-between .ensures .0)
+    (c .sum-between2 .ensures .0) in
+    (omega arith, omega arith, e .2)
+
+sum-between-requires-3 : tie.Need-sum-between-requires-3
+sum-between-requires-3 c κs = search needs
+
+sub-nearest : tie.Need-sub-nearest
+sub-nearest c = search needs
+
+nearest-requires-2 : tie.Need-nearest-requires-2
+nearest-requires-2 c κs =
+    let known = c .before .before .before in
+    let a = known .before .args in
+    let p = known .before .pre .1 in
+    let few = p .0 in
+    let sum = c .sum-between3 .ensures .0 ∙ sum-of-kept (a .numbers .now) (a .ranks .now) (a .m) few (p .1) small in
+    let twice : length (a .numbers .now) - a .m - a .m ≡ length (a .numbers .now) - 2 * a .m = omega arith in
+    (omega arith,
+    omega (arith, known .before .pre .0 .0),
+    rw (twice, sum) (sum-small (a .numbers .now) (a .ranks .now) (a .m) few (p .1) small))
+  where
+    small : (i : ℕ) → valueAt (c .before .before .before .before .args .numbers .now) i < twoTo32
+    small i = c .before .before .before .shared-slice-known .given i .fits
+
+returns : tie.Need-returns
+returns c =
+    let known = c .before .before .before .before .before in
+    let a = known .before .args in
+    let p = known .before .pre .1 in
+    let e =
+    ends-small (a .numbers .now) (a .ranks .now) (a .m) (p .0) (p .1) (λ i. known .shared-slice-known .given i .fits)
+    (c .before .before .sum-between .result) (c .before .sum-between2 .result)
+    (c .before .before .sum-between .ensures .0) (c .before .sum-between2 .ensures .0) in
+    c .nearest .ensures
+    ∙ ap₂ (λ (s t : ℕ). mean-nat 2 (s + t)) (e .0) (e .1)
+    ∙ by-midpoint (a .rule) (length (a .numbers .now)) (a .m) (valueAt (a .numbers .now)) (c .before .before .before .if1 .taken)
+
+returns-2 : tie.Need-returns-2
+returns-2 c =
+    let known = c .before .before .before .before in
+    let a = known .before .args in
+    let p = known .before .pre .1 in
+    let few = p .0 in
+    let sum =
+    c .before .sum-between3 .ensures .0
+    ∙ sum-of-kept (a .numbers .now) (a .ranks .now) (a .m) few (p .1) (λ i. known .shared-slice-known .given i .fits) in
+    let twice : length (a .numbers .now) - a .m - a .m ≡ length (a .numbers .now) - 2 * a .m = omega arith in
+    c .nearest2 .ensures
+    ∙ ap₂ (λ (n s : ℕ). mean-nat n s) twice sum
+    ∙ by-mean (a .rule) (length (a .numbers .now)) (a .m) (valueAt (a .numbers .now)) (c .before .before .if1 .left)
+
+pub settle-value-spec : {M : Type 1} → statement M
+settle-value-spec =
+    tie.close
+    (tie.spec
+    sub-end
+    add-sum-between
+    sum-between-requires
+    sub-sum-between
+    sum-between-requires-2
+    add-nearest
+    nearest-requires
+    sum-between-requires-3
+    sub-nearest
+    nearest-requires-2
+    returns
+    returns-2)

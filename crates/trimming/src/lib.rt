@@ -1,0 +1,184 @@
+// The round of readings by the rules that drop the m lowest and the m highest (document 02, "Paper 5. Trimming rules").
+// Readings are held by their marks and by their ticks moved up by 2^31; the marks that it leaves are those of the answer
+// sheet.
+ghost use mathlib.Core.Path.{_≡_};
+ghost use mathlib.Core.Bool.{cond, _&&_, _||_};
+ghost use Prim.Native.Nat.{_+_, _*_, _-_, _≤_, _<_};
+ghost use lib.Dec.{eqb, leb, ltb};
+ghost use lib.ListN.{length, getD};
+ghost use Rattle.arithmetic.specs.Naturals.{up};
+ghost use Rattle.arithmetic.specs.Words.{twoTo31, twoTo32};
+ghost use Rattle.arithmetic.specs.Writing.{table, overwrite};
+ghost use Rattle.model.specs.Ensemble.{maxCabinets};
+ghost use Rattle.round_laws.specs.Naturals.{mean-nat, trimmed-nat};
+ghost use Rattle.held.specs.Held.{keptMark, valueAt};
+ghost use Rattle.trimming.specs.Values.{trimmedIn, unfitFor, trimmedOf, markAt, trimmedMarks};
+ghost use Rattle.trimming.specs.Values.{numberIn, between, sumBetween, Ranked};
+use estimates::Estimated;
+use held::PRESENT;
+use model::TRIMMED_MIDPOINT;
+
+// What stands for 0 ticks.
+const ZERO: u32 = 2_147_483_648;
+
+// The number by which a reading is ordered: a missing one counts as 0 ticks.
+fn number(mark: u8, value: u32) -> u32
+    ensures { λ r. ⌜ r ≡ cond (eqb mark 1) value twoTo31 ⌝ }
+{
+    if mark == PRESENT { value } else { ZERO }
+}
+
+// The numbers of the readings, in a lent list.
+fn fill(marks: &[u8], values: &[u32], numbers: &mut [u32])
+    requires { ⌜
+        (length (now values) ≡ length (now marks)) × (length (now marks) ≤ length (now numbers)) ⌝ }
+    ensures { λ _. ⌜
+        now (numbers .exit)
+        ≡ overwrite (table (numberIn (now (marks .entry)) (now (values .entry))) (length (now (marks .entry))))
+        (now (numbers .entry)) ⌝ }
+{
+    let mut r = 0;
+    'readings: while r < marks.len() {
+        numbers[r] = number(marks[r], values[r]);
+        r += 1;
+    }
+}
+
+// A number that is taken, or 0.
+fn part(number: u32, taken: bool) -> u64
+    ensures { λ r. ⌜ (r ≡ cond taken number 0) × (r < twoTo32) ⌝ }
+{
+    if taken { number as u64 } else { 0 }
+}
+
+// The sum of the numbers that have a rank from low to high.
+fn sum_between(numbers: &[u32], ranks: &[u8], low: usize, high: usize) -> u64
+    requires { ⌜ (length (now numbers) ≤ maxCabinets) × (length (now ranks) ≡ length (now numbers)) ⌝ }
+    ensures { λ s. ⌜
+        s ≡ sumBetween (now (ranks .entry)) (now (numbers .entry)) low high (length (now (numbers .entry))) ⌝ }
+    ensures { λ s. ⌜ s ≤ length (now (numbers .entry)) * (twoTo32 - 1) ⌝ }
+{
+    let mut sum: u64 = 0;
+    let mut r = 0;
+    'numbers: while r < numbers.len() {
+        let rank = ranks[r] as usize;
+        sum += part(numbers[r], (low <= rank) & (rank < high));
+        r += 1;
+    }
+    sum
+}
+
+// Strikes out the readings that are dropped, by their ranks.
+fn strike(marks: &mut [u8], ranks: &[u8], m: usize)
+    requires { ⌜ (m ≤ length (now marks)) × (length (now ranks) ≡ length (now marks)) ⌝ }
+    ensures { λ _. ⌜
+        now (marks .exit)
+        ≡ table
+        (λ r.
+        keptMark (between (now (ranks .entry)) m (length (now (marks .entry)) - m) r) (getD (now (marks .entry)) r 0))
+        (length (now (marks .entry))) ⌝ }
+{
+    let end = marks.len() - m;
+    let mut r = 0;
+    'readings: while r < marks.len() {
+        let rank = ranks[r] as usize;
+        marks[r] = held::kept_mark((m <= rank) & (rank < end), marks[r]);
+        r += 1;
+    }
+}
+
+// The mean of n numbers below 2^32 with this sum, to the nearest, a half going to the even neighbour: the whole part,
+// and 1 more by the remainder.
+fn nearest(n: u64, sum: u64) -> u32
+    requires { ⌜ (0 < n) × (n ≤ maxCabinets) × (sum ≤ n * (twoTo32 - 1)) ⌝ }
+    ensures { λ r. ⌜ r ≡ mean-nat n sum ⌝ }
+{
+    let whole = sum / n;
+    let up = n < 2 * (sum % n) + whole % 2;
+    (whole + (up as u64)) as u32
+}
+
+// The new value of numbers and their ranks, of which the m lowest and the m highest are dropped: by the one rule half the
+// sum of the lowest and the highest that are left, by the other the mean of those left.
+fn settle_value(rule: u8, numbers: &[u32], ranks: &[u8], m: usize) -> u32
+    requires { ⌜ (length (now numbers) ≤ maxCabinets) × (length (now ranks) ≡ length (now numbers)) ⌝ }
+    requires { ⌜ (2 * m < length (now numbers)) × Ranked (now numbers) (now ranks) ⌝ }
+    ensures { λ r. ⌜
+        r ≡ trimmed-nat rule (length (now (numbers .entry))) m (valueAt (now (numbers .entry))) ⌝ }
+{
+    let end = numbers.len() - m;
+    if rule == TRIMMED_MIDPOINT {
+        let low = sum_between(numbers, ranks, m, m + 1);
+        let high = sum_between(numbers, ranks, end - 1, end);
+        nearest(2, low + high)
+    } else {
+        let sum = sum_between(numbers, ranks, m, end);
+        nearest((end - m) as u64, sum)
+    }
+}
+
+// Drops the m lowest and the m highest of readings, with lent places for their numbers and their ranks: the new value,
+// moved up by 2^31, and the marks of the answer sheet.
+fn trim_in(
+    marks: &mut [u8],
+    values: &[u32],
+    m: usize,
+    rule: u8,
+    numbers: &mut [u32],
+    ranks: &mut [u8],
+) -> u32
+    requires { ⌜ (length (now marks) ≤ maxCabinets) × (length (now values) ≡ length (now marks)) ⌝ }
+    requires { ⌜
+        (length (now numbers) ≡ length (now marks)) × (length (now ranks) ≡ length (now marks)) ⌝ }
+    requires { ⌜ 2 * m < length (now marks) ⌝ }
+    ensures { λ r. ⌜
+        r ≡ up twoTo31 (trimmedIn rule m (now (marks .entry)) (now (values .entry)) .value) ⌝ }
+    ensures { λ _. ⌜
+        now (marks .exit)
+        ≡ table (markAt m (now (marks .entry)) (now (values .entry))) (length (now (marks .entry))) ⌝ }
+{
+    fill(&*marks, values, &mut *numbers);
+    ranks::rank(&*numbers, &mut *ranks);
+    strike(marks, &*ranks, m);
+    settle_value(rule, &*numbers, &*ranks, m)
+}
+
+// Whether the lists are not those of at most 64 readings, or none is left.
+fn unfit(marks: usize, values: usize, m: u8) -> bool
+    ensures { λ r. ⌜ r ≡ unfitFor marks values m ⌝ }
+{
+    held::unfit(marks, values) | (marks <= 2 * (m as usize))
+}
+
+// The round of at most 64 readings by rule 2, or else by rule 3: the marks say which readings are kept. Where the lists
+// do not fit, or none is left, nothing is counted and the marks are left as they are.
+pub fn trim(marks: &mut [u8], values: &[u32], m: u8, rule: u8) -> Estimated
+    ensures { λ r. ⌜ r ≡ trimmedOf rule m (now (marks .entry)) (now (values .entry)) ⌝ }
+    ensures { λ _. ⌜ now (marks .exit) ≡ trimmedMarks m (now (marks .entry)) (now (values .entry)) ⌝ }
+    ensures { λ r. ⌜ r .count ≤ maxCabinets ⌝ }
+{
+    let n = marks.len();
+    if unfit(n, values.len(), m) {
+        return Estimated {
+            count: 0,
+            estimate: 0,
+            value: 0,
+        };
+    }
+    let mut numbers = [0u32; 64];
+    let mut ranks = [0u8; 64];
+    let low = m as usize;
+    let value = trim_in(
+        &mut *marks,
+        values,
+        low,
+        rule,
+        &mut numbers[..n],
+        &mut ranks[..n],
+    );
+    Estimated {
+        count: (n - 2 * low) as u32,
+        estimate: value,
+        value,
+    }
+}

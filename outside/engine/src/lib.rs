@@ -50,6 +50,7 @@ mod wrong_plan;
 mod wrong_replay;
 mod wrong_spread;
 mod wrong_sum;
+mod wrong_trim;
 
 pub use by_hand::replay_by_hand;
 use plain::{Plain, Steps, Tuned};

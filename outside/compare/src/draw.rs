@@ -331,7 +331,7 @@ pub fn spoiled(random: &Random, mut bytes: Vec<u8>) -> Vec<u8> {
         match random.below(4) {
             0 => bytes.push(random.draw() as u8),
             1 => bytes.truncate(bytes.len() - 1),
-            2 => bytes.truncate(random.below(10)),
+            2 => bytes.truncate(random.pick(&[7, 8, 8, 9, random.below(10)])),
             _ => bytes.truncate(random.below(bytes.len())),
         }
     }

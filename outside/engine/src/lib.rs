@@ -97,6 +97,13 @@ pub trait Engine {
         true
     }
 
+    /// Whether the engine has the trimming rules, as the library of an earlier commit may not: it settles a sheet of one
+    /// cabinet by rule 2.
+    fn has_trimming(&self) -> bool {
+        let sheet = [1, 0, reference::TRIMMED_MIDPOINT, 0, 0, 0, 0, 0, 1, 5, 0, 0, 0];
+        number(self.settle(&sheet, &mut [0; 15])) == 0
+    }
+
     /// A digest of all answers so far, where the engine keeps one.
     fn digest(&self) -> Option<u64> {
         None

@@ -44,7 +44,7 @@ pub fn trim(sheet: &Opened, marks: &mut [u8], used: &mut [u8]) -> i32 {
         values[r] = moved(reading(sheet.readings, r));
     }
     let mut ranks = [0u8; MOST];
-    rank(&values, n, &mut ranks);
+    rank(&values[..n], &mut ranks);
     let new = mark(sheet, &values, &ranks, marks).new_value(&sheet.sizes);
     for r in 0..n {
         let value = if marks[r] == 1 { unmoved(values[r]) } else { new };
@@ -54,13 +54,15 @@ pub fn trim(sheet: &Opened, marks: &mut [u8], used: &mut [u8]) -> i32 {
 }
 
 /// The place of each value in order, equal ones by number.
-fn rank(values: &[u32; MOST], n: usize, ranks: &mut [u8; MOST]) {
+fn rank(values: &[u32], ranks: &mut [u8; MOST]) {
+    let n = values.len();
     let mut seen = [0u8; MOST];
     for r in 0..n {
-        let mut less = 0;
+        let mut less = 0u32;
         for other in 0..n {
-            less += (values[other] < values[r]) as usize;
+            less += (values[other] < values[r]) as u32;
         }
+        let less = less as usize;
         ranks[r] = less as u8 + seen[less];
         seen[less] += 1;
     }

@@ -216,8 +216,9 @@ static inline size_t tohiranga_row_start(uint64_t row) { return (size_t)(row >> 
 static inline size_t tohiranga_row_length(uint64_t row) { return (size_t)(uint32_t)row; }
 
 /* The plan that many rounds on from the settings and the accuracy at the start. Answers the rounds done. Refuses under 2 to
- * 5 and 11, rules 2 and 3 under 4. A fresh plan is the one for 0 rounds. One round on from the window w, the window is 0 where m or w is 0, and else the
- * whole part of 2mw/N plus one, or of mw/N plus one for rule 1 with the median; the accuracy grows by mw/N, rounded up. */
+ * 5 and 11, rules 2 and 3 under 4. A fresh plan is the one for 0 rounds. One round on from the window w, the window is 0 where m
+ * or w is 0, and else the whole part of 2mw/N plus one, or of mw/N plus one for rule 1 with the median; the accuracy grows by
+ * mw/N, rounded up. */
 struct tohiranga_planning tohiranga_plan(struct tohiranga_settings settings, uint32_t accuracy, uint32_t rounds);
 
 /* The plan one round on. Answers the rounds done. Refuses under 2 to 5 and 11. */

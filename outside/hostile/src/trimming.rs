@@ -11,7 +11,7 @@ use reference::{TRIMMED_MEAN, TRIMMED_MIDPOINT};
 pub const RULES: [u8; 2] = [TRIMMED_MIDPOINT, TRIMMED_MEAN];
 
 /// N, m, t and δ with which the liars can reach the limits of both rules exactly. Half of δ is odd, or δ is; tδ/(N-2m)
-/// is not whole, but in the fifth, where it is odd and N-2m even.
+/// is not whole, or it is odd and N-2m even.
 pub const EXAMPLES: [Example; 6] = [
     (4, 1, 1, 2),
     (7, 2, 1, 5),
@@ -60,7 +60,7 @@ pub struct Trimming {
     united: bool,
 }
 
-/// Sound cabinets, by whom a cabinet counts as such that told all the same.
+/// The range of the sound readings. A faulty cabinet that told all the same may count as sound.
 struct Sound {
     t: usize,
     lowest: i64,
@@ -190,8 +190,8 @@ impl Trimming {
     }
 }
 
-/// What the sound cabinets hold above a base where liars reach the limits: m-t at the low end that all drop and t that
-/// only some drop, those that all keep, and as many at the high end.
+/// What the sound cabinets hold above a base where liars reach the limits: m at either end, of which a cabinet drops all,
+/// or m-t where the liars stand at that end; and between these what all keep.
 pub fn sharp(settings: &Settings, t: usize, middle: i64) -> Vec<i64> {
     let (n, m) = (settings.n as usize, settings.m as usize);
     let reading = |i: usize| match i {

@@ -1,18 +1,18 @@
 #!/usr/bin/env python3
 """Write the round sheets of document 01's cases 1 to 10, and the text that the program `settle` is to write for each, with the mean's half
-going to the even neighbour (document 02, request 4).
+going to the even neighbour (document 02, request 4); and a sheet by a trimming rule (request 5), with its text.
 
     python3 examples/make.py
 
 Beside this file it writes case-NN.sheet, the bytes of a sheet, and case-NN.txt, the text, where NN is the case's number with a letter
-where the case has two sheets. The bytes are laid out as document 01, "The round sheet", says. The texts are written out here by hand
+where the case has two sheets; and trimmed.sheet and trimmed.txt. The bytes are laid out as document 01, "The round sheet", says. The texts are written out here by hand
 from the cases: no engine makes them.
 """
 
 import pathlib
 import struct
 
-FCA, CCA = 0, 1
+FCA, CCA, TRIMMED_MEAN = 0, 1, 3
 AVERAGE, MEDIAN, MIDPOINT = 0, 1, 2
 
 
@@ -84,12 +84,20 @@ CASES = {
     ),
 }
 
+# rule 3 of seven cabinets, planned for two faults: cabinet 4 lies and nothing was heard from cabinet 2, which counts as 0. In order they are
+# -8, -3, 0, 5, 7, 9 and 900, and 0, 5 and 7 are left: new 4 (12/3)
+TRIMMED = (
+    sheet(7, 2, TRIMMED_MEAN, 0, 20, [-8, 5, None, 9, 900, -3, 7]),
+    text("round 7 3 4 4", [(2, 4), (1, 5), (0, 4), (2, 4), (2, 4), (2, 4), (1, 7)]),
+)
+
 
 def main():
     folder = pathlib.Path(__file__).resolve().parent
-    for name, (sheet_bytes, listing) in CASES.items():
-        (folder / f"case-{name}.sheet").write_bytes(sheet_bytes)
-        (folder / f"case-{name}.txt").write_text(listing, encoding="ascii", newline="\n")
+    named = {f"case-{name}": case for name, case in CASES.items()}
+    for name, (sheet_bytes, listing) in {**named, "trimmed": TRIMMED}.items():
+        (folder / f"{name}.sheet").write_bytes(sheet_bytes)
+        (folder / f"{name}.txt").write_text(listing, encoding="ascii", newline="\n")
 
 
 if __name__ == "__main__":

@@ -18,9 +18,9 @@
  *    1   the transfer was cut off: fetch the sheet again
  *    2   correct the number of cabinets in the sheet or the settings
  *    3   plan for fewer faults m, or add cabinets
- *    4   rule 0 or 1, estimator 0, 1 or 2
+ *    4   rule 0 or 1 with estimator 0, 1 or 2, or rule 2 or 3 with estimator 0; a plan is for rules 0 and 1 alone
  *    5   narrow the window; a larger one is not supported
- *    6   E is N for rule 0 and N * N for rule 1: fetch the sheet again, or give arrays of exactly E
+ *    6   E is N * N for rule 1 and N for the others: fetch the sheet again, or give arrays of exactly E
  *    7   lend TOHIRANGA_ANSWER_SIZE, TOHIRANGA_SHEET_SIZE, TOHIRANGA_VALUES_SIZE or E elements; from an answer sheet ask for a
  *        cabinet below N
  *    8   place is the lowest such entry: what filled it is at fault
@@ -34,7 +34,7 @@
  *   14   mark the entries of sound senders missing, since the replay supplies them
  *   15   place / 64 is the round and place % 64 the cabinet: look at what it heard. More are faulty than planned for, or the
  *        first readings of sound cabinets lie too far apart
- *   16   give a spread of at most TOHIRANGA_MAX_SPREAD with rule 0, and of 0 with rule 1
+ *   16   give a spread of at most TOHIRANGA_MAX_SPREAD with rule 0, and of 0 with the others
  */
 #ifndef TOHIRANGA_H
 #define TOHIRANGA_H
@@ -60,7 +60,8 @@ extern "C" {
 #define TOHIRANGA_MAX_ROUNDS 32
 #define TOHIRANGA_TICKS_PER_SECOND 16777216
 
-enum { TOHIRANGA_FCA = 0, TOHIRANGA_CCA = 1 };
+/* The rules, of which the last two are the trimming rules, and the estimators of the first two. */
+enum { TOHIRANGA_FCA = 0, TOHIRANGA_CCA = 1, TOHIRANGA_TRIMMED_MIDPOINT = 2, TOHIRANGA_TRIMMED_MEAN = 3 };
 enum { TOHIRANGA_AVERAGE = 0, TOHIRANGA_MEDIAN = 1, TOHIRANGA_MIDPOINT = 2 };
 
 enum tohiranga_refusal {
@@ -141,7 +142,7 @@ static inline const char *tohiranga_refusal_text(unsigned number) {
     case TOHIRANGA_BAD_TRACE: return "the trace is not one of an FCA run of at most 32 rounds, or not as long as it says";
     case TOHIRANGA_BAD_ROLES: return "a role is not 0 or 1, or a sound sender's entry is present";
     case TOHIRANGA_RUN_STOPPED: return "too many faults for a sound cabinet; the place is 64 x round (from 1) + cabinet";
-    case TOHIRANGA_BAD_SPREAD: return "the spread is above 100,000, or above 0 with CCA";
+    case TOHIRANGA_BAD_SPREAD: return "the spread is above 100,000, or above 0 with another rule than FCA";
     default: return "no refusal of this library";
     }
 }
@@ -157,7 +158,17 @@ uint32_t tohiranga_version(void);
  * The answer sheet: byte 0 N, 1 the number accepted, 2 to 5 the estimate, 6 to 9 the new value; N marks (0 missing or known
  * faulty, 1 accepted, 2 present and not accepted); N used values of four bytes. The new value is the mean of the used values to
  * the nearest whole number, a half going to the even neighbour: 1/2 and -1/2 give 0, 3/2 gives 2. Average and midpoint are
- * rounded down. */
+ * rounded down.
+ *
+ * Rules 2 and 3 have E = N and the estimator byte 0; the window is checked and plays no part. A missing reading counts as 0. The m
+ * lowest and the m highest of the N readings are dropped, equal ones ordered by cabinet. The new value is half the sum of the
+ * lowest and the highest left (rule 2), or the mean of the N - 2m left (rule 3), rounded as above. The answer sheet has N - 2m for
+ * the number accepted; mark 1 for a present reading that is left, 2 for one that is dropped, 0 for a missing one; as used value the
+ * reading where the mark is 1, and the new value elsewhere and for the estimate. Refusal 10 does not arise.
+ * Let at most m cabinets be faulty, t of them, and all sound readings be present and within w of each other. Then each new value is
+ * within the range of the sound readings, and two sound cabinets' new values are at most w/2 apart (rule 2), or tw/(N - 2m)
+ * (rule 3), by the quotient's whole part plus one. With more faulty ones, or sound readings missing, nothing is promised, and no
+ * refusal tells. */
 uint64_t tohiranga_settle(const uint8_t *sheet, size_t sheet_len, uint8_t *answer, size_t answer_len);
 
 /* Settles a round sheet of rule 0 where cable runs differ: two sound cabinets' readings of a good one differ by up to the
@@ -199,14 +210,15 @@ uint64_t tohiranga_write(struct tohiranga_settings settings, const uint8_t *mark
 
 /* Where the row of readings of a cabinet stands in the sheet: start * 2^32 + length, within the sheet, and 0 where there is
  * none: for a sheet that 1 to 6, 8 or 9 refuse, and for a cabinet of N or above. It is no refusal. For
- * cabinet r of rule 0 the start is 8 + E + 4r and the length 4; of rule 1 the start is 8 + E + 4rN and the length 4N. */
+ * cabinet r of rule 1 the start is 8 + E + 4rN and the length 4N; of the others the start is 8 + E + 4r and the length 4. */
 uint64_t tohiranga_row(const uint8_t *sheet, size_t sheet_len, uint32_t cabinet);
 static inline size_t tohiranga_row_start(uint64_t row) { return (size_t)(row >> 32); }
 static inline size_t tohiranga_row_length(uint64_t row) { return (size_t)(uint32_t)row; }
 
 /* The plan that many rounds on from the settings and the accuracy at the start. Answers the rounds done. Refuses under 2 to
- * 5 and 11. A fresh plan is the one for 0 rounds. One round on from the window w, the window is 0 where m or w is 0, and else the
- * whole part of 2mw/N plus one, or of mw/N plus one for rule 1 with the median; the accuracy grows by mw/N, rounded up. */
+ * 5 and 11, rules 2 and 3 under 4. A fresh plan is the one for 0 rounds. One round on from the window w, the window is 0 where m
+ * or w is 0, and else the whole part of 2mw/N plus one, or of mw/N plus one for rule 1 with the median; the accuracy grows by
+ * mw/N, rounded up. */
 struct tohiranga_planning tohiranga_plan(struct tohiranga_settings settings, uint32_t accuracy, uint32_t rounds);
 
 /* The plan one round on. Answers the rounds done. Refuses under 2 to 5 and 11. */

@@ -115,8 +115,8 @@ def shared():
     yield f"MAX_ANSWER {answer_size(FIGURES['maxCabinets'])}"
     yield f"MAX_TRACE {trace_size(FIGURES['maxCabinets'], FIGURES['maxRounds'])}"
     yield f"MAX_VALUES {values_size(FIGURES['maxCabinets'])}"
-    for name in ("fca", "cca", "average", "median", "midpoint"):
-        yield f"{name.upper()} {FIGURES[name]}"
+    for name in ("fca", "cca", "trimmedMidpoint", "trimmedMean", "average", "median", "midpoint"):
+        yield f"{constant(name)} {FIGURES[name]}"
     for number, name in refusals():
         yield f"{name} {number}"
     said = meanings()
@@ -128,6 +128,9 @@ def shared():
     for rule in ("FCA", "CCA"):
         for estimator, wanted in (("AVERAGE", 3), ("MEDIAN", 1), ("MIDPOINT", 5)):
             yield f"estimate of {rule} {estimator} {sheet_size(4, FIGURES[rule.lower()])} {wanted}"
+    # 1, 2 and 10 are left: 11/2 to the even neighbour, 13/3 to the nearest
+    for rule, wanted in (("trimmedMidpoint", 6), ("trimmedMean", 4)):
+        yield f"new value of {constant(rule)} {sheet_size(5, FIGURES[rule])} {wanted}"
     yield f"version {version()}"
     yield f"version of the library {version_number()}"
 

@@ -68,7 +68,8 @@ sabotage "header: the text of refusal 15" $header "64 x round (from 1)" "64 x ro
 sabotage "header: refusals 14 and 15 swapped" $header "TOHIRANGA_BAD_ROLES = 14,
     TOHIRANGA_RUN_STOPPED = 15" "TOHIRANGA_BAD_ROLES = 15,
     TOHIRANGA_RUN_STOPPED = 14"
-sabotage "header: the text of refusal 16" $header "or above 0 with CCA" "or above 0 with FCA"
+sabotage "header: the text of refusal 16" $header "with another rule than FCA" "with another rule than CCA"
+sabotage "header: the trimming rules swapped" $header "TRIMMED_MIDPOINT = 2, TOHIRANGA_TRIMMED_MEAN = 3" "TRIMMED_MIDPOINT = 3, TOHIRANGA_TRIMMED_MEAN = 2"
 sabotage "header: a spread of 1000000" $header "MAX_SPREAD 100000" "MAX_SPREAD 1000000"
 sabotage "header: the spread before the sheet" $header "tohiranga_settle_spread(const uint8_t *sheet, size_t sheet_len, uint32_t spread," \
     "tohiranga_settle_spread(uint32_t spread, const uint8_t *sheet, size_t sheet_len,"

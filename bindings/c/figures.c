@@ -24,6 +24,17 @@ static void show_method(const char *name, uint8_t rule, uint8_t estimator) {
     printf("estimate of %s %" PRIu64 " %" PRId32 "\n", name, size, tohiranga_ticks(tohiranga_answer_estimate(answer, (size_t)length)));
 }
 
+/* The new value of the readings 0, 1, 2, 10 and 500, of which 1, 2 and 10 are left: another for each trimming rule. */
+static void show_trimmed(const char *name, uint8_t rule) {
+    struct tohiranga_settings settings = {5, 1, rule, 0, 10};
+    const uint8_t marks[5] = {1, 1, 1, 1, 1};
+    const int32_t readings[5] = {0, 1, 2, 10, 500};
+    uint8_t sheet[TOHIRANGA_MAX_SHEET], answer[TOHIRANGA_MAX_ANSWER];
+    uint64_t size = tohiranga_write(settings, marks, 5, readings, 5, sheet, sizeof sheet);
+    uint64_t length = tohiranga_settle(sheet, (size_t)size, answer, sizeof answer);
+    printf("new value of %s %" PRIu64 " %" PRId32 "\n", name, size, tohiranga_ticks(tohiranga_answer_value(answer, (size_t)length)));
+}
+
 int main(void) {
     NUMBER(MAX_CABINETS);
     NUMBER(MAX_WINDOW);
@@ -37,6 +48,8 @@ int main(void) {
     NUMBER(MAX_VALUES);
     NUMBER(FCA);
     NUMBER(CCA);
+    NUMBER(TRIMMED_MIDPOINT);
+    NUMBER(TRIMMED_MEAN);
     NUMBER(AVERAGE);
     NUMBER(MEDIAN);
     NUMBER(MIDPOINT);
@@ -66,6 +79,8 @@ int main(void) {
     show_method("CCA AVERAGE", TOHIRANGA_CCA, TOHIRANGA_AVERAGE);
     show_method("CCA MEDIAN", TOHIRANGA_CCA, TOHIRANGA_MEDIAN);
     show_method("CCA MIDPOINT", TOHIRANGA_CCA, TOHIRANGA_MIDPOINT);
+    show_trimmed("TRIMMED_MIDPOINT", TOHIRANGA_TRIMMED_MIDPOINT);
+    show_trimmed("TRIMMED_MEAN", TOHIRANGA_TRIMMED_MEAN);
     printf("version %s\n", TOHIRANGA_VERSION_TEXT);
     printf("version of the library %" PRIu32 "\n", tohiranga_version());
 

@@ -63,7 +63,7 @@ static struct lent lend_copy(const void *bytes, size_t len) {
     return l;
 }
 
-/* ---- A sheet that settles: every reading is present, cabinet r reads r */
+/* ---- A sheet that settles: every reading is present, cabinet r reads r. With a trimming rule all but m at either end are left. */
 
 static size_t make_sheet(uint8_t *sheet, uint8_t n, uint8_t rule) {
     size_t entries = TOHIRANGA_ENTRIES(n, rule);
@@ -71,13 +71,19 @@ static size_t make_sheet(uint8_t *sheet, uint8_t n, uint8_t rule) {
     sheet[0] = n;
     sheet[1] = (uint8_t)((n - 1) / 3);
     sheet[2] = rule;
-    sheet[3] = TOHIRANGA_MEDIAN;
+    sheet[3] = rule <= TOHIRANGA_CCA ? TOHIRANGA_MEDIAN : 0;
     sheet[4] = 100;
     memset(sheet + 8, 1, entries);
     for (size_t e = 0; e < entries; e++)
         sheet[8 + entries + 4 * e] = (uint8_t)(rule == TOHIRANGA_CCA ? e / n : e);
     return 8 + 5 * entries;
 }
+
+static int is_left(const uint8_t *good, uint32_t r) {
+    return good[2] <= TOHIRANGA_CCA || (good[1] <= r && r < (uint32_t)(good[0] - good[1]));
+}
+
+static uint8_t left(const uint8_t *good) { return (uint8_t)(good[2] <= TOHIRANGA_CCA ? good[0] : good[0] - 2 * good[1]); }
 
 static uint64_t settle(struct lent sheet, struct lent answer) {
     return tohiranga_settle(sheet.start, sheet.len, answer.start, answer.len);
@@ -88,7 +94,7 @@ static void settle_bad(const uint8_t *good, size_t len, uint8_t n) {
     struct lent sheet = lend_copy(good, len), room = lend(size), wide = lend(size + 7), tight = lend(size - 1), none = lend(0);
     EXPECT(settle(sheet, room) == size && kept_from(room, size));
     EXPECT(settle(sheet, wide) == size && kept_from(wide, size));
-    EXPECT(memcmp(room.start, wide.start, size) == 0 && room.start[0] == n && room.start[1] == n);
+    EXPECT(memcmp(room.start, wide.start, size) == 0 && room.start[0] == n && room.start[1] == left(good));
     EXPECT(settle(sheet, tight) == REFUSED(7, 0) && kept(tight));
     EXPECT(settle(sheet, none) == REFUSED(7, 0) && kept(none));
     EXPECT(tohiranga_settle(sheet.start, sheet.len, NULL, 0) == REFUSED(7, 0));
@@ -124,7 +130,7 @@ static void spread_refused(struct lent sheet, uint32_t spread, struct lent answe
     EXPECT(settle_spread(sheet, spread, answer) == wanted && kept(answer));
 }
 
-/* 16 is for a spread above 100,000, or above 0 by CCA; it comes after 5, and before 6. */
+/* 16 is for a spread above 100,000, or above 0 by another rule than FCA; it comes after 5, and before 6. */
 static void spread_bad(const uint8_t *good, size_t len, uint8_t n, uint8_t rule) {
     const size_t size = TOHIRANGA_ANSWER_SIZE(n);
     const uint32_t most = TOHIRANGA_MAX_SPREAD, fit[] = {1, 2, 99999, most}, unfit[] = {most + 1, 1u << 31, UINT32_MAX};
@@ -143,9 +149,9 @@ static void spread_bad(const uint8_t *good, size_t len, uint8_t n, uint8_t rule)
     }
     EXPECT(settle(sheet, plain) == size);
     for (size_t i = 0; i < sizeof fit / sizeof *fit; i++) {
-        spread_refused(cut, fit[i], tight, rule == TOHIRANGA_CCA ? REFUSED(16, 0) : REFUSED(6, 0));
-        spread_refused(sheet, fit[i], tight, rule == TOHIRANGA_CCA ? REFUSED(16, 0) : REFUSED(7, 0));
-        if (rule == TOHIRANGA_CCA)
+        spread_refused(cut, fit[i], tight, rule != TOHIRANGA_FCA ? REFUSED(16, 0) : REFUSED(6, 0));
+        spread_refused(sheet, fit[i], tight, rule != TOHIRANGA_FCA ? REFUSED(16, 0) : REFUSED(7, 0));
+        if (rule != TOHIRANGA_FCA)
             spread_refused(sheet, fit[i], room, REFUSED(16, 0));
         else /* all are accepted without a spread */
             EXPECT(settle_spread(sheet, fit[i], room) == size && memcmp(room.start, plain.start, size) == 0 && kept_from(room, size));
@@ -219,6 +225,83 @@ static void halves(void) {
     EXPECT(tohiranga_plan(c, 0, 1).plan.settings.window == 2);
 }
 
+/* ---- The trimming rules */
+
+/* A sheet of a trimming rule settles with this new value and these marks; all else of its answer follows from them. */
+static int trim(uint8_t rule, uint8_t n, uint8_t m, const uint8_t *marks, const int32_t *readings, int32_t value, const uint8_t *wanted) {
+    const struct tohiranga_settings settings = {n, m, rule, 0, 0};
+    uint8_t sheet[TOHIRANGA_SHEET_SIZE(64, TOHIRANGA_TRIMMED_MEAN)], answer[TOHIRANGA_MAX_ANSWER];
+    const uint64_t size = tohiranga_write(settings, marks, n, readings, n, sheet, sizeof sheet);
+    EXPECT(size == TOHIRANGA_SHEET_SIZE(n, rule) && size == 8 + 5 * (size_t)n);
+    memset(answer, OLD, sizeof answer);
+    const size_t len = TOHIRANGA_ANSWER_SIZE(n);
+    EXPECT(tohiranga_settle(sheet, (size_t)size, answer, sizeof answer) == len && (n == 64 || answer[len] == OLD));
+    EXPECT(tohiranga_answer_cabinets(answer, len) == n && tohiranga_answer_count(answer, len) == (uint64_t)(n - 2 * m));
+    EXPECT(tohiranga_answer_estimate(answer, len) == tohiranga_answer_value(answer, len));
+    int as_wanted = tohiranga_ticks(tohiranga_answer_value(answer, len)) == value;
+    for (uint32_t r = 0; r < n; r++) {
+        as_wanted &= tohiranga_answer_mark(answer, len, r) == wanted[r];
+        as_wanted &= tohiranga_ticks(tohiranga_answer_used(answer, len, r)) == (wanted[r] == 1 ? readings[r] : value);
+    }
+    return as_wanted;
+}
+
+/* All readings present, by rule 2 and by rule 3. */
+static int both_trim(uint8_t n, uint8_t m, const int32_t *readings, int32_t midpoint, int32_t mean, const uint8_t *wanted) {
+    uint8_t marks[64];
+    memset(marks, 1, sizeof marks);
+    return trim(TOHIRANGA_TRIMMED_MIDPOINT, n, m, marks, readings, midpoint, wanted) &&
+           trim(TOHIRANGA_TRIMMED_MEAN, n, m, marks, readings, mean, wanted);
+}
+
+/* Request 5: m lowest and m highest are dropped, equal ones in order of number, a missing one counting as 0. */
+static void trims(void) {
+    const int32_t four[4] = {0, 4, 10, 500}, seven[7] = {11, 900, 1, 3, -8, 4, 700}, equal[4] = {5, 5, 5, 5};
+    const uint8_t of_four[4] = {2, 1, 1, 2}, of_seven[7] = {1, 2, 2, 1, 2, 1, 2}, all[2] = {1, 1};
+    EXPECT(both_trim(4, 1, four, 7, 7, of_four) && both_trim(7, 2, seven, 7, 6, of_seven));
+    EXPECT(both_trim(4, 1, equal, 5, 5, of_four));
+    /* the sheet examples/trimmed.sheet, where a missing reading is left: 7/2 and 12/3 */
+    const int32_t gap[7] = {-8, 5, 0, 9, 900, -3, 7};
+    const uint8_t present[7] = {1, 1, 0, 1, 1, 1, 1}, of_gap[7] = {2, 1, 0, 2, 2, 2, 1};
+    EXPECT(trim(TOHIRANGA_TRIMMED_MIDPOINT, 7, 2, present, gap, 4, of_gap));
+    EXPECT(trim(TOHIRANGA_TRIMMED_MEAN, 7, 2, present, gap, 4, of_gap));
+    /* sums that 32 bits do not hold, and halves */
+    const int32_t lows[] = {INT32_MIN, INT32_MIN + 1, -3, -2, -1, 0, 1, INT32_MAX - 2, INT32_MAX - 1};
+    for (size_t i = 0; i < sizeof lows / sizeof *lows; i++) {
+        const int32_t low = lows[i], even = low % 2 == 0 ? low : low + 1, two[2] = {low, low + 1}, same[2] = {low, low};
+        EXPECT(both_trim(2, 0, two, even, even, all) && both_trim(2, 0, same, low, low, all) && both_trim(1, 0, two, low, low, all));
+    }
+    const int32_t ends[2] = {INT32_MIN, INT32_MAX};
+    EXPECT(both_trim(2, 0, ends, 0, 0, all));
+    /* what one liar says to two cabinets parts them by 2, as 2/2 plus one allows */
+    const int32_t low[4] = {0, 1, 2, -9}, high[4] = {0, 1, 2, 9};
+    const uint8_t of_low[4] = {1, 1, 2, 2}, of_high[4] = {2, 1, 1, 2};
+    EXPECT(both_trim(4, 1, low, 0, 0, of_low) && both_trim(4, 1, high, 2, 2, of_high));
+}
+
+/* The estimator byte is 0 and the spread is 0; there is no plan and no replay. */
+static void trims_refused(void) {
+    uint8_t sheet[TOHIRANGA_SHEET_SIZE(4, 2)], answer[TOHIRANGA_ANSWER_SIZE(4)], trace[TOHIRANGA_TRACE_SIZE(4, 0)] = {4, 1};
+    for (uint8_t rule = TOHIRANGA_TRIMMED_MIDPOINT; rule <= TOHIRANGA_TRIMMED_MEAN; rule++) {
+        const struct tohiranga_settings settings = {4, 1, rule, 0, 100};
+        const struct tohiranga_plan start = {settings, 0, 0};
+        const size_t len = make_sheet(sheet, 4, rule);
+        EXPECT(tohiranga_settle_spread(sheet, len, 0, answer, sizeof answer) == sizeof answer);
+        EXPECT(tohiranga_settle_spread(sheet, len, 1, answer, sizeof answer) == REFUSED(16, 0));
+        EXPECT(tohiranga_plan(settings, 0, 0).answer == REFUSED(4, 0) && tohiranga_step(start).answer == REFUSED(4, 0));
+        EXPECT(tohiranga_target(settings, 0, 100) == REFUSED(4, 0));
+        trace[2] = rule, trace[3] = 0;
+        EXPECT(tohiranga_replay(trace, sizeof trace, answer, sizeof answer) == REFUSED(13, 0));
+        trace[3] = sheet[3] = TOHIRANGA_MEDIAN;
+        EXPECT(tohiranga_replay(trace, sizeof trace, answer, sizeof answer) == REFUSED(4, 0));
+        EXPECT(tohiranga_settle(sheet, len, answer, sizeof answer) == REFUSED(4, 0));
+        EXPECT(tohiranga_settle_spread(sheet, len, 1, answer, sizeof answer) == REFUSED(4, 0));
+        EXPECT(tohiranga_read(sheet, len, NULL, 0, NULL, 0).answer == REFUSED(4, 0) && tohiranga_row(sheet, len, 0) == 0);
+        sheet[2] = 4, sheet[3] = 0;
+        EXPECT(tohiranga_settle(sheet, len, answer, sizeof answer) == REFUSED(4, 0));
+    }
+}
+
 /* ---- The reader and the writer */
 
 static struct tohiranga_opening read_into(struct lent sheet, struct lent marks, struct lent readings) {
@@ -248,7 +331,7 @@ static void read_and_write_bad(const uint8_t *good, size_t len, uint8_t n, uint8
     EXPECT(kept(marks) && kept(readings) && kept(few_marks) && kept(few_readings));
     struct tohiranga_opening o = read_into(sheet, marks, readings);
     EXPECT(o.answer == entries && o.settings.n == n && o.settings.rule == rule && o.settings.window == 100);
-    EXPECT(o.settings.m == (n - 1) / 3 && o.settings.estimator == TOHIRANGA_MEDIAN);
+    EXPECT(o.settings.m == (n - 1) / 3 && o.settings.estimator == good[3]);
     EXPECT(kept_from(marks, entries) && kept_from(readings, 4 * entries));
 
     struct lent room = lend(len), wide = lend(len + 9), tight = lend(len - 1);
@@ -288,12 +371,12 @@ static void answers_bad(const uint8_t *good, size_t len, uint8_t n) {
     size_t size = TOHIRANGA_ANSWER_SIZE(n);
     struct lent sheet = lend_copy(good, len), answer = lend(size);
     EXPECT(settle(sheet, answer) == size);
-    EXPECT(tohiranga_answer_cabinets(answer.start, size) == n && tohiranga_answer_count(answer.start, size) == n);
+    EXPECT(tohiranga_answer_cabinets(answer.start, size) == n && tohiranga_answer_count(answer.start, size) == left(good));
     EXPECT(tohiranga_answer_estimate(answer.start, size) == answer.start[2]);
     EXPECT(tohiranga_answer_value(answer.start, size) == answer.start[6]);
     for (uint32_t r = 0; r < n; r++) {
-        EXPECT(tohiranga_answer_mark(answer.start, size, r) == 1);
-        EXPECT(tohiranga_answer_used(answer.start, size, r) == r);
+        EXPECT(tohiranga_answer_mark(answer.start, size, r) == (is_left(good, r) ? 1 : 2));
+        EXPECT(tohiranga_answer_used(answer.start, size, r) == (is_left(good, r) ? r : answer.start[6]));
     }
     const uint32_t past[] = {n, (uint32_t)n + 1, 255, 1u << 30, UINT32_MAX};
     for (size_t i = 0; i < sizeof past / sizeof *past; i++) {
@@ -556,12 +639,14 @@ int main(void) {
     next_windows();
     spreads();
     halves();
+    trims();
+    trims_refused();
     replay_stops();
     static uint8_t sheet[LARGEST], trace[LONGEST];
     const uint8_t sizes[] = {1, 2, 4, 7, 16, 33, 64}, rounds[] = {0, 1, 2, 6, 32};
     for (against_the_end = 0; against_the_end < 2; against_the_end++)
         for (size_t i = 0; i < sizeof sizes; i++) {
-            for (uint8_t rule = 0; rule < 2; rule++) {
+            for (uint8_t rule = TOHIRANGA_FCA; rule <= TOHIRANGA_TRIMMED_MEAN; rule++) {
                 size_t len = make_sheet(sheet, sizes[i], rule);
                 settle_bad(sheet, len, sizes[i]);
                 spread_bad(sheet, len, sizes[i], rule);

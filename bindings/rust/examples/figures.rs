@@ -26,10 +26,19 @@ fn show_method(name: &str, rule: u8, estimator: u8) -> Result<(), Refusal> {
     Ok(())
 }
 
+/// The new value of the readings 0, 1, 2, 10 and 500, of which 1, 2 and 10 are left: another for each trimming rule.
+fn show_trimmed(name: &str, rule: u8) -> Result<(), Refusal> {
+    let (mut sheet, mut answer) = ([0; MAX_SHEET], [0; MAX_ANSWER]);
+    let size = write(settings(5, rule, 0), &[1; 5], &[0, 1, 2, 10, 500], &mut sheet)?;
+    let length = settle(&sheet[..size], &mut answer)?;
+    println!("new value of {name} {size} {}", Answer::new(&answer[..length])?.value());
+    Ok(())
+}
+
 fn main() -> Result<(), Refusal> {
     numbers! {
         MAX_CABINETS MAX_WINDOW MAX_SPREAD MAX_ACCURACY MAX_ROUNDS TICKS_PER_SECOND MAX_SHEET MAX_ANSWER
-        MAX_TRACE MAX_VALUES FCA CCA AVERAGE MEDIAN MIDPOINT
+        MAX_TRACE MAX_VALUES FCA CCA TRIMMED_MIDPOINT TRIMMED_MEAN AVERAGE MEDIAN MIDPOINT
     }
     refusals! {
         TOO_SHORT BAD_CABINETS BAD_FAULTS BAD_METHOD BAD_WINDOW BAD_LENGTH NO_ROOM BAD_MARK BAD_MISSING TOO_MANY_FAULTS
@@ -51,6 +60,8 @@ fn main() -> Result<(), Refusal> {
     show_method("CCA AVERAGE", CCA, AVERAGE)?;
     show_method("CCA MEDIAN", CCA, MEDIAN)?;
     show_method("CCA MIDPOINT", CCA, MIDPOINT)?;
+    show_trimmed("TRIMMED_MIDPOINT", TRIMMED_MIDPOINT)?;
+    show_trimmed("TRIMMED_MEAN", TRIMMED_MEAN)?;
     println!("version {VERSION}");
     println!("version of the library {}", version());
     Ok(())

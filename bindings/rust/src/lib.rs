@@ -7,6 +7,9 @@ use core::fmt;
 
 pub const FCA: u8 = 0;
 pub const CCA: u8 = 1;
+/// The trimming rules: the m lowest and the m highest readings are dropped. The estimator is 0.
+pub const TRIMMED_MIDPOINT: u8 = 2;
+pub const TRIMMED_MEAN: u8 = 3;
 
 pub const AVERAGE: u8 = 0;
 pub const MEDIAN: u8 = 1;
@@ -59,7 +62,7 @@ impl Settings {
 
     /// The plan that many rounds on from an accuracy at the start. A fresh plan is the one for 0 rounds. A round on, the
     /// window w becomes the whole part of 2mw/N plus one (of mw/N for CCA with median), and 0 where m or w is 0; the
-    /// accuracy grows by mw/N, rounded up.
+    /// accuracy grows by mw/N, rounded up. There is none for a trimming rule, which is refused under 4.
     pub fn plan(&self, accuracy: u32, rounds: u32) -> Result<Plan, Refusal> {
         // SAFETY: no pointer is handed over.
         let given = unsafe { tohiranga_plan(*self, accuracy, rounds) };
@@ -140,7 +143,7 @@ impl Refusal {
             Self::RUN_STOPPED => {
                 "too many faults for a sound cabinet; the place is 64 x round (from 1) + cabinet"
             }
-            Self::BAD_SPREAD => "the spread is above 100,000, or above 0 with CCA",
+            Self::BAD_SPREAD => "the spread is above 100,000, or above 0 with another rule than FCA",
             _ => "no refusal of this library",
         }
     }
@@ -187,23 +190,24 @@ impl<'a> Answer<'a> {
         self.field(tohiranga_answer_cabinets).unwrap_or_default()
     }
 
-    /// How many readings were accepted.
+    /// How many readings were accepted; by a trimming rule N-2m, the missing ones that are left among them.
     pub fn count(&self) -> u32 {
         self.field(tohiranga_answer_count).unwrap_or_default()
     }
 
-    /// The estimate, in ticks.
+    /// The estimate, in ticks; by a trimming rule the new value.
     pub fn estimate(&self) -> i32 {
         self.field(tohiranga_answer_estimate).unwrap_or_default() as i32
     }
 
-    /// The new value, in ticks: the mean of the used values, to the nearest, a half going to the even neighbour.
+    /// The new value, in ticks: the mean of the used values, or what a trimming rule takes of the readings left, to the
+    /// nearest, a half going to the even neighbour.
     pub fn value(&self) -> i32 {
         self.field(tohiranga_answer_value).unwrap_or_default() as i32
     }
 
-    /// A cabinet's mark: 0 missing or known faulty, 1 accepted, 2 present and not accepted. A cabinet of N or above is
-    /// refused under 7.
+    /// A cabinet's mark: 0 missing or known faulty, 1 accepted, 2 present and not accepted; by a trimming rule 1 is left,
+    /// 2 dropped. A cabinet of N or above is refused under 7.
     pub fn mark(&self, cabinet: u32) -> Result<u8, Refusal> {
         self.field_of(tohiranga_answer_mark, cabinet).map(|mark| mark as u8)
     }
@@ -283,7 +287,9 @@ extern "C" {
     fn tohiranga_version() -> u32;
 }
 
-/// Settles a round sheet: the answer sheet fills the start of the buffer, and its length is given back.
+/// Settles a round sheet: the answer sheet fills the start of the buffer, and its length is given back. By a trimming rule
+/// a missing reading counts as 0, and the new value is half the sum of the extremes left (`TRIMMED_MIDPOINT`) or the mean of
+/// those left (`TRIMMED_MEAN`).
 pub fn settle(sheet: &[u8], answer: &mut [u8]) -> Result<usize, Refusal> {
     // SAFETY: each pointer goes with its slice's length, and the borrows keep the slices apart.
     granted(unsafe {

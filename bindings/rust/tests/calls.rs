@@ -73,6 +73,73 @@ fn settles_halves_to_the_even_tick() {
     assert_eq!((settled(2, [0, 1, 2, 3], 0), settled(2, [0, 1, 2, -1], 0)), (Ok(2), Ok(0)));
 }
 
+/// The new value, the marks and the used values of a sheet by a trimming rule; missing readings are none.
+fn trimmed(rule: u8, m: u8, readings: &[Option<i32>]) -> (i32, Vec<u8>, Vec<i32>) {
+    let n = readings.len();
+    let settings = Settings { n: n as u8, m, rule, estimator: 0, window: 0 };
+    assert_eq!(settings.entries(), n);
+    let marks: Vec<u8> = readings.iter().map(|reading| reading.is_some() as u8).collect();
+    let readings: Vec<i32> = readings.iter().map(|reading| reading.unwrap_or(0)).collect();
+    let (mut sheet, mut bytes) = ([0; MAX_SHEET], [0xa5; MAX_ANSWER]);
+    let size = write(settings, &marks, &readings, &mut sheet).unwrap();
+    let length = settle(&sheet[..size], &mut bytes).unwrap();
+    assert!(bytes[length..].iter().all(|&byte| byte == 0xa5));
+    let answer = Answer::new(&bytes[..length]).unwrap();
+    assert_eq!((answer.cabinets() as usize, answer.count()), (n, n as u32 - 2 * m as u32));
+    assert_eq!(answer.estimate(), answer.value());
+    let marks = (0..n as u32).map(|r| answer.mark(r).unwrap()).collect();
+    let used = (0..n as u32).map(|r| answer.used(r).unwrap()).collect();
+    (answer.value(), marks, used)
+}
+
+/// Request 5: of seven 3, 4 and 11 are left; then the sheet examples/trimmed.sheet, where a missing reading is left.
+#[test]
+fn settles_by_the_trimming_rules() {
+    let seven = [11, 900, 1, 3, -8, 4, 700].map(Some);
+    let marks = vec![1, 2, 2, 1, 2, 1, 2];
+    let used = |new: i32| vec![11, new, new, 3, new, 4, new];
+    assert_eq!(trimmed(TRIMMED_MIDPOINT, 2, &seven), (7, marks.clone(), used(7)));
+    assert_eq!(trimmed(TRIMMED_MEAN, 2, &seven), (6, marks, used(6)));
+    let gap = [Some(-8), Some(5), None, Some(9), Some(900), Some(-3), Some(7)];
+    for rule in [TRIMMED_MIDPOINT, TRIMMED_MEAN] {
+        let (new, marks, used) = trimmed(rule, 2, &gap);
+        assert_eq!((new, marks, used), (4, vec![2, 1, 0, 2, 2, 2, 1], vec![4, 5, 4, 4, 4, 4, 7]));
+        assert_eq!(trimmed(rule, 1, &[5; 4].map(Some)).1, [2, 1, 1, 2], "equal ones by number");
+        assert_eq!(trimmed(rule, 0, &[i32::MIN, i32::MAX].map(Some)).0, 0);
+        assert_eq!(trimmed(rule, 0, &[i32::MAX; 64].map(Some)).0, i32::MAX);
+        for low in [i32::MIN, -3, -2, -1, 0, 1, 2, i32::MAX - 1] {
+            let even = if low % 2 == 0 { low } else { low + 1 };
+            assert_eq!(trimmed(rule, 0, &[Some(low + 1), Some(low)]).0, even);
+        }
+    }
+}
+
+#[test]
+fn refuses_a_trimming_rule() {
+    for rule in [TRIMMED_MIDPOINT, TRIMMED_MEAN] {
+        let settings = Settings { rule, estimator: 0, ..SETTINGS };
+        let (mut sheet, mut answer) = ([0; 28], [0xa5; 30]);
+        assert_eq!(write(settings, &[1; 4], &READINGS, &mut sheet), Ok(28));
+        assert_eq!(settle_spread(&sheet, 1, &mut answer), refused(Refusal::BAD_SPREAD, 0));
+        assert_eq!(settings.plan(0, 0), refused(Refusal::BAD_METHOD, 0));
+        assert_eq!(settings.rounds_for(0, 10), refused(4, 0));
+        assert_eq!(Plan { settings, accuracy: 0, rounds: 0 }.step(), refused(4, 0));
+        let mut run = trace();
+        (run[2], run[3]) = (rule, 0);
+        assert_eq!(replay(&run, &mut answer), refused(Refusal::BAD_TRACE, 0));
+        (run[3], sheet[3]) = (MEDIAN, MEDIAN);
+        assert_eq!(replay(&run, &mut answer), refused(4, 0));
+        assert_eq!(settle(&sheet, &mut answer), refused(4, 0));
+        assert_eq!(read(&sheet, &mut [0; 4], &mut [0; 4]), refused(4, 0));
+        let other = Settings { estimator: MEDIAN, ..settings };
+        assert_eq!(write(other, &[1; 4], &READINGS, &mut [0; 28]), refused(4, 0));
+        assert!(row(&sheet, 0).is_empty());
+        assert_eq!(answer, [0xa5; 30]);
+    }
+    let unknown = Settings { rule: 4, estimator: 0, ..SETTINGS };
+    assert_eq!(write(unknown, &[1; 4], &READINGS, &mut [0; 28]), refused(4, 0));
+}
+
 /// 16 comes after 5, and before 6 and 7.
 #[test]
 fn refuses_a_spread() {

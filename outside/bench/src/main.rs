@@ -7,7 +7,7 @@ mod replays;
 mod sheets;
 
 use engine::{Engine, Settings};
-use sheets::{Kind, KINDS, RULES, SIZES, SPREAD};
+use sheets::{Kind, KINDS, RULES, SIZES, SPREAD, TRIMMING};
 use std::hint::black_box;
 use std::process::ExitCode;
 use std::time::{Duration, Instant};
@@ -41,7 +41,8 @@ impl Cell {
     }
 
     fn start_of_line(&self, what: &str) -> String {
-        let (_, rule) = RULES.iter().find(|(rule, _)| *rule == self.rule).expect("a rule");
+        let mut rules = RULES.iter().chain(&TRIMMING);
+        let (_, rule) = rules.find(|(rule, _)| *rule == self.rule).expect("a rule");
         let mut line = format!("{rule:4} {what:14} {:>3}", self.n);
         self.ns.iter().for_each(|ns| line += &format!(" {ns:>11.1}"));
         self.ratios().for_each(|ratio| line += &format!(" {ratio:>7.2}"));
@@ -165,7 +166,8 @@ fn agree(engines: &Engines, call: Call, sheets: &[Vec<u8>], kind: Kind) -> bool 
     sheets.iter().all(|sheet| {
         let (answer, tray) = settled(&*engines[0], sheet);
         let number = if kind == Kind::WorstRefusal { 10 } else { 0 };
-        let all = kind != Kind::AllAccepted || tray[0] == tray[1];
+        let trimmed = sheet[2] > reference::CCA;
+        let all = trimmed || kind != Kind::AllAccepted || tray[0] == tray[1];
         let same = engines[1..].iter().all(|engine| {
             let (other, bytes) = settled(&**engine, sheet);
             other == answer && (engine.name() == "before" || bytes == tray)
@@ -250,6 +252,37 @@ fn show_spreads(engines: &Engines, slices: usize) -> bool {
             let ns = side_by_side(engines, Call::Spread, &sheets, slices);
             let cell = Cell { rule: reference::FCA, kind, n, ns };
             println!("{}", cell.start_of_line(name));
+            cells.push(cell);
+        }
+    }
+    show_means(engines, &cells);
+    true
+}
+
+/// Settling by the trimming rules; false where the engines do not agree.
+fn show_trimming(engines: &Engines, slices: usize) -> bool {
+    println!();
+    if let Some(without) = engines.iter().find(|engine| !engine.has_trimming()) {
+        println!("The trimming rules are not timed: {} refuses them.", without.name());
+        return true;
+    }
+    println!("Settling by the trimming rules, 2 and 3: sheets whose readings all lie within the");
+    println!("window, and sheets of which m are missing or far off:");
+    let mut cells = Vec::new();
+    for ((rule, name), kind) in TRIMMING
+        .into_iter()
+        .flat_map(|rule| [Kind::AllAccepted, Kind::SomeLiars].map(|k| (rule, k)))
+    {
+        for n in SIZES {
+            let sheets = sheets::sheets_to_trim(n, rule, kind);
+            let what = kind.name_to_trim();
+            if !agree(engines, Call::Settle, &sheets, kind) {
+                println!("FAILED: {name}, {what}, N {n}: the answers are not as they should be");
+                return false;
+            }
+            let ns = side_by_side(engines, Call::Settle, &sheets, slices);
+            let cell = Cell { rule, kind, n, ns };
+            println!("{}", cell.start_of_line(what));
             cells.push(cell);
         }
     }
@@ -357,6 +390,9 @@ fn main() -> ExitCode {
     }
     show_reading(&engines, options.slices);
     if !show_gaps(&engines, options.slices) {
+        return ExitCode::FAILURE;
+    }
+    if !show_trimming(&engines, options.slices) {
         return ExitCode::FAILURE;
     }
     if options.sheets {

@@ -2,10 +2,11 @@
 
 use engine::Settings;
 use random::Random;
-use reference::{marks_and_readings, sheet_bytes, CCA, FCA};
+use reference::{marks_and_readings, sheet_bytes, CCA, FCA, TRIMMED_MEAN, TRIMMED_MIDPOINT};
 
 pub const SIZES: [u8; 5] = [4, 7, 16, 32, 64];
 pub const RULES: [(u8, &str); 2] = [(FCA, "FCA"), (CCA, "CCA")];
+pub const TRIMMING: [(u8, &str); 2] = [(TRIMMED_MIDPOINT, "R2"), (TRIMMED_MEAN, "R3")];
 pub const KINDS: [Kind; 3] = [Kind::AllAccepted, Kind::SomeLiars, Kind::WorstRefusal];
 
 const WINDOW: i64 = 1000;
@@ -26,6 +27,14 @@ impl Kind {
             Kind::AllAccepted => "all accepted",
             Kind::SomeLiars => "some liars",
             Kind::WorstRefusal => "worst refusal",
+        }
+    }
+
+    /// The same of sheets that are settled by a trimming rule.
+    pub fn name_to_trim(self) -> &'static str {
+        match self {
+            Kind::AllAccepted => "all near",
+            _ => self.name(),
         }
     }
 
@@ -50,6 +59,15 @@ pub fn sheets_with_spread(n: u8, kind: Kind) -> Vec<Vec<u8>> {
     let mut sheets = sheets(n, FCA, kind);
     for sheet in &mut sheets {
         sheet[4..8].copy_from_slice(&(WINDOW as u32 - SPREAD).to_le_bytes());
+    }
+    sheets
+}
+
+/// Sheets of a trimming rule: all readings within the window, or m of them missing or far off.
+pub fn sheets_to_trim(n: u8, rule: u8, kind: Kind) -> Vec<Vec<u8>> {
+    let mut sheets = sheets(n, FCA, kind);
+    for sheet in &mut sheets {
+        sheet[2..4].copy_from_slice(&[rule, 0]);
     }
     sheets
 }

@@ -1,6 +1,7 @@
 //! Each call to both engines: answers and every lent byte are compared with each other, and
 //! each with what the documents say of bytes that must survive.
 
+use crate::trims::Trims;
 use crate::{draw, traces};
 use engine::traces::redraw_for_faulty;
 use engine::{number, replay_by_hand, words, Engine, Plan, Settings};
@@ -76,7 +77,7 @@ pub struct Comparison<'a> {
     pub b: &'a dyn Engine,
     /// How often each call was granted, or refused under each number.
     pub outcomes: [[u64; 17]; 9],
-    /// How often a sheet settled, for each rule, estimator and N.
+    /// How often a sheet settled by FCA or CCA, for each rule, estimator and N.
     pub settled: [[[u64; 65]; 3]; 2],
     pub all_accepted: u64,
     pub several_faults: u64,
@@ -84,6 +85,7 @@ pub struct Comparison<'a> {
     pub rows_empty: u64,
     pub replays: Replays,
     pub spreads: Spreads,
+    pub trims: Trims,
     /// How often each of `SUMS` was met.
     pub sums: [u64; SUMS.len()],
     /// How often each of `NEXT` was met, at each of `PLANNING`.
@@ -119,6 +121,7 @@ impl<'a> Comparison<'a> {
                 tick_less: 0,
                 tick_more: 0,
             },
+            trims: Trims::new(),
             sums: [0; SUMS.len()],
             next: [[0; NEXT.len()]; PLANNING.len()],
             differences: 0,
@@ -132,6 +135,7 @@ impl<'a> Comparison<'a> {
         let mut paper = draw::paper(random);
         let faults = draw::damage_paper(random, &mut paper);
         self.several_faults += (faults > 1) as u64;
+        self.trims.count_sheet(&paper.settings, faults);
         let sheet = draw::sheet(random, &paper);
         self.settle(random, &sheet);
         self.read(random, &sheet);
@@ -193,7 +197,10 @@ impl<'a> Comparison<'a> {
         let old = answer_tray(random, n);
         let settle = |who: &dyn Engine, sheet: &[u8], tray: &mut [u8]| who.settle(sheet, tray);
         let (answer, tray) = self.fill(0, sheet, &old, settle);
-        if number(answer) == 0 {
+        self.trims.count_bytes(0, sheet, answer);
+        if number(answer) == 0 && sheet[2] > CCA {
+            self.trims.count_round(sheet, &tray);
+        } else if number(answer) == 0 {
             self.settled[sheet[2] as usize][sheet[3] as usize][n] += 1;
             self.all_accepted += (tray[0] == tray[1]) as u64;
             self.count_sum(sheet, 0, &tray);
@@ -224,7 +231,7 @@ impl<'a> Comparison<'a> {
 
     /// Counts the settings from which a call plans a next window.
     fn count_next(&mut self, call: usize, answer: u64, settings: &Settings) {
-        if ![0, 12].contains(&number(answer)) || settings.check().is_err() {
+        if ![0, 12].contains(&number(answer)) || settings.check_plan().is_err() {
             return;
         }
         let Settings { n, m, rule, estimator, window } = *settings;
@@ -258,6 +265,7 @@ impl<'a> Comparison<'a> {
             who.settle_spread(sheet, spread, tray)
         };
         let (answer, tray) = self.fill(8, &sheet, &old, settle);
+        self.trims.count_bytes(8, &sheet, answer);
         for who in [self.a, self.b] {
             let (mut with, mut without) = (old.clone(), old.clone());
             let answers =
@@ -281,7 +289,7 @@ impl<'a> Comparison<'a> {
             self.spreads.tick_less += (known(spread) != known(spread - 1)) as u64;
             self.spreads.tick_more += (known(spread) != known(spread + 1)) as u64;
         }
-        if number(answer) == 0 {
+        if number(answer) == 0 && sheet[2] <= CCA {
             self.count_sum(sheet, spread, tray);
         }
         if let (0, Ok(settings), 1..) = (number(answer), reference::settings_of(sheet), spread) {
@@ -302,6 +310,7 @@ impl<'a> Comparison<'a> {
         let old = random.bytes(draw::length(random, 4 * cabinets(&bytes)));
         let replay = |who: &dyn Engine, trace: &[u8], tray: &mut [u8]| who.replay(trace, tray);
         let given = self.fill(7, &bytes, &old, replay);
+        self.trims.count_bytes(7, &bytes, given.0);
 
         let mut tray = old.clone();
         let by_hand = (replay_by_hand(self.a, &bytes, &mut tray), tray);
@@ -349,6 +358,7 @@ impl<'a> Comparison<'a> {
         };
         let (a, b) = (read(self.a), read(self.b));
         self.answers(1, a.0, b.0, || in_words(sheet));
+        self.trims.count_bytes(1, sheet, a.0);
         for (who, (answer, settings, marks, readings)) in [(self.a, &a), (self.b, &b)] {
             let granted = number(*answer) == 0;
             let filled = if granted { *answer as usize } else { 0 };
@@ -399,6 +409,7 @@ impl<'a> Comparison<'a> {
         let a = self.a.write(&settings, &marks, &readings, &mut sheet_a);
         let b = self.b.write(&settings, &marks, &readings, &mut sheet_b);
         self.answers(2, a, b, || format!("{settings:?}"));
+        self.trims.count(2, &settings, a);
         for (who, answer, sheet) in [(self.a, a, &sheet_a), (self.b, b, &sheet_b)] {
             let written = if number(answer) == 0 { (answer as usize).min(length) } else { 0 };
             self.survived("write", who, &old[written..], &sheet[written..]);
@@ -435,6 +446,9 @@ impl<'a> Comparison<'a> {
             let (a, b) = (self.a.row(sheet, cabinet), self.b.row(sheet, cabinet));
             let counter = if a.is_empty() { &mut self.rows_empty } else { &mut self.rows_shown };
             *counter += 1;
+            if !a.is_empty() {
+                self.trims.count_bytes(3, sheet, 0);
+            }
             let same_part = a.len() == b.len() && (a.is_empty() || a.as_ptr() == b.as_ptr());
             self.demand(same_part, "row", || {
                 format!("cabinet {cabinet}: {a:?} / {b:?}; {}", in_words(sheet))
@@ -451,6 +465,7 @@ impl<'a> Comparison<'a> {
         let b = self.b.plan(&settings, accuracy, rounds, &mut plan_b);
         let input = || format!("{settings:?}, accuracy {accuracy}, rounds {rounds}");
         self.answers(4, a, b, input);
+        self.trims.count(4, &settings, a);
         if rounds > 0 {
             self.count_next(4, a, &settings);
         }
@@ -464,6 +479,7 @@ impl<'a> Comparison<'a> {
         let a = self.a.step(&plan, &mut next_a);
         let b = self.b.step(&plan, &mut next_b);
         self.answers(5, a, b, || format!("{plan:?}"));
+        self.trims.count(5, &plan.settings, a);
         self.count_next(5, a, &plan.settings);
         self.plans("step", old, (a, next_a), (b, next_b), || format!("{plan:?}"));
     }
@@ -497,6 +513,7 @@ impl<'a> Comparison<'a> {
         let granted = number(a) == 0 && number(b) == 0;
         let input = || format!("{settings:?}, accuracy {accuracy}, target {target}");
         self.answers(6, a, if granted { a } else { b }, input);
+        self.trims.count(6, &settings, a);
         self.count_next(6, a, &settings);
         if granted {
             let fit = reference::counts_that_fit(&settings, target);

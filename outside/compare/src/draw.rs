@@ -1,7 +1,9 @@
 //! Inputs: settings, entries, sheets, and what is wrong with them.
 
 use random::Random;
-use reference::{marks_and_readings, sheet_bytes, Plan, Settings, CCA, FCA};
+use reference::{
+    marks_and_readings, sheet_bytes, Plan, Settings, CCA, FCA, TRIMMED_MEAN, TRIMMED_MIDPOINT,
+};
 
 /// What a sheet is written from.
 pub struct Paper {
@@ -35,6 +37,12 @@ pub fn settings(random: &Random) -> Settings {
         estimator: random.below(3) as u8,
         window,
     }
+}
+
+/// The same by a trimming rule, which has no estimator.
+fn to_trim(random: &Random, drawn: Settings) -> Settings {
+    let rule = random.pick(&[TRIMMED_MIDPOINT, TRIMMED_MEAN]);
+    Settings { rule, estimator: 0, ..drawn }
 }
 
 pub fn clamp(value: i64) -> i32 {
@@ -153,6 +161,24 @@ fn around(random: &Random, settings: &Settings) -> Vec<Option<i32>> {
     drawn
 }
 
+/// Readings to trim: often equal or a tick apart, many of them missing, or at both ends of 32 bits.
+fn readings_to_trim(random: &Random, settings: &Settings) -> Vec<Option<i32>> {
+    let (low, high) = (i32::MIN as i64, i32::MAX as i64);
+    let base = random.pick(&[0, 0, 0, low, high, any(random) as i64]);
+    let width = random.pick(&[1, 2, 5, 1000]);
+    let missing = random.pick(&[0, 0, 5, 20, 50, 95]);
+    let kind = random.below(8);
+    let value = || match kind {
+        0 | 1 => any(random) as i64,
+        2 => random.pick(&[low, low + 1, -1, 0, 1, high - 1, high]),
+        _ => base + random.between(-width, width),
+    };
+    match random.below(4) {
+        0 => readings(random, settings),
+        _ => (0..settings.n).map(|_| (!random.percent(missing)).then(|| clamp(value()))).collect(),
+    }
+}
+
 /// N copies of a value, of which about m are not it.
 fn copies(random: &Random, settings: &Settings, value: Option<i32>) -> Vec<Option<i32>> {
     let n = settings.n as usize;
@@ -185,15 +211,29 @@ fn copies(random: &Random, settings: &Settings, value: Option<i32>) -> Vec<Optio
     }
 }
 
+/// More than one in five is by a trimming rule.
 pub fn paper(random: &Random) -> Paper {
     let settings = settings(random);
+    if random.percent(22) {
+        return trimmed_paper(random, settings);
+    }
     let readings = readings(random, &settings);
     written(random, settings, readings)
 }
 
-/// A paper to settle with a spread, most often by FCA, whose readings are most of them around one span.
+fn trimmed_paper(random: &Random, drawn: Settings) -> Paper {
+    let settings = to_trim(random, drawn);
+    let readings = readings_to_trim(random, &settings);
+    written(random, settings, readings)
+}
+
+/// A paper to settle with a spread, most often by FCA, whose readings are most of them around one span. One in
+/// twelve is by a trimming rule.
 pub fn paper_with_spread(random: &Random, spread: u32) -> Paper {
     let mut settings = settings(random);
+    if random.percent(8) {
+        return trimmed_paper(random, settings);
+    }
     if spread > 0 && random.percent(80) {
         settings.rule = FCA;
     }
@@ -219,7 +259,8 @@ pub fn damage_settings(random: &Random, settings: &mut Settings) {
     match random.below(5) {
         0 => settings.n = random.pick(&[0, 65, 255, 64, 1, byte]),
         1 => settings.m = random.pick(&[settings.n.wrapping_sub(1) / 3 + 1, 85, 86, 255, byte]),
-        2 => settings.rule = random.pick(&[2, 255, byte, 1 - settings.rule.min(1)]),
+        2 => settings.rule = random.pick(&[2, 3, 4, 255, byte, 1 - settings.rule.min(1)]),
+        3 if settings.trims() => settings.estimator = random.pick(&[1, 2, 3, 255]),
         3 => settings.estimator = random.pick(&[3, 255, byte]),
         _ => settings.window = random.pick(&[1_000_001, 1 << 31, u32::MAX, random.draw() as u32]),
     }
@@ -290,7 +331,7 @@ pub fn spoiled(random: &Random, mut bytes: Vec<u8>) -> Vec<u8> {
         match random.below(4) {
             0 => bytes.push(random.draw() as u8),
             1 => bytes.truncate(bytes.len() - 1),
-            2 => bytes.truncate(random.below(10)),
+            2 => bytes.truncate(random.pick(&[7, 8, 8, 9, random.below(10)])),
             _ => bytes.truncate(random.below(bytes.len())),
         }
     }
@@ -348,6 +389,9 @@ pub fn to_plan(random: &Random, drawn: Settings) -> Settings {
 /// Settings of which a quarter have something wrong.
 pub fn plan_settings(random: &Random) -> Settings {
     let mut settings = to_plan(random, settings(random));
+    if random.percent(3) {
+        settings = to_trim(random, settings);
+    }
     if random.percent(25) {
         for _ in 0..random.between(1, 3) {
             damage_settings(random, &mut settings);

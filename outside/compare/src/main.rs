@@ -5,6 +5,7 @@ mod calls;
 mod draw;
 mod program;
 mod traces;
+mod trims;
 
 use calls::{Comparison, CALLS, ENDS, NEXT, PLANNING, SHEETS_FOR_A_TRACE, SUMS};
 use engine::sabotage::{Sabotaged, SABOTAGES};
@@ -90,7 +91,7 @@ fn engines(options: &Options) -> Option<(Box<dyn Engine>, Box<dyn Engine>)> {
 fn main() -> ExitCode {
     if std::env::args().nth(1).as_deref() == Some("--sabotages") {
         for (name, what) in SABOTAGES {
-            println!("{name:16} {what}");
+            println!("{name:18} {what}");
         }
         return ExitCode::SUCCESS;
     }
@@ -167,15 +168,17 @@ fn report(comparison: &Comparison, sheets: u64) -> usize {
         println!();
     }
     println!("row     {:>8} shown, {} empty", comparison.rows_shown, comparison.rows_empty);
-    let granted = comparison.outcomes[0][0];
     println!("{} sheets had several faults at once.", comparison.several_faults);
+    let by_kind = comparison.settled.iter().flatten().flat_map(|by_n| &by_n[1..]);
     println!(
-        "Of {granted} settled sheets, {} had every reading accepted.",
+        "Of {} sheets settled by FCA and CCA, {} had every reading accepted.",
+        by_kind.clone().sum::<u64>(),
         comparison.all_accepted
     );
-    let by_kind = comparison.settled.iter().flatten().flat_map(|by_n| &by_n[1..]);
     let least = by_kind.clone().min().unwrap();
-    println!("Each N from 1 to 64 settled with each rule and estimator at least {least} times.");
+    println!(
+        "Each N from 1 to 64 settled by FCA and CCA with each estimator at least {least} times."
+    );
     let replayed = report_replays(comparison, sheets);
     let spreads = report_spreads(comparison, sheets);
     println!("Distances of used values from the lowest accepted reading:");
@@ -183,11 +186,12 @@ fn report(comparison: &Comparison, sheets: u64) -> usize {
         println!("{times:>8} times {what}");
     }
     let next = report_next(comparison);
+    let trims = report_trims(comparison);
     if sheets < 100_000 {
         println!("Each of these is asked of 100,000 sheets and more.");
     } else {
         let demanded = by_kind.chain(replayed).chain(spreads).chain(&comparison.sums).chain(next);
-        unmet += demanded.filter(|&&count| count == 0).count();
+        unmet += demanded.chain(trims).filter(|&&count| count == 0).count();
     }
     unmet
 }
@@ -201,6 +205,33 @@ fn report_next<'a>(comparison: &'a Comparison) -> impl Iterator<Item = &'a u64> 
         println!("{} times {what}", times.join(""));
     }
     comparison.next.as_flattened().iter()
+}
+
+/// Prints what was met of the trimming rules; answers the counts that must not be 0.
+fn report_trims<'a>(comparison: &'a Comparison) -> impl Iterator<Item = &'a u64> + 'a {
+    let trims = &comparison.trims;
+    println!(
+        "{} sheets by a trimming rule, {} with several faults at once:",
+        trims.sheets, trims.several_faults
+    );
+    let mut demanded = Vec::new();
+    for (call, name) in CALLS.iter().enumerate() {
+        let (granted, refused) = trims::REFUSALS[call];
+        let numbers = granted.then_some(0).into_iter().chain(refused.iter().copied());
+        let times = |number: usize| &trims.outcomes[call][number];
+        let listed = numbers.clone().map(|number| match number {
+            0 => format!("granted {} times", times(0)),
+            _ => format!("no. {number} {}", times(number)),
+        });
+        println!("{name:8}{}", listed.collect::<Vec<_>>().join(", "));
+        demanded.extend(numbers.map(times));
+    }
+    let settled = trims.settled.iter().flat_map(|by_n| &by_n[1..]);
+    println!("each N from 1 to 64 settled at least {} times;", settled.clone().min().unwrap());
+    for (what, times) in trims::ROUNDS.iter().zip(&trims.rounds) {
+        println!("{times:>8} times {what}");
+    }
+    demanded.into_iter().chain(settled).chain(&trims.rounds)
 }
 
 /// Prints what was replayed; answers the counts that must not be 0.

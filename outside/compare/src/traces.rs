@@ -3,7 +3,7 @@
 use crate::draw;
 use engine::traces;
 use random::Random;
-use reference::{Settings, Trace, CCA, FAULTY, FCA, SOUND};
+use reference::{Settings, Trace, CCA, FAULTY, FCA, SOUND, TRIMMED_MEAN, TRIMMED_MIDPOINT};
 
 /// A trace that passes every check but 15. The liars know what the sound cabinets hold.
 pub fn trace(random: &Random) -> Trace {
@@ -104,7 +104,7 @@ pub fn damage(random: &Random, trace: &mut Trace) -> u64 {
     for _ in 0..faults {
         match random.below(20) {
             0..=1 => draw::damage_settings(random, &mut trace.settings),
-            2 => trace.settings.rule = CCA,
+            2 => trace.settings.rule = random.pick(&[CCA, CCA, TRIMMED_MIDPOINT, TRIMMED_MEAN]),
             3..=5 => too_many_rounds(random, trace),
             6..=13 => draw::damage_entries(random, &mut trace.marks, &mut trace.readings),
             14..=15 => {

@@ -27,6 +27,18 @@ fn sums_are_met() {
     assert!(times.len() == 12 && times.iter().all(|&times| times > 15), "{text}");
 }
 
+/// What is rare of the trimming rules is met too: of 20,000 sheets often enough that none of it is left to chance in 200,000.
+#[test]
+fn trims_are_met() {
+    let (_, text) = compare(&["--engines", "reference,reference", "--sheets", "20000"]);
+    let listed = text.split_once(" sheets by a trimming rule").expect("they are listed").1;
+    let times: Vec<u64> = listed
+        .lines()
+        .filter_map(|line| line.split_once(" times ")?.0.trim().parse().ok())
+        .collect();
+    assert!(times.len() == 18 && times.iter().all(|&times| times > 5), "{text}");
+}
+
 #[test]
 fn plain_and_tuned_are_the_reference() {
     for name in ["plain", "tuned"] {

@@ -50,6 +50,7 @@ mod wrong_plan;
 mod wrong_replay;
 mod wrong_spread;
 mod wrong_sum;
+mod wrong_trim;
 
 pub use by_hand::replay_by_hand;
 use plain::{Plain, Steps, Tuned};
@@ -94,6 +95,13 @@ pub trait Engine {
     /// Whether the engine has settling with a spread, as the library of an earlier commit may not.
     fn has_spread(&self) -> bool {
         true
+    }
+
+    /// Whether the engine has the trimming rules, as the library of an earlier commit may not: it settles a sheet of one
+    /// cabinet by rule 2.
+    fn has_trimming(&self) -> bool {
+        let sheet = [1, 0, reference::TRIMMED_MIDPOINT, 0, 0, 0, 0, 0, 1, 5, 0, 0, 0];
+        number(self.settle(&sheet, &mut [0; 15])) == 0
     }
 
     /// A digest of all answers so far, where the engine keeps one.

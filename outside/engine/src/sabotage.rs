@@ -4,11 +4,12 @@ use crate::wrong_plan::{wrong_part, wrong_plan, wrong_step, wrong_target};
 use crate::wrong_replay::wrong_replay;
 use crate::wrong_spread::wrong_spread;
 use crate::wrong_sum::wrong_mean;
+use crate::wrong_trim::{taken_for, wrong_trim};
 use crate::{number, packed, Engine, Plan, Refusal, Settings};
-use reference::{Round, AVERAGE, MEDIAN, MIDPOINT};
+use reference::{Round, AVERAGE, FCA, MEDIAN, MIDPOINT};
 use std::hash::{DefaultHasher, Hasher};
 
-/// Names, and what is wrong. The first `OF_THE_ROUND` are about the round itself.
+/// Names, and what is wrong. The first `OF_THE_ROUND` are about the round itself, by FCA and CCA.
 pub const SABOTAGES: &[(&str, &str)] = &[
     ("need-low", "N-m-1 readings in a span are enough"),
     ("need-high", "N-m+1 readings in a span are needed"),
@@ -119,6 +120,41 @@ pub const SABOTAGES: &[(&str, &str)] = &[
     ("replay-past", "a replay touches a byte past the values"),
     ("replay-faulty", "a replay leaves faulty places as they were"),
     ("replay-first", "a replay has the first readings of faulty cabinets in their places"),
+    ("trim-count", "a trimming rule's count is of the readings left that are present"),
+    ("trim-divisor", "rule 3 divides by the number of readings left that are present"),
+    ("trim-ties", "of equal readings the highest number comes first"),
+    ("trim-missing", "missing readings are left out of the order"),
+    ("trim-lowest", "missing readings count as the lowest"),
+    ("trim-fewer", "m-1 readings are dropped at each end"),
+    ("trim-wraps", "rule 2's sum wraps at 32 bits"),
+    ("trim-truncate", "a trimming rule rounds towards zero"),
+    ("trim-half-up", "a trimming rule's half goes up"),
+    ("trim-half-down", "a trimming rule's half goes down"),
+    ("trim-half-away", "a trimming rule's half goes away from zero"),
+    ("trim-half-negative", "a trimming rule's half goes up from an odd number above zero alone"),
+    ("trim-tick", "a trimming rule's new value is a tick high on about half of the sheets"),
+    ("trim-zero", "a trimming rule's estimate field is 0"),
+    (
+        "trim-midpoint",
+        "a trimming rule's estimate field is the midpoint of those left, rounded down",
+    ),
+    ("trim-shown", "a missing reading that is left is shown as 0"),
+    ("trim-marked", "a missing reading that is left has mark 1"),
+    ("trim-own", "a dropped reading is shown, not the new value"),
+    ("trim-swapped", "rules 2 and 3 are swapped"),
+    ("trim-four", "rule 4 is taken for rule 3"),
+    ("trim-estimator", "a trimming rule's estimator byte is not checked"),
+    ("trim-window", "a trimming rule's window is not checked"),
+    ("trim-10", "a trimming rule refuses under 10 where no span holds N-m readings"),
+    ("read-trimmed", "the reader refuses a trimming rule under 4"),
+    ("write-trimmed", "the writer refuses a trimming rule under 4"),
+    ("row-trimmed", "no row of a trimming rule is shown"),
+    ("plan-trimmed", "the planner takes a trimming rule for FCA"),
+    ("step-trimmed", "a step takes a trimming rule for FCA"),
+    ("target-trimmed", "a target takes a trimming rule for FCA"),
+    ("spread-trimmed", "a spread is let through with a trimming rule, and plays no part"),
+    ("replay-trimmed", "a replay takes a trimming rule for FCA"),
+    ("replay-13", "a replay refuses a trimming rule under 13 whatever its estimator byte"),
 ];
 
 const OF_THE_ROUND: usize = 40;
@@ -164,7 +200,7 @@ impl Sabotaged {
             ("place", 9) => return packed(Refusal::at(9, ghosts(sheet).last().unwrap())),
             ("refused-tray", 1..) if !tray.is_empty() => tray[0] ^= 1,
             ("past", 0) if tray.len() > given as usize => tray[given as usize] ^= 1,
-            (_, 0 | 10) => match wrong_round(self.how, sheet, spread) {
+            (how, 0 | 10) => match wrong_round(how, sheet, spread).or(wrong_trim(how, sheet)) {
                 None => {}
                 Some(Err(refusal)) => return packed(refusal),
                 Some(Ok(round)) => {
@@ -185,6 +221,9 @@ impl Engine for Sabotaged {
     }
 
     fn settle(&self, sheet: &[u8], answer: &mut [u8]) -> u64 {
+        if let Some(other) = taken_for(self.how, sheet) {
+            return self.engine.settle(&other, answer);
+        }
         self.wrong_settle(sheet, 0, answer, |tray| self.engine.settle(sheet, tray))
     }
 
@@ -203,6 +242,9 @@ impl Engine for Sabotaged {
         marks: &mut [u8],
         readings: &mut [i32],
     ) -> u64 {
+        if self.how == "read-trimmed" && trims(sheet) {
+            return packed(Refusal::new(4));
+        }
         let given = self.engine.read(sheet, settings, marks, readings);
         if self.how == "read-past" && number(given) == 0 && readings.len() > given as usize {
             readings[given as usize] ^= 1;
@@ -211,6 +253,9 @@ impl Engine for Sabotaged {
     }
 
     fn write(&self, settings: &Settings, marks: &[u8], readings: &[i32], sheet: &mut [u8]) -> u64 {
+        if self.how == "write-trimmed" && settings.trims() && settings.check().is_ok() {
+            return packed(Refusal::new(4));
+        }
         let given = self.engine.write(settings, marks, readings, sheet);
         if self.how == "write-past" && number(given) == 0 && sheet.len() > given as usize {
             sheet[given as usize] ^= 1;
@@ -222,10 +267,20 @@ impl Engine for Sabotaged {
         if self.how == "from-one" {
             return self.engine.row(sheet, cabinet.wrapping_sub(1));
         }
+        if self.how == "row-trimmed" && trims(sheet) {
+            return &[];
+        }
         self.engine.row(sheet, cabinet)
     }
 
     fn plan(&self, settings: &Settings, accuracy: u32, rounds: u32, plan: &mut Plan) -> u64 {
+        if self.how == "plan-trimmed" && settings.trims() {
+            let given = self.engine.plan(&by_fca(settings), accuracy, rounds, plan);
+            if number(given) == 0 {
+                plan.settings.rule = settings.rule;
+            }
+            return given;
+        }
         let given = self.engine.plan(settings, accuracy, rounds, plan);
         if self.how == "repeat" && number(given) == 0 && rounds > 1 {
             plan.settings.window = reference::next_window(settings);
@@ -239,6 +294,14 @@ impl Engine for Sabotaged {
     fn step(&self, plan: &Plan, next: &mut Plan) -> u64 {
         if self.how == "step-late" && plan.rounds == 32 {
             return self.engine.step(&Plan { rounds: 31, ..*plan }, next);
+        }
+        if self.how == "step-trimmed" && plan.settings.trims() {
+            let taken = Plan { settings: by_fca(&plan.settings), ..*plan };
+            let given = self.engine.step(&taken, next);
+            if number(given) == 0 {
+                next.settings.rule = plan.settings.rule;
+            }
+            return given;
         }
         let given = self.engine.step(plan, next);
         if self.how == "step-wide" && number(given) == 0 {
@@ -256,6 +319,9 @@ impl Engine for Sabotaged {
                 return fit[0].saturating_sub(1) as u64;
             }
         }
+        if self.how == "target-trimmed" && settings.trims() {
+            return self.engine.target(&by_fca(settings), accuracy, target);
+        }
         let given = self.engine.target(settings, accuracy, target);
         match (wrong_part(self.how, "target"), number(given)) {
             (Some(part), 0 | 12) => wrong_target(part, settings, target),
@@ -269,6 +335,15 @@ impl Engine for Sabotaged {
             None => self.engine.replay(trace, values),
         }
     }
+}
+
+/// Whether a sheet that passes checks 1 to 6 is of a trimming rule.
+fn trims(sheet: &[u8]) -> bool {
+    reference::settings_of(sheet).is_ok_and(|settings| settings.trims())
+}
+
+fn by_fca(settings: &Settings) -> Settings {
+    Settings { rule: FCA, ..*settings }
 }
 
 fn entries(sheet: &[u8]) -> usize {
@@ -285,13 +360,13 @@ fn ghosts(sheet: &[u8]) -> impl Iterator<Item = usize> + '_ {
 }
 
 /// The round of a sheet that passed checks 1 to 9, wrong in the named way; None when the way
-/// is not about the round.
+/// is not about the round, or the rule is a trimming rule.
 fn wrong_round(how: &str, sheet: &[u8], spread: u32) -> Option<Result<Vec<u8>, Refusal>> {
     let of_the_round = SABOTAGES[..OF_THE_ROUND].iter().any(|(name, _)| *name == how);
     if !of_the_round || (how.starts_with("spread-") && spread == 0) {
         return None;
     }
-    let settings = reference::settings_of(sheet).ok()?;
+    let settings = reference::settings_of(sheet).ok().filter(|settings| !settings.trims())?;
     let entries = reference::entries_of(sheet, &settings).ok()?;
     let n = settings.n as usize;
     let copies = if how == "row-low" { settings.need() - 1 } else { settings.need() };

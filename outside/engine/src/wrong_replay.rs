@@ -2,7 +2,9 @@
 
 use crate::wrong_plan::{wrong_part, wrong_window};
 use crate::{number, packed, Engine, Refusal, Settings};
-use reference::{bytes_of, settle_readings, Trace, CCA, FCA, SOUND};
+use reference::{
+    bytes_of, settle_readings, Trace, CCA, FCA, SOUND, TRIMMED_MEAN, TRIMMED_MIDPOINT,
+};
 
 /// The longest values, 4N bytes.
 const LONGEST: usize = 4 * 64;
@@ -170,6 +172,9 @@ fn taken_for(how: &str, bytes: &[u8], refused: usize) -> Option<Vec<u8>> {
     match (how, refused) {
         ("replay-33", 13) => without_the_last_round(bytes),
         ("replay-cca", 13) if bytes[2] == CCA => Some([&bytes[..2], &[FCA], &bytes[3..]].concat()),
+        ("replay-trimmed", 13) if bytes[2] > CCA => {
+            Some([&bytes[..2], &[FCA], &bytes[3..]].concat())
+        }
         ("replay-roles", 14) => {
             let mut trace = Trace::open(bytes).ok()?;
             let bad = trace.roles.iter_mut().filter(|role| **role == 2);
@@ -198,6 +203,9 @@ fn other_refusal(engine: &dyn Engine, how: &str, bytes: &[u8], refused: usize) -
     let with_room = |bytes: &[u8]| engine.replay(bytes, &mut [0; LONGEST]);
     match (how, refused) {
         ("replay-stub", 13) if bytes.len() == 8 => Some(packed(Refusal::new(1))),
+        ("replay-13", 4) if [TRIMMED_MIDPOINT, TRIMMED_MEAN].contains(&bytes[2]) => {
+            Some(packed(Refusal::new(13)))
+        }
         ("replay-tray", 7) => {
             Some(with_room(bytes)).filter(|later| [8, 9].contains(&number(*later)))
         }

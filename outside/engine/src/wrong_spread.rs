@@ -46,7 +46,12 @@ impl Call<'_> {
             "spread-late" => settings_of(sheet).err().map(packed),
             "spread-last" => Some(engine.settle(sheet, &mut answer.to_vec()))
                 .filter(|later| (6..=9).contains(&number(*later))),
-            "spread-crusaders" if self.spread <= MOST => Some(engine.settle(sheet, answer)),
+            "spread-crusaders" if self.spread <= MOST && sheet[2] == CCA => {
+                Some(engine.settle(sheet, answer))
+            }
+            "spread-trimmed" if self.spread <= MOST && sheet[2] > CCA => {
+                Some(engine.settle(sheet, answer))
+            }
             "spread-over" if self.spread == MOST + 1 => {
                 Some(engine.settle_spread(sheet, MOST, answer))
             }

@@ -3,9 +3,10 @@
 use crate::liars::clamp;
 use crate::limits::{gap, is_half, Apart, Most};
 use crate::run::{new_value, sharp, Tally};
+use crate::trimming;
 use engine::{named, Settings};
 use random::Random;
-use reference::{next_window, FCA, MEDIAN};
+use reference::{next_window, numbers_in, sheet_bytes, FCA, MEDIAN};
 
 /// The new value of a cabinet to which the good ones say this above a base, and all others the same lie.
 fn new(settings: &Settings, base: i64, good: &[i64], lie: i64) -> i64 {
@@ -75,5 +76,43 @@ fn the_next_window_is_reached_past_the_ceiling() {
             }
         }
         assert!(passed > 0, "N {n}");
+    }
+}
+
+/// The greatest gap by a trimming rule of two cabinets to which t liars say less and more than all sound ones, over what
+/// those read that all keep.
+fn greatest_trimmed(settings: &Settings, t: usize) -> i64 {
+    let tuned = named("tuned").expect("it is always there");
+    let new = |sound: &[i64], lie: i64| {
+        let mut readings: Vec<i32> = sound.iter().map(|&v| clamp(v)).collect();
+        readings.resize(settings.n as usize, clamp(lie));
+        let sheet = sheet_bytes(settings, &vec![1; readings.len()], &readings);
+        let mut tray = [0; 330];
+        assert_eq!(tuned.settle(&sheet, &mut tray), settings.answer_length() as u64);
+        numbers_in(&tray[6..10])[0] as i64
+    };
+    let width = settings.window as i64;
+    let gaps = (0..=width).map(|middle| {
+        let sound = trimming::sharp(settings, t, middle);
+        gap(&[new(&sound, -1), new(&sound, width + 1)])
+    });
+    gaps.max().unwrap_or(0)
+}
+
+/// One liar, and m of them, with small windows. Every N and m reaches both limits with some of them.
+#[test]
+fn limits_of_the_trimming_rules_are_reached() {
+    for (n, m) in (4..=64).flat_map(|n| (1..=(n - 1) / 3).map(move |m| (n, m))) {
+        for (rule, t) in trimming::RULES.into_iter().flat_map(|rule| [(rule, 1), (rule, m)]) {
+            let mut reached = 0;
+            for window in [1, 2, 3, 6, (n - 2 * m) as u32 + 1] {
+                let settings = Settings { n, m, rule, estimator: 0, window };
+                let met = greatest_trimmed(&settings, t as usize);
+                let limit = trimming::most_apart(&settings, window as i64, t as usize);
+                assert!(met <= limit, "{settings:?}, t {t}");
+                reached += (met == limit) as u32;
+            }
+            assert!(reached > 0, "N {n}, m {m}, t {t}, rule {rule}");
+        }
     }
 }

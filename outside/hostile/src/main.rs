@@ -1,7 +1,7 @@
 //! A hostile station: runs of up to 32 rounds with lying and two-faced cabinets, against the
 //! limits for sound cabinets of document 01, as paper 4 of document 02 rewrites them. Its FCA runs are replayed too,
-//! as paper 1 says, and after each run comes a round with cables that differ, as paper 2 says. Each settled sheet is
-//! held to the limits of paper 3's sum.
+//! as paper 1 says, and after each run come a round with cables that differ, as paper 2 says, and one by the trimming
+//! rules of paper 5. Each sheet that FCA or CCA settles is held to the limits of paper 3's sum.
 #![forbid(unsafe_code)]
 
 mod cables;
@@ -14,6 +14,7 @@ mod run;
 mod small_rounds;
 mod sums;
 mod tape;
+mod trimming;
 
 use cables::{exact_example, example, Cables, EXAMPLES};
 use engine::sabotage::Sabotaged;
@@ -23,6 +24,7 @@ use random::Random;
 use run::{Question, Run, Tally, LIMITS, QUESTIONS};
 use std::process::ExitCode;
 use std::time::Instant;
+use trimming::{example_limit, Less, Trimming};
 
 const USAGE: &str = "hostile [--engine NAME] [--runs COUNT] [--seed SEED] [--sabotage NAME]
 hostile [--engine NAME] [--sabotage NAME] --run SEED
@@ -74,6 +76,7 @@ fn run(seed: u64, engine: &dyn Engine, tally: &mut Tally, show: bool) {
     let random = Random::new(seed);
     Run::draw(&random).run(&random, engine, tally, show);
     Cables::draw(&random).round(&random, engine, Most::with_cables, tally, show);
+    Trimming::draw(&random).round(&random, engine, Less::default(), tally, show);
 }
 
 fn main() -> ExitCode {
@@ -159,12 +162,17 @@ fn report(tally: &Tally) {
         tally.alike.iter().sum::<u64>(),
         tally.not_alike.iter().sum::<u64>()
     );
+    println!(
+        "{} sheets settled by the trimming rules, {} refused",
+        tally.settled_by_trimming, tally.refused_by_trimming
+    );
     limits(tally);
     for (question, answers) in QUESTIONS.iter().zip(&tally.answers) {
         answer(question, answers);
     }
     with_cables(tally);
     with_distances(tally);
+    by_trimming(tally);
 }
 
 /// How close each limit was met.
@@ -191,6 +199,25 @@ fn limits(tally: &Tally) {
     println!("A sum's limit is N+m-1 spans, the exact one, and 2N spans, document 02's, which none reaches.");
     println!("odd N    the ceiling of the quotient, where document 02 has its whole part plus one");
     println!("half     the exact limits where (m+t)δ/N is a half");
+    println!("range    how far from the other end of the sound readings a new value is");
+}
+
+/// The greatest gaps that were met by the trimming rules, beside the limits.
+fn by_trimming(tally: &Tally) {
+    println!("Trimming rules, t faulty, sound readings within the width, one round, in ticks");
+    println!(
+        "{:>3} {:>3} {:>3} {:>9} {:>11} {:>9} {:>11} {:>9}",
+        "N", "m", "t", "width", "rule 2 met", "limit", "rule 3 met", "limit"
+    );
+    for (row, met) in trimming::EXAMPLES.into_iter().zip(&tally.trims) {
+        let (n, m, t, width) = row;
+        print!("{n:>3} {m:>3} {t:>3} {width:>9}");
+        for (rule, met) in trimming::RULES.into_iter().zip(met) {
+            let met = met.map_or("-".into(), |met| met.to_string());
+            print!(" {met:>11} {:>9}", example_limit(row, rule));
+        }
+        println!();
+    }
 }
 
 /// The greatest sums of distances that were met with cables, beside the limits.

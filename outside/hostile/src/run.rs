@@ -5,12 +5,13 @@ use crate::liars::{clamp, outermost, Aim, Liars, Reading};
 use crate::limits::{gap, good_sets, is_half, Apart, GoodSets, Met, Most};
 use crate::sums;
 use crate::tape::{End, Heard, Tape};
+use crate::trimming;
 use engine::{number, words, Engine, Plan, Settings};
 use random::Random;
 use reference::{AVERAGE, CCA, FCA, MEDIAN};
 
 /// The limits, by name. Each is counted apart.
-pub const LIMITS: [&str; 36] = [
+pub const LIMITS: [&str; 42] = [
     "t ≤ m    gap   round 1  FCA",
     "t ≤ m    gap   round 1  CCA, median",
     "t ≤ m    gap   round 1  CCA, others",
@@ -47,6 +48,12 @@ pub const LIMITS: [&str; 36] = [
     "m < t    gap   half     CCA",
     "m < t    error half     FCA",
     "m < t    error half     CCA",
+    "t ≤ m    gap   trimmed  rule 2",
+    "t ≤ m    gap   trimmed  rule 3",
+    "t ≤ m    range low end  rule 2",
+    "t ≤ m    range low end  rule 3",
+    "t ≤ m    range high end rule 2",
+    "t ≤ m    range high end rule 3",
 ];
 
 /// Where the limits by the ceiling begin, which an odd N keeps: for t ≤ m one for each kind of run, for m < t
@@ -147,6 +154,11 @@ pub struct Tally {
     /// which they are not.
     pub alike: [u64; 2],
     pub not_alike: [u64; 2],
+    /// Sheets settled, and refused, by the trimming rules.
+    pub settled_by_trimming: u64,
+    pub refused_by_trimming: u64,
+    /// The greatest gap that was met for each of `trimming::EXAMPLES`, by either rule.
+    pub trims: [[Option<i64>; 2]; trimming::EXAMPLES.len()],
     /// What was broken first.
     pub first: Option<String>,
 }
@@ -201,6 +213,11 @@ impl Tally {
             (self.past_n_spans, 0, "a sum past N spans"),
             (self.alike[0], self.not_alike[0], "t ≤ m    all are alike, m 0"),
             (self.alike[1], self.not_alike[1], "t ≤ m    all are alike, window 0"),
+            (
+                self.settled_by_trimming,
+                self.refused_by_trimming,
+                "t ≤ m    no cabinet refuses, trimmed",
+            ),
         ];
         counted.extend(PASSED.map(|(ceiling, name)| (self.past_ceiling[ceiling], 0, name)));
         counted
@@ -223,6 +240,12 @@ impl Tally {
             }
             if self.sums[i] != settings.greatest_sum(settings.window + spread) {
                 faults.push(format!("cables {row:?}: the greatest sum not met"));
+            }
+        }
+        for (row, met) in trimming::EXAMPLES.into_iter().zip(&self.trims) {
+            let limits = trimming::RULES.map(|rule| Some(trimming::example_limit(row, rule)));
+            if *met != limits {
+                faults.push(format!("trimming {row:?}: the limits not reached"));
             }
         }
     }

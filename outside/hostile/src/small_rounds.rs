@@ -1,9 +1,10 @@
 //! Every round of some cabinets with small windows, in which the bad ones tell each cabinet anything: without
-//! cables that differ, and with them.
+//! cables that differ, with them, and by the trimming rules.
 
 use crate::limits::{gap, near, Apart, Most};
+use crate::trimming::{most_apart, RULES};
 use engine::Settings;
-use reference::{settle_readings, AVERAGE, CCA, FCA, MEDIAN, MIDPOINT};
+use reference::{settle_readings, trim, AVERAGE, CCA, FCA, MEDIAN, MIDPOINT, TRIMMED_MIDPOINT};
 
 const ESTIMATORS: [u8; 3] = [AVERAGE, MEDIAN, MIDPOINT];
 
@@ -197,4 +198,57 @@ fn limits_with_cables_are_met() {
         }
     }
     assert_eq!((past_lemma_16, past_ceiling), (15, 12), "of 48");
+}
+
+/// All new values by a trimming rule of cabinets that hear this of the sound ones. A missing reading is the lie 0, and
+/// lies further out than a tick are dropped as one a tick out is.
+fn trimmed(settings: &Settings, sound: &[i64], t: usize) -> Vec<i64> {
+    let (low, high) = ends(sound);
+    let new = |lies: Vec<i64>| {
+        let heard: Vec<_> = sound.iter().chain(&lies).map(|&v| Some(v as i32)).collect();
+        trim(settings, &heard).new
+    };
+    taken(t, low - 1, high + 1).into_iter().map(new).collect()
+}
+
+/// The greatest gap that the trimming rules leave: half of δ, or tδ/(N-2m), and past it as means go.
+fn greatest_trimmed(settings: &Settings, t: usize) -> i64 {
+    let (width, left) = (settings.window as i64, settings.n as i64 - 2 * settings.m as i64);
+    match settings.rule {
+        _ if t == 0 => 0,
+        TRIMMED_MIDPOINT => Apart { sums: width, n: 2 }.exact(),
+        _ => Apart { sums: t as i64 * width, n: left }.exact(),
+    }
+}
+
+/// Every round by the trimming rules, below zero too: new values stay within the range of the sound readings and reach
+/// both of its ends, and their gap is what means allow. It reaches the limit where the quotient is not whole, and where
+/// it is odd and the mean is of an even number.
+#[test]
+fn trimming_rules_keep_and_reach_their_limits() {
+    let mut reached = [0; 2];
+    for (n, m, widest) in [(4, 1, 8), (5, 1, 6), (6, 1, 4), (7, 2, 3)] {
+        let all = (0..=widest).flat_map(|w| RULES.map(|rule| (w, rule)));
+        for (t, (window, rule)) in (0..=m).flat_map(|t| all.clone().map(move |a| (t, a))) {
+            let settings = Settings { n, m, rule, estimator: 0, window };
+            let (mut most, mut at_ends) = (0, [false; 2]);
+            for base in [-5, 0, 1] {
+                let high = base + window as i64;
+                let within = taken((n - t) as usize, base, high);
+                for sound in within.iter().filter(|sound| ends(sound) == (base, high)) {
+                    let values = trimmed(&settings, sound, t as usize);
+                    let (lowest, highest) = ends(&values);
+                    assert!(base <= lowest && highest <= high, "{settings:?}, {sound:?}");
+                    at_ends = [at_ends[0] || lowest == base, at_ends[1] || highest == high];
+                    most = most.max(gap(&values));
+                }
+            }
+            let limit = most_apart(&settings, window as i64, t as usize);
+            assert!(most <= limit, "{settings:?}, t {t}");
+            assert_eq!(most, greatest_trimmed(&settings, t as usize), "{settings:?}, t {t}");
+            assert!(m == 0 || at_ends == [true; 2], "{settings:?}, t {t}");
+            reached[(rule - RULES[0]) as usize] += (most == limit) as u32;
+        }
+    }
+    assert_eq!(reached, [20, 18], "of 29 each with t above 0");
 }

@@ -4,7 +4,7 @@
 use std::process::Command;
 
 /// All that the station holds, in the words of its report.
-const HELD: [&str; 53] = [
+const HELD: [&str; 60] = [
     "t ≤ m    gap   round 1  FCA",
     "t ≤ m    gap   round 1  CCA, median",
     "t ≤ m    gap   round 1  CCA, others",
@@ -58,6 +58,13 @@ const HELD: [&str; 53] = [
     "m < t    a gap past the ceiling, FCA",
     "m < t    a gap past the ceiling, CCA",
     "t ≤ m    a gap past the ceiling, cables",
+    "t ≤ m    gap   trimmed  rule 2",
+    "t ≤ m    gap   trimmed  rule 3",
+    "t ≤ m    range low end  rule 2",
+    "t ≤ m    range low end  rule 3",
+    "t ≤ m    range high end rule 2",
+    "t ≤ m    range high end rule 3",
+    "t ≤ m    no cabinet refuses, trimmed",
 ];
 
 fn hostile(words: &[&str]) -> (Option<i32>, String) {
@@ -92,6 +99,7 @@ fn a_station_without_runs_fails() {
     assert_eq!(text.matches("the exact limits not met").count(), 12, "{text}");
     assert_eq!(text.matches("): the limits not met").count(), 6, "{text}");
     assert_eq!(text.matches("): the greatest sum not met").count(), 6, "{text}");
+    assert_eq!(text.matches("): the limits not reached").count(), 6, "{text}");
 }
 
 #[test]
@@ -114,6 +122,43 @@ fn each_limit_finds_a_tick() {
         for limit in limits {
             assert!(found.iter().any(|name| name == limit), "{limit} finds no tick: {found:?}");
         }
+    }
+}
+
+/// A tick more leaves the range at its high end and goes too far apart; readings that are not dropped leave it at both
+/// ends; and an engine that says "too many faults" by a trimming rule is found.
+#[test]
+fn trimming_rules_are_held() {
+    let trimmed = &HELD[53..];
+    for (sabotage, limits) in [
+        ("trim-tick", [&trimmed[..2], &trimmed[4..6]].concat()),
+        ("trim-fewer", trimmed[..6].to_vec()),
+        ("trim-wraps", vec![trimmed[0], trimmed[2], trimmed[4]]),
+        ("trim-10", vec![trimmed[6]]),
+    ] {
+        let found = broken(sabotage);
+        for limit in limits {
+            assert!(found.iter().any(|name| name == limit), "{sabotage}, {limit}: {found:?}");
+        }
+    }
+}
+
+/// Both limits of the gap are reached in every row of the table.
+#[test]
+fn gaps_by_the_trimming_rules_reach_the_limits() {
+    let (status, text) = hostile(&["--engine", "reference", "--runs", "3000"]);
+    assert_eq!(status, Some(0), "{text}");
+    let table = text.split_once("Trimming rules").expect("a table of the trimming rules").1;
+    let rows: Vec<Vec<i64>> = table
+        .lines()
+        .map(|line| line.split_whitespace().map_while(|word| word.parse().ok()).collect())
+        .filter(|row: &Vec<i64>| row.len() == 8)
+        .collect();
+    assert_eq!(rows.len(), 6, "{table}");
+    for row in rows {
+        let (n, m, t, width) = (row[0], row[1], row[2], row[3]);
+        let (rule_2, rule_3) = (width / 2 + 1, t * width / (n - 2 * m) + 1);
+        assert_eq!(row[4..], [rule_2, rule_2, rule_3, rule_3]);
     }
 }
 

@@ -4,6 +4,7 @@
 
 mod plain;
 mod replay;
+mod trimming;
 mod tuned;
 
 pub use plain::Plain;
@@ -24,14 +25,27 @@ const ANSWER_HEADER: usize = 10;
 pub struct Sizes {
     n: usize,
     m: usize,
-    /// Whether a reading is decided from a row of N copies.
-    crusaders: bool,
+    rule: Rule,
     estimator: u8,
     /// The width of a span: the window, and the spread where one is given.
     span: u32,
 }
 
+/// How a sheet is settled.
+#[derive(Clone, Copy, PartialEq)]
+enum Rule {
+    Direct,
+    /// A reading is decided from a row of N copies.
+    Crusaders,
+    TrimmedMidpoint,
+    TrimmedMean,
+}
+
 impl Sizes {
+    fn crusaders(&self) -> bool {
+        self.rule == Rule::Crusaders
+    }
+
     /// The readings that a span must hold, and the copies that a row must hold.
     fn need(&self) -> usize {
         self.n - self.m
@@ -86,6 +100,9 @@ pub trait Steps {
     /// Fills marks and used values of the answer sheet, or nothing where no reading is accepted.
     fn round(sheet: &Opened, marks: &mut [u8], used: &mut [u8]) -> Option<Settled>;
 
+    /// Fills marks and used values of the answer sheet by a trimming rule. Answers the new value.
+    fn trim(sheet: &Opened, marks: &mut [u8], used: &mut [u8]) -> i32;
+
     /// The round of a cabinet that hears this from each sender.
     fn settle_heard(sizes: &Sizes, heard: impl Fn(usize) -> Option<i32>) -> Option<Settled>;
 }
@@ -129,14 +146,23 @@ pub fn settle_spread<S: Steps>(sheet: &[u8], spread: u32, answer: &mut [u8]) -> 
     }
     let (header, body) = answer[..length].split_at_mut(ANSWER_HEADER);
     let (marks, used) = body.split_at_mut(n);
+    if let Rule::TrimmedMidpoint | Rule::TrimmedMean = sheet.sizes.rule {
+        let new = S::trim(&sheet, marks, used);
+        write_header(header, n, n - 2 * sheet.sizes.m, new, new);
+        return length as u64;
+    }
     let Some(settled) = S::round(&sheet, marks, used) else {
         return refusal(10, 0);
     };
-    header[0] = n as u8;
-    header[1] = settled.count as u8;
-    header[2..6].copy_from_slice(&(settled.estimate as i32).to_le_bytes());
-    header[6..10].copy_from_slice(&settled.new_value(n).to_le_bytes());
+    write_header(header, n, settled.count, settled.estimate as i32, settled.new_value(n));
     length as u64
+}
+
+fn write_header(header: &mut [u8], n: usize, count: usize, estimate: i32, new: i32) {
+    header[0] = n as u8;
+    header[1] = count as u8;
+    header[2..6].copy_from_slice(&estimate.to_le_bytes());
+    header[6..10].copy_from_slice(&new.to_le_bytes());
 }
 
 /// Checks 1 to 5.
@@ -155,23 +181,27 @@ fn sizes(bytes: &[u8]) -> Result<Sizes, u64> {
     if n < 3 * m + 1 {
         return Err(refusal(3, 0));
     }
-    if rule > 1 || estimator > 2 {
-        return Err(refusal(4, 0));
-    }
+    let rule = match (rule, estimator) {
+        (0, 0..=2) => Rule::Direct,
+        (1, 0..=2) => Rule::Crusaders,
+        (2, 0) => Rule::TrimmedMidpoint,
+        (3, 0) => Rule::TrimmedMean,
+        _ => return Err(refusal(4, 0)),
+    };
     if window > 1_000_000 {
         return Err(refusal(5, 0));
     }
-    Ok(Sizes { n, m, crusaders: rule == 1, estimator, span: window })
+    Ok(Sizes { n, m, rule, estimator, span: window })
 }
 
 /// Checks 1 to 5, 16 and 6.
 fn open(sheet: &[u8], spread: u32) -> Result<Opened<'_>, u64> {
     let mut sizes = sizes(sheet)?;
-    if spread > MOST_SPREAD || (spread > 0 && sizes.crusaders) {
+    if spread > MOST_SPREAD || (spread > 0 && sizes.rule != Rule::Direct) {
         return Err(refusal(16, 0));
     }
     sizes.span += spread;
-    let entries = if sizes.crusaders { sizes.n * sizes.n } else { sizes.n };
+    let entries = if sizes.crusaders() { sizes.n * sizes.n } else { sizes.n };
     if sheet.len() != HEADER + 5 * entries {
         return Err(refusal(6, 0));
     }

@@ -3,6 +3,7 @@
 //! further tuning: no start is skipped and no start found short is remembered.
 #![allow(clippy::needless_range_loop)]
 
+use crate::trimming::trim;
 use crate::{reading, refusal, Opened, Settled, Sizes, Steps, MOST};
 
 pub struct Plain;
@@ -36,7 +37,7 @@ impl Steps for Plain {
         let mut present = [false; MOST];
         let mut values = [0i64; MOST];
         for r in 0..n {
-            if sizes.crusaders {
+            if sizes.crusaders() {
                 let row = r * n..(r + 1) * n;
                 let row_readings = &sheet.readings[4 * row.start..4 * row.end];
                 if let Some(value) = decide(&sheet.marks[row], row_readings, sizes.need()) {
@@ -62,6 +63,10 @@ impl Steps for Plain {
         }
         let sum = write_used(&accepted, &values, n, estimate, used);
         Some(Settled { count, estimate, sum })
+    }
+
+    fn trim(sheet: &Opened, marks: &mut [u8], used: &mut [u8]) -> i32 {
+        trim(sheet, marks, used)
     }
 
     fn settle_heard(sizes: &Sizes, heard: impl Fn(usize) -> Option<i32>) -> Option<Settled> {

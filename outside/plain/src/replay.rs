@@ -2,7 +2,7 @@
 //! local arrays of 64.
 #![allow(clippy::needless_range_loop)]
 
-use crate::{reading, refusal, sizes, Sizes, Steps, HEADER, MOST};
+use crate::{reading, refusal, sizes, Rule, Sizes, Steps, HEADER, MOST};
 
 const MOST_ROUNDS: usize = 32;
 
@@ -51,7 +51,10 @@ fn open(trace: &[u8]) -> Result<Trace<'_>, u64> {
     let Some(&rounds) = trace.get(HEADER) else { return Err(refusal(13, 0)) };
     let rounds = rounds as usize;
     let entries = rounds * n * n;
-    if sizes.crusaders || rounds > MOST_ROUNDS || trace.len() != HEADER + 1 + 5 * n + 5 * entries {
+    if sizes.rule != Rule::Direct
+        || rounds > MOST_ROUNDS
+        || trace.len() != HEADER + 1 + 5 * n + 5 * entries
+    {
         return Err(refusal(13, 0));
     }
     let (roles, rest) = trace[HEADER + 1..].split_at(n);

@@ -2,6 +2,7 @@
 //! remembered, a row's value is looked for among its first m + 1 copies, and a count over
 //! readings or copies takes no branch.
 
+use crate::trimming::{moved, unmoved, Sums};
 use crate::{refusal, Opened, Settled, Sizes, Steps, MOST};
 
 pub struct Tuned;
@@ -50,6 +51,34 @@ impl Steps for Tuned {
         Some(settled)
     }
 
+    /// No index is checked but that of the table.
+    fn trim(sheet: &Opened, marks: &mut [u8], used: &mut [u8]) -> i32 {
+        let Sizes { n, m, .. } = sheet.sizes;
+        let mut values = [0; MOST];
+        for (value, word) in values.iter_mut().zip(words(sheet.readings)) {
+            *value = moved(word);
+        }
+        let values = &values[..n];
+        let mut seen = [0u8; MOST];
+        let mut sums = Sums { kept: 0, extremes: 0 };
+        for ((mark, &present), &value) in marks.iter_mut().zip(sheet.marks).zip(values) {
+            let less: u32 = values.iter().map(|&other| (other < value) as u32).sum();
+            let seen = &mut seen[less as usize % MOST];
+            let rank = less as usize + *seen as usize;
+            *seen += 1;
+            let kept = (m <= rank) & (rank < n - m);
+            *mark = present * (2 - kept as u8);
+            sums.kept += kept as u64 * value as u64;
+            sums.extremes += ((rank == m) as u64 + (rank == n - m - 1) as u64) * value as u64;
+        }
+        let new = sums.new_value(&sheet.sizes);
+        for ((used, &mark), &value) in used.chunks_exact_mut(4).zip(&*marks).zip(values) {
+            let value = if mark == 1 { unmoved(value) } else { new };
+            used.copy_from_slice(&value.to_le_bytes());
+        }
+        new
+    }
+
     fn settle_heard(sizes: &Sizes, heard: impl Fn(usize) -> Option<i32>) -> Option<Settled> {
         let mut values = [0; MOST];
         let mut count = 0;
@@ -89,7 +118,7 @@ fn words(bytes: &[u8]) -> impl Iterator<Item = i32> + '_ {
 fn receive(sheet: &Opened, cabinets: &mut [u8; MOST], values: &mut [i32; MOST]) -> usize {
     let n = sheet.sizes.n;
     let mut count = 0;
-    if sheet.sizes.crusaders {
+    if sheet.sizes.crusaders() {
         let rows = sheet.marks.chunks_exact(n).zip(sheet.readings.chunks_exact(4 * n));
         for (cabinet, (marks, copies)) in rows.enumerate() {
             if let Some(value) = decide(marks, copies, sheet.sizes.m) {

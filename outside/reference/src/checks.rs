@@ -2,6 +2,9 @@
 
 pub const FCA: u8 = 0;
 pub const CCA: u8 = 1;
+/// The trimming rules of paper 5: half the sum of the extremes left, and the mean of those left.
+pub const TRIMMED_MIDPOINT: u8 = 2;
+pub const TRIMMED_MEAN: u8 = 3;
 
 pub const AVERAGE: u8 = 0;
 pub const MEDIAN: u8 = 1;
@@ -36,8 +39,31 @@ pub struct Settings {
 }
 
 impl Settings {
-    /// Checks 2 to 5, in this order.
+    /// Checks 2 to 5 of a sheet or a trace, in this order.
     pub fn check(&self) -> Result<(), Refusal> {
+        self.check_where(self.known())
+    }
+
+    /// The same of a plan, which there is for FCA and CCA alone.
+    pub fn check_plan(&self) -> Result<(), Refusal> {
+        self.check_where(self.known() && !self.trims())
+    }
+
+    /// Whether rule and estimator are known: a trimming rule has no estimator, and its byte is 0.
+    fn known(&self) -> bool {
+        match self.rule {
+            FCA | CCA => self.estimator <= MIDPOINT,
+            TRIMMED_MIDPOINT | TRIMMED_MEAN => self.estimator == 0,
+            _ => false,
+        }
+    }
+
+    /// Whether the rule is a trimming rule.
+    pub fn trims(&self) -> bool {
+        self.rule == TRIMMED_MIDPOINT || self.rule == TRIMMED_MEAN
+    }
+
+    fn check_where(&self, known: bool) -> Result<(), Refusal> {
         let n = self.n as u32;
         let m = self.m as u32;
         if n == 0 || n > 64 {
@@ -46,7 +72,7 @@ impl Settings {
         if n < 3 * m + 1 {
             return Err(Refusal::new(3));
         }
-        if self.rule > 1 || self.estimator > 2 {
+        if !known {
             return Err(Refusal::new(4));
         }
         if self.window > 1_000_000 {
@@ -55,9 +81,9 @@ impl Settings {
         Ok(())
     }
 
-    /// Check 16: a spread D above 100,000, or above 0 with CCA.
+    /// Check 16: a spread D above 100,000, or above 0 with another rule than FCA.
     pub fn check_spread(&self, spread: u32) -> Result<(), Refusal> {
-        if spread > 100_000 || (spread > 0 && self.rule == CCA) {
+        if spread > 100_000 || (spread > 0 && self.rule != FCA) {
             return Err(Refusal::new(16));
         }
         Ok(())

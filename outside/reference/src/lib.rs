@@ -1,4 +1,4 @@
-//! Document 01, and papers 1 to 4 of document 02, in plain safe Rust, as simply as it can be said. Nothing
+//! Document 01, and papers 1 to 5 of document 02, in plain safe Rust, as simply as it can be said. Nothing
 //! here is fast. It was written from the documents alone, without sight of the proved code.
 #![forbid(unsafe_code)]
 
@@ -9,9 +9,12 @@ mod replay;
 mod round;
 mod sheet;
 mod text;
+mod trimming;
 mod vectors;
 
-pub use checks::{Refusal, Settings, AVERAGE, CCA, FCA, MEDIAN, MIDPOINT};
+pub use checks::{
+    Refusal, Settings, AVERAGE, CCA, FCA, MEDIAN, MIDPOINT, TRIMMED_MEAN, TRIMMED_MIDPOINT,
+};
 pub use distances::Distances;
 pub use planner::{
     counts_that_fit, next_accuracy, next_window, plan, step, sums_apart, target, Plan,
@@ -23,4 +26,5 @@ pub use sheet::{
     sheet_bytes, write,
 };
 pub use text::{replay_text, settle_text, INPUT_LIMIT, TRACE_LIMIT};
+pub use trimming::{in_order, trim, trimmed_value};
 pub use vectors::{answers, replay_answers, settle_answers, Replaying, Settling};

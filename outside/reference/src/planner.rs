@@ -49,7 +49,7 @@ fn after(settings: &Settings, accuracy: u32, rounds: u32) -> Plan {
 
 /// The plan after so many rounds, under checks 2 to 5 and 11.
 pub fn plan(settings: &Settings, accuracy: u32, rounds: u32) -> Result<Plan, Refusal> {
-    settings.check()?;
+    settings.check_plan()?;
     if accuracy > 1_000_000_000 || rounds > 32 {
         return Err(Refusal::new(11));
     }
@@ -58,7 +58,7 @@ pub fn plan(settings: &Settings, accuracy: u32, rounds: u32) -> Result<Plan, Ref
 
 /// The plan one round forward, under checks 2 to 5 and 11.
 pub fn step(plan: &Plan) -> Result<Plan, Refusal> {
-    plan.settings.check()?;
+    plan.settings.check_plan()?;
     if plan.rounds >= 32 || plan.accuracy > 1_100_000_000 {
         return Err(Refusal::new(11));
     }
@@ -72,7 +72,7 @@ pub fn counts_that_fit(settings: &Settings, target: u32) -> Vec<u32> {
 
 /// All counts that fit, under checks 2 to 5, 11 and 12. A granted answer is never empty.
 pub fn target(settings: &Settings, accuracy: u32, target: u32) -> Result<Vec<u32>, Refusal> {
-    settings.check()?;
+    settings.check_plan()?;
     if accuracy > 1_000_000_000 {
         return Err(Refusal::new(11));
     }

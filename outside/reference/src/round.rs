@@ -2,6 +2,7 @@
 
 use crate::checks::{Refusal, Settings, AVERAGE, CCA, MEDIAN};
 use crate::sheet::{entries_of, settings_with_spread};
+use crate::trimming::trim;
 use std::cmp::Ordering;
 
 /// The value that at least `need` present copies equal, if there is one.
@@ -89,7 +90,8 @@ fn reading_bytes(value: i64) -> [u8; 4] {
     i32::try_from(value).expect("between two readings").to_le_bytes()
 }
 
-/// The round over N readings, decided ones for CCA, with a spread D: the span is δ + D. Check 10 is here.
+/// The round of FCA and CCA over N readings, decided ones for CCA, with a spread D: the span is δ + D. Check 10
+/// is here.
 pub fn settle_readings(
     settings: &Settings,
     spread: u32,
@@ -138,7 +140,11 @@ pub fn settle_spread(sheet: &[u8], spread: u32, answer: &mut [u8]) -> Result<usi
     } else {
         entries
     };
-    let round = settle_readings(&settings, spread, &readings)?;
+    let round = if settings.trims() {
+        trim(&settings, &readings)
+    } else {
+        settle_readings(&settings, spread, &readings)?
+    };
     answer[..length].copy_from_slice(&round.bytes());
     Ok(length)
 }

@@ -3,3 +3,4 @@ pub mod Settled
 pub mod Hull
 pub mod Medians
 pub mod Limits
+pub mod Trimmed

@@ -48,14 +48,14 @@ module _ (c : Settings) (D κ : ℕ) (truth : ℤ) (good : ℕ → Bool) (p : Ca
   abbrev fine : ℕ → Bool
   fine r = isPresent (reading p r) && (near-truth r && near-good r)
 
-  abbrev Tested : Type 0
+  abbrev pub Tested : Type 0
   Tested =
       (all-bytes (p .sheet) ≡ true)
       × (firstOf (settleChecks (p .sheet) D (length (p .buffer))) ≡ none)
       × (settingsAt (p .sheet) ≡ c)
       × (anyBelow (λ r. good r && not (fine r)) (c .n) ≡ false)
 
-  reads-tested : Tested → Reads c D κ truth good p
+  pub reads-tested : Tested → Reads c D κ truth good p
   reads-tested (bytes, passes, same, none-amiss) =
       record {
         bytes = bytes-tested (p .sheet) bytes;

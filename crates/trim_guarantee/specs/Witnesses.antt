@@ -89,6 +89,7 @@ abbrev pub top : ℕ → Cabinet
 top rule = cabinet (trimmed rule 7) (pos 0 ∷ pos 7 ∷ pos 7 ∷ pos 50 ∷ [])
 
 pub record RangeReached : Type 0 where
+  pub counts : bad (trimmed trimmedMidpoint 7) (below 3) ≡ 1
   pub readsBottom : Reads (trimmed trimmedMidpoint 7) 7 (below 3) (bottom trimmedMidpoint)
   pub readsTop : Reads (trimmed trimmedMean 7) 7 (below 3) (top trimmedMean)
   pub lowest : newValue 0 (bottom trimmedMidpoint) ≡ pos 0

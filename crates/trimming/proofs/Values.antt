@@ -5,7 +5,7 @@ use mathlib.Core.List.{List}
 use mathlib.Core.Path.{_≡_, refl, sym, ap, ap₂, _∙_}
 use Prim.Native.Nat.{ℕ, suc, _+_, _*_, _-_, _≤_, _<_}
 use native.Mathlib.Omega.{arith}
-use borrow.Author.Tests.{lt-ltb, le-ltb, le-leb, leb-true, leb-false, ltb-true, eq-eqb, eqb-true, ne-eqb}
+use borrow.Author.Tests.{lt-ltb, le-ltb, le-leb, leb-true, leb-false, ltb-true, eq-eqb, eqb-true}
 use lib.Dec.{leb, ltb, eqb}
 use lib.ListN.{length, getD}
 use Rattle.arithmetic.specs.Naturals.{down, up, total}
@@ -16,10 +16,9 @@ use Rattle.arithmetic.proofs.Shift.{pos-down, down-cong, up-down}
 use Rattle.arithmetic.proofs.Sums.{total-ext}
 use Rattle.arithmetic.proofs.Writing.{length-table, getD-table, table-ext, overwrite-whole}
 use Rattle.model.specs.Ensemble.{ticks, maxCabinets}
-use Rattle.model.specs.RoundSheet.{trimmedMidpoint}
 use Rattle.model.specs.Steps.{isKept}
 use Rattle.round_laws.proofs.Shifted.{even-31}
-use Rattle.round_laws.specs.Naturals.{shift, rank-nat, kept-nat, ranked-nat, kept-total, mean-nat, trimmed-nat}
+use Rattle.round_laws.specs.Naturals.{shift, rank-nat, kept-nat, ranked-nat, kept-total, trimmed-nat}
 use Rattle.value_laws.proofs.Estimates.{Between}
 use Rattle.value_laws.proofs.Trimmed.{kept-down, trimmed-down, kept-total-within, ranked-within}
 use Rattle.held.specs.Held.{presentIn, valueAt, keptMark, readingsIn, unfit}
@@ -92,19 +91,6 @@ module _ (numbers ranks : List ℕ) (m : ℕ) (few : 2 * m < length numbers) (ra
   sum-small =
       kept-total-within n m few x 0 (twoTo32 - 1) (λ r _ _. record { low = omega arith; high = omega (arith, small r) })
       .high
-
--- by the one rule, and by the other
-pub by-midpoint :
-    (rule n m : ℕ) (x : ℕ → ℕ) → rule ≡ trimmedMidpoint
-    → mean-nat 2 (ranked-nat n x m + ranked-nat n x (n - m - 1)) ≡ trimmed-nat rule n m x
-unfolding trimmed-nat
-by-midpoint rule n m x e = rw (eq-eqb rule trimmedMidpoint e)
-
-pub by-mean :
-    (rule n m : ℕ) (x : ℕ → ℕ) → (rule ≡ trimmedMidpoint → ⊥)
-    → mean-nat (n - 2 * m) (kept-total n m x) ≡ trimmed-nat rule n m x
-unfolding trimmed-nat
-by-mean rule n m x e = rw (ne-eqb rule trimmedMidpoint e)
 
 -- ---- readings that two lists hold
 

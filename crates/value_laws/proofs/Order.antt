@@ -84,7 +84,7 @@ module _ (x : ℕ → ℕ) where
   pub lower-precedes : (s r : ℕ) → x s < x r → precedes-nat x s r ≡ true
   lower-precedes s r l = or-inl (eqb (x s) (x r) && ltb s r) (lt-ltb (x s) (x r) l)
 
-  equal-precedes : (s r : ℕ) → x s ≡ x r → s < r → precedes-nat x s r ≡ true
+  pub equal-precedes : (s r : ℕ) → x s ≡ x r → s < r → precedes-nat x s r ≡ true
   equal-precedes s r e l = or-inr (ltb (x s) (x r)) (and-intro (eq-eqb (x s) (x r) e) (lt-ltb s r l))
 
   pub precedes-at-most : (s r : ℕ) → precedes-nat x s r ≡ true → x s ≤ x r

@@ -53,7 +53,7 @@ module _ (k n : ℕ) (v : Readings) (x : ℕ → ℕ) (moved : (r : ℕ) → r <
   unfolding isKept kept-nat
   kept-down m r l = ap (λ (a : ℕ). leb m a && ltb a (n - m)) (rank-down r l)
 
-  ranked-down : (h : ℕ) → h < n → ranked n v h ≡ down k (ranked-nat n x h)
+  pub ranked-down : (h : ℕ) → h < n → ranked n v h ≡ down k (ranked-nat n x h)
   unfolding ranked
   ranked-down h l =
       let f = ranked-found x n h l in
@@ -115,6 +115,20 @@ module _ (k n : ℕ) (v : Readings) (x : ℕ → ℕ) (moved : (r : ℕ) → r <
             (mean-nat (n - 2 * m) (kept-total n m x)))
         go true = midpoint-down
         go false = mean-of-down
+
+-- ---- by the one rule, and by the other
+
+pub trimmed-midpoint :
+    (rule n m : ℕ) (x : ℕ → ℕ) → rule ≡ trimmedMidpoint
+    → trimmed-nat rule n m x ≡ mean-nat 2 (ranked-nat n x m + ranked-nat n x (n - m - 1))
+unfolding trimmed-nat
+trimmed-midpoint rule n m x e = rw (eq-eqb rule trimmedMidpoint e)
+
+pub trimmed-mean :
+    (rule n m : ℕ) (x : ℕ → ℕ) → (rule ≡ trimmedMidpoint → ⊥)
+    → trimmed-nat rule n m x ≡ mean-nat (n - 2 * m) (kept-total n m x)
+unfolding trimmed-nat
+trimmed-mean rule n m x e = rw (ne-eqb rule trimmedMidpoint e)
 
 -- ---- between bounds
 

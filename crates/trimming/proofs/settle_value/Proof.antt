@@ -8,7 +8,8 @@ use lib.ListN.{length}
 use Rattle.arithmetic.specs.Words.{twoTo32}
 use Rattle.held.specs.Held.{valueAt}
 use Rattle.round_laws.specs.Naturals.{mean-nat}
-use Rattle.trimming.proofs.Values.{ends-small, sum-of-kept, sum-small, by-midpoint, by-mean}
+use Rattle.value_laws.proofs.Trimmed.{trimmed-midpoint, trimmed-mean}
+use Rattle.trimming.proofs.Values.{ends-small, sum-of-kept, sum-small}
 use Rattle.trimming.proofs.settle_value.Statement.{statement}
 use Rattle.trimming.proofs.settle_value.Tie as tie
 
@@ -73,7 +74,9 @@ returns c =
     (c .before .before .sum-between .ensures .0) (c .before .sum-between2 .ensures .0) in
     c .nearest .ensures
     ∙ ap₂ (λ (s t : ℕ). mean-nat 2 (s + t)) (e .0) (e .1)
-    ∙ by-midpoint (a .rule) (length (a .numbers .now)) (a .m) (valueAt (a .numbers .now)) (c .before .before .before .if1 .taken)
+    ∙ sym
+    (trimmed-midpoint (a .rule) (length (a .numbers .now)) (a .m) (valueAt (a .numbers .now))
+    (c .before .before .before .if1 .taken))
 
 returns-2 : tie.Need-returns-2
 returns-2 c =
@@ -87,7 +90,7 @@ returns-2 c =
     let twice : length (a .numbers .now) - a .m - a .m ≡ length (a .numbers .now) - 2 * a .m = omega arith in
     c .nearest2 .ensures
     ∙ ap₂ (λ (n s : ℕ). mean-nat n s) twice sum
-    ∙ by-mean (a .rule) (length (a .numbers .now)) (a .m) (valueAt (a .numbers .now)) (c .before .before .if1 .left)
+    ∙ sym (trimmed-mean (a .rule) (length (a .numbers .now)) (a .m) (valueAt (a .numbers .now)) (c .before .before .if1 .left))
 
 pub settle-value-spec : {M : Type 1} → statement M
 settle-value-spec =

@@ -1,0 +1,4 @@
+pub mod Computed
+pub mod Rounds
+pub mod Guarantee
+pub mod Sanity

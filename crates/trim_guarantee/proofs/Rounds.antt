@@ -1,0 +1,215 @@
+-- What rules 2 and 3 drop and make of any readings: `trimmed-rounds` is the theorem that specs/Rounds.antt states. The
+-- readings are moved up into the naturals by an even number, far enough for each.
+-- Assumes nothing.
+use mathlib.Core.Bool.{Bool, true, false, cond, _&&_}
+use mathlib.Core.Logic.{⊎-elim}
+use mathlib.Core.Path.{_≡_, refl, sym, ap, ap₂, _∙_, subst, subst⁻¹}
+use Prim.Native.Nat.{ℕ, _+_, _*_, _-_, _≤_, _<_}
+use native.Mathlib.Omega.{arith}
+use borrow.Author.Tests.{lt-ltb, le-leb, leb-true, leb-false, ltb-true, ltb-false, eq-eqb}
+use lib.Dec.{leb, ltb, eqb}
+use lib.IntN.{ℤ, pos, _+ℤ_}
+use lib.Signed.{leZ, ltZ, _≤ℤ_, _<ℤ_}
+use Rattle.arithmetic.specs.Counting.{count, sum}
+use Rattle.arithmetic.specs.Naturals.{down, up}
+use Rattle.arithmetic.proofs.Bools.{both-ways, and-left, and-right, and-intro, of-T}
+use Rattle.arithmetic.proofs.Counting.{count-ext}
+use Rattle.arithmetic.proofs.Shift.{down-up, le-down, lt-down}
+use Rattle.model.specs.declared.Settings.{Settings}
+use Rattle.model.specs.Ensemble.{Reading, missing, present, Readings, isPresent, ticks}
+use Rattle.model.specs.RoundSheet.{trimmedMidpoint, trimmedMean}
+use Rattle.model.specs.Steps.{rank, isKept, keptCount, ranked, trimmedRound, trimmedValue, trimmedMidpointOf, trimmedMeanOf, mean}
+use Rattle.round_laws.specs.Naturals.{rank-nat, kept-nat, ranked-nat}
+use Rattle.round_laws.proofs.Represent.{reach, reach-above, raise}
+use Rattle.value_laws.proofs.Order.{rank-less, rank-small, lower-precedes, equal-precedes, between, ranks-between, kept-many, ranked-found}
+use Rattle.value_laws.proofs.Trimmed.{rank-down, kept-down, ranked-down}
+use Rattle.demand_1_2.specs.Demand2.{NearestWhole}
+use Rattle.demand_1_2.proofs.Represented.{le-of-down}
+use Rattle.demand_1_2.proofs.Roundings.{mean-nearest-whole}
+use Rattle.trim_guarantee.specs.Rounds.{Ordered, Dropped, KeptReading, Extremes, Values, Shows, Trimmed, TrimmedRounds}
+
+module _ (n m : ℕ) (v : Readings) (few : 2 * m < n) where
+  -- the readings as naturals
+  abbrev k : ℕ
+  k = reach v n
+
+  abbrev x : ℕ → ℕ
+  x = raise k v
+
+  moved : (r : ℕ) → r < n → ticks (v r) ≡ down k (x r)
+  moved r l = sym (down-up k (ticks (v r)) (reach-above v n r l))
+
+  rank-is : (r : ℕ) → r < n → rank n v r ≡ rank-nat n x r
+  rank-is = rank-down k n v x moved
+
+  -- an order of ticks is one of these naturals
+  lower : (r s : ℕ) → r < n → s < n → ticks (v r) <ℤ ticks (v s) → x r < x s
+  lower r s lr ls h =
+      ltb-true (x r) (x s)
+      (sym (ap₂ ltZ (moved r lr) (moved s ls) ∙ lt-down k (x r) (x s)) ∙ of-T (ltZ (ticks (v r)) (ticks (v s))) (h .lt))
+
+  at-most : (r s : ℕ) → r < n → s < n → ticks (v r) ≤ℤ ticks (v s) → x r ≤ x s
+  at-most r s lr ls h =
+      leb-true (x r) (x s)
+      (sym (ap₂ leZ (moved r lr) (moved s ls) ∙ le-down k (x r) (x s)) ∙ of-T (leZ (ticks (v r)) (ticks (v s))) (h .le))
+
+  ticks-most : (r s : ℕ) → r < n → s < n → x r ≤ x s → ticks (v r) ≤ℤ ticks (v s)
+  ticks-most r s lr ls h = rw (moved r lr, moved s ls) (le-of-down k (x r) (x s) h)
+
+  ordered : Ordered n v
+  ordered =
+      record {
+        byValue = λ r s lr ls h.
+            rw (rank-is r lr, rank-is s ls) (rank-less x n r s lr (lower-precedes x r s (lower r s lr ls h)));
+        byNumber = λ r s lr ls e h.
+            rw (rank-is r lr, rank-is s ls) (rank-less x n r s lr (equal-precedes x r s (ap (up k) e) h));
+      }
+
+  dropped : Dropped n m v
+  dropped =
+      record {
+        lowest =
+            count-ext (λ r. ltb (rank n v r) m) (between x n 0 m) n (λ r l. from-none r l)
+            ∙ ranks-between x n 0 m (omega arith) (omega arith)
+            ∙ omega arith;
+        highest =
+            count-ext (λ r. leb (n - m) (rank n v r)) (between x n (n - m) n) n (λ r l. to-all r l)
+            ∙ ranks-between x n (n - m) n (omega arith) (omega arith)
+            ∙ omega arith;
+        left = count-ext (isKept n m v) (kept-nat n m x) n (kept-down k n v x moved m) ∙ kept-many x n m (omega arith);
+      }
+    where
+      from-none : (r : ℕ) → r < n → ltb (rank n v r) m ≡ between x n 0 m r
+      from-none r l =
+          ap (λ (a : ℕ). ltb a m) (rank-is r l)
+          ∙ sym (ap (λ (b : Bool). b && ltb (rank-nat n x r) m) (le-leb 0 (rank-nat n x r) (omega arith)))
+
+      to-all : (r : ℕ) → r < n → leb (n - m) (rank n v r) ≡ between x n (n - m) n r
+      to-all r l =
+          ap (λ (a : ℕ). leb (n - m) a) (rank-is r l)
+          ∙ sym (and-true (leb (n - m) (rank-nat n x r)) (lt-ltb (rank-nat n x r) n (rank-small x n r l)))
+        where
+          and-true : (a : Bool) {b : Bool} → b ≡ true → (a && b) ≡ a
+          and-true true e = e
+          and-true false e = refl
+
+  -- what is left has a rank from m to N-m
+  kept-rank : (r : ℕ) → r < n → isKept n m v r ≡ true → (m ≤ rank-nat n x r) × (rank-nat n x r < n - m)
+  unfolding kept-nat
+  kept-rank r l e =
+      let f = sym (kept-down k n v x moved m r l) ∙ e in
+      (leb-true m (rank-nat n x r) (and-left (leb m (rank-nat n x r)) _ f),
+      ltb-true (rank-nat n x r) (n - m) (and-right (leb m (rank-nat n x r)) _ f))
+
+  -- a rank between is kept
+  of-rank : (h : ℕ) → m ≤ h → h < n - m → KeptReading n m v (ranked n v h)
+  unfolding kept-nat
+  of-rank h low high =
+      let f = ranked-found x n h (omega arith) in
+      let i = f .index in
+      let e = f .rank in
+      record {
+        cabinet = i;
+        inRange = f .inRange;
+        kept =
+            kept-down k n v x moved m i (f .inRange)
+            ∙ and-intro (le-leb m (rank-nat n x i) (omega arith)) (lt-ltb (rank-nat n x i) (n - m) (omega arith));
+        reads =
+            moved i (f .inRange) ∙ ap (down k) (sym (f .number)) ∙ sym (ranked-down k n v x moved h (omega arith));
+      }
+
+  -- the index of a rank has its number
+  rank-order : (r s : ℕ) → r < n → s < n → rank-nat n x r ≤ rank-nat n x s → x r ≤ x s
+  rank-order r s lr ls h =
+      ⊎-elim (leb-true (x r) (x s))
+      (λ f. absurd (omega (arith, rank-less x n s r ls (lower-precedes x s r (leb-false (x r) (x s) f)))))
+      (both-ways (leb (x r) (x s)))
+
+  extremes : Extremes n m v (ranked n v m) (ranked n v (n - m - 1))
+  extremes =
+      record {
+        lowKept = of-rank m (omega arith) (omega arith);
+        highKept = of-rank (n - m - 1) (omega arith) (omega arith);
+        between = λ r l e.
+            let f = ranked-found x n m (omega arith) in
+            let g = ranked-found x n (n - m - 1) (omega arith) in
+            let t = kept-rank r l e in
+            let low = f .rank in
+            let high = g .rank in
+            (rw (ranked-down k n v x moved m (omega arith), f .number, moved r l)
+            (le-of-down k (x (f .index)) (x r) (rank-order (f .index) r (f .inRange) l (omega (arith, t .0)))),
+            rw (ranked-down k n v x moved (n - m - 1) (omega arith), g .number, moved r l)
+            (le-of-down k (x r) (x (g .index)) (rank-order r (g .index) l (g .inRange) (omega (arith, t .1)))));
+      }
+
+  -- two cabinets that each read at most what the other does read the same
+  same-ticks :
+      (r s : ℕ) → r < n → s < n → ticks (v r) ≤ℤ ticks (v s) → ticks (v s) ≤ℤ ticks (v r) → ticks (v r) ≡ ticks (v s)
+  same-ticks r s lr ls h i =
+      let e : x r ≡ x s = omega (arith, at-most r s lr ls h, at-most s r ls lr i) in
+      moved r lr ∙ ap (down k) e ∙ sym (moved s ls)
+
+  -- so the extremes are those of the ranks m and N-m-1
+  low-is : (low high : ℤ) → Extremes n m v low high → low ≡ ranked n v m
+  low-is low high e =
+      let a = e .lowKept in
+      let b = extremes .lowKept in
+      sym (a .reads)
+      ∙ same-ticks (a .cabinet) (b .cabinet) (a .inRange) (b .inRange)
+      (rw (a .reads) (e .between (b .cabinet) (b .inRange) (b .kept) .0))
+      (rw (b .reads) (extremes .between (a .cabinet) (a .inRange) (a .kept) .0))
+      ∙ b .reads
+
+  high-is : (low high : ℤ) → Extremes n m v low high → high ≡ ranked n v (n - m - 1)
+  high-is low high e =
+      let a = e .highKept in
+      let b = extremes .highKept in
+      sym (a .reads)
+      ∙ same-ticks (a .cabinet) (b .cabinet) (a .inRange) (b .inRange)
+      (rw (b .reads) (extremes .between (a .cabinet) (a .inRange) (a .kept) .1))
+      (rw (a .reads) (e .between (b .cabinet) (b .inRange) (b .kept) .1))
+      ∙ b .reads
+
+module _ (c : Settings) (v : Readings) (few : 2 * c .m < c .n) where
+  values : Values c v
+  unfolding trimmedRound trimmedValue trimmedMidpointOf trimmedMeanOf
+  values =
+      record {
+        byMidpoint = λ rule low high e.
+            rw (
+              ap (λ (r : ℕ). eqb r trimmedMidpoint) rule,
+              low-is (c .n) (c .m) v few low high e,
+              high-is (c .n) (c .m) v few low high e,
+            )
+            (mean-nearest-whole 2 (ranked (c .n) v (c .m) +ℤ ranked (c .n) v (c .n - c .m - 1)) (omega arith));
+        byMean = λ rule.
+            rw (ap (λ (r : ℕ). eqb r trimmedMidpoint) rule)
+            (mean-nearest-whole (keptCount (c .n) (c .m))
+            (sum (λ r. cond (isKept (c .n) (c .m) v r) (ticks (v r)) (pos 0)) (c .n))
+            (omega arith));
+      }
+
+  shows : Shows c v
+  unfolding trimmedRound
+  shows =
+      record {
+        count = refl;
+        estimate = refl;
+        kept = λ r z e kept. (rw (e, kept) refl, rw (e, kept) refl);
+        dropped = λ r z e kept. (rw (e, kept) refl, rw (e, kept) refl);
+        missing = λ r e. (rw e refl, rw e (shown (isKept (c .n) (c .m) v r)));
+      }
+    where
+      shown : (b : Bool) → cond (b && false) (pos 0) (trimmedValue (c .rule) (c .n) (c .m) v) ≡ trimmedValue (c .rule) (c .n) (c .m) v
+      shown true = refl
+      shown false = refl
+
+pub trimmed-rounds : TrimmedRounds
+trimmed-rounds c v few =
+    record {
+      ordered = ordered (c .n) (c .m) v few;
+      dropped = dropped (c .n) (c .m) v few;
+      some = (ranked (c .n) v (c .m), ranked (c .n) v (c .n - c .m - 1), extremes (c .n) (c .m) v few);
+      values = values c v few;
+      shows = shows c v few;
+    }

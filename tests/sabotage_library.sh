@@ -106,7 +106,7 @@ sabotage "wrapper: no spread is given on" $wrapper "            spread,
             answer.as_mut_ptr(),"
 sabotage "wrapper: estimate and new value swapped" $wrapper "self.field(tohiranga_answer_value)" "self.field(tohiranga_answer_estimate)"
 sabotage "wrapper: mark and used value swapped" $wrapper "self.field_of(tohiranga_answer_mark, cabinet)" "self.field_of(tohiranga_answer_used, cabinet)"
-sabotage "wrapper: another version" bindings/rust/Cargo.toml 'version = "0.5.0"' 'version = "0.5.1"'
+sabotage "wrapper: another version" bindings/rust/Cargo.toml 'version = "0.6.0"' 'version = "0.6.1"'
 sabotage "README: the text of refusal 8" README.md "| 8 | a mark is not 0 or 1;" "| 8 | a mark is not 1 or 2;"
 sabotage "definitions: a spread of 100001" crates/model/specs/Ensemble.antt "maxSpread = 100_000" "maxSpread = 100_001"
 sabotage "definitions: 63 cabinets" crates/model/specs/Ensemble.antt "maxCabinets = 64" "maxCabinets = 63"

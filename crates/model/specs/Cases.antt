@@ -241,7 +241,7 @@ trimmedShown =
     trimmed trimmedMidpoint (at 500 ∷ at 4 ∷ at 11 ∷ minus 9 ∷ [])
     ∷ trimmed trimmedMidpoint (minus 3 ∷ minus 2 ∷ at 0 ∷ minus 4 ∷ [])
     -- "equal readings order by cabinet number"
-    ∷ trimmed trimmedMean (at 5 ∷ at 5 ∷ at 5 ∷ at 5 ∷ [])
+    ∷ trimmed trimmedMean (at 5 ∷ at 5 ∷ at 5 ∷ at 9 ∷ [])
     -- "A missing reading counts as 0": it is dropped as the lowest, and it is kept
     ∷ trimmed trimmedMean (at 10 ∷ missing ∷ at 20 ∷ at 31 ∷ [])
     ∷ trimmed trimmedMean (minus 10 ∷ missing ∷ at 6 ∷ at 7 ∷ [])

@@ -5,6 +5,8 @@ use model::FCA;
 use model::MEDIAN;
 use model::MIDPOINT;
 use model::Settings;
+use model::TRIMMED_MEAN;
+use model::TRIMMED_MIDPOINT;
 
 // The first five arguments: the settings, and N as it was typed. Numbers that no settings hold are cut to the highest
 // that they do, which the planner refuses likewise. Nothing is read where one of them was complained about.
@@ -78,7 +80,17 @@ fn rule_at(at: usize) -> u8 {
     if is_word(at, b"cca") {
         return CCA;
     }
-    complain(b"RULE", at, b"fca or cca is wanted");
+    if is_word(at, b"trimmed-midpoint") {
+        return TRIMMED_MIDPOINT;
+    }
+    if is_word(at, b"trimmed-mean") {
+        return TRIMMED_MEAN;
+    }
+    complain(
+        b"RULE",
+        at,
+        b"fca or cca is wanted (no plan has trimmed-midpoint or trimmed-mean)",
+    );
     255
 }
 

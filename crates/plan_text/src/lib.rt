@@ -1,6 +1,7 @@
 // What the program `plan` says to a person: its usage, numbers of ticks, refusals.
 use model::BAD_CABINETS;
 use model::BAD_FAULTS;
+use model::BAD_METHOD;
 use model::BAD_PLAN;
 use model::BAD_WINDOW;
 use model::Refusal;
@@ -29,7 +30,8 @@ pub fn usage() -> bool {
         b"usage: plan N M RULE ESTIMATOR WINDOW ACCURACY rounds COUNT [T]\n       plan N M RULE ESTIMATOR \
           WINDOW ACCURACY target TICKS [T]\n       plan --help, plan --version\n  N, M              \
           cabinets, and faults planned for: 3M+1 <= N <= 64\n  RULE, ESTIMATOR   fca or cca; average, \
-          median or midpoint\n  WINDOW, ACCURACY  in ticks of 1/16777216 second: how far apart good clocks \
+          median or midpoint (the rules trimmed-midpoint \
+          and trimmed-mean are refused: no plan has them)\n  WINDOW, ACCURACY  in ticks of 1/16777216 second: how far apart good clocks \
           are, and how far from true time\n  COUNT, TICKS      how many rounds, or the window to reach, in \
           ticks\n  T                 bad cabinets, at most N: shows the limits that hold for them\nIt \
           prints the window and the accuracy after each round, in ticks and, rounded up, in microseconds; \
@@ -53,6 +55,9 @@ fn explain(number: u8) -> bool {
     }
     if number == BAD_FAULTS {
         return say(b"N is below 3m+1");
+    }
+    if number == BAD_METHOD {
+        return say(b"no plan has a trimming rule: what such a rule promises is of one round");
     }
     if number == BAD_WINDOW {
         return say(b"the window is above 1,000,000");

@@ -113,10 +113,11 @@ module _ (values : List ℕ) (few : length values ≤ maxCabinets) where
       let small = below-small r l in
       let own = s .has (belowAt values r) small in
       let split = rank-split (valueAt values) (length values) r l in
-      rw e
-      (omega (arith, s .long),
-      omega arith,
-      omega (arith, rank-small (valueAt values) (length values) r l))
+      rw e (
+        omega (arith, s .long),
+        omega arith,
+        omega (arith, rank-small (valueAt values) (length values) r l),
+      )
 
   -- one more is seen
   pub seen-next :

@@ -97,9 +97,10 @@ module _ (n m : ℕ) (v : Readings) (few : 2 * m < n) where
   kept-rank : (r : ℕ) → r < n → isKept n m v r ≡ true → (m ≤ rank-nat n x r) × (rank-nat n x r < n - m)
   unfolding kept-nat
   kept-rank r l e =
-      let f = sym (kept-down k n v x moved m r l) ∙ e in
-      (leb-true m (rank-nat n x r) (and-left (leb m (rank-nat n x r)) _ f),
-      ltb-true (rank-nat n x r) (n - m) (and-right (leb m (rank-nat n x r)) _ f))
+      let f = sym (kept-down k n v x moved m r l) ∙ e in (
+        leb-true m (rank-nat n x r) (and-left (leb m (rank-nat n x r)) _ f),
+        ltb-true (rank-nat n x r) (n - m) (and-right (leb m (rank-nat n x r)) _ f),
+      )
 
   -- a rank between is kept
   of-rank : (h : ℕ) → m ≤ h → h < n - m → KeptReading n m v (ranked n v h)
@@ -135,11 +136,12 @@ module _ (n m : ℕ) (v : Readings) (few : 2 * m < n) where
             let g = ranked-found x n (n - m - 1) (omega arith) in
             let t = kept-rank r l e in
             let low = f .rank in
-            let high = g .rank in
-            (rw (ranked-down k n v x moved m (omega arith), f .number, moved r l)
-            (le-of-down k (x (f .index)) (x r) (rank-order (f .index) r (f .inRange) l (omega (arith, t .0)))),
-            rw (ranked-down k n v x moved (n - m - 1) (omega arith), g .number, moved r l)
-            (le-of-down k (x r) (x (g .index)) (rank-order r (g .index) l (g .inRange) (omega (arith, t .1)))));
+            let high = g .rank in (
+              rw (ranked-down k n v x moved m (omega arith), f .number, moved r l)
+                  (le-of-down k (x (f .index)) (x r) (rank-order (f .index) r (f .inRange) l (omega (arith, t .0)))),
+              rw (ranked-down k n v x moved (n - m - 1) (omega arith), g .number, moved r l)
+                  (le-of-down k (x r) (x (g .index)) (rank-order r (g .index) l (g .inRange) (omega (arith, t .1)))),
+            );
       }
 
   -- two cabinets that each read at most what the other does read the same

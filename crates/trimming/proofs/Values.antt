@@ -82,10 +82,11 @@ module _ (numbers ranks : List ℕ) (m : ℕ) (few : 2 * m < length numbers) (ra
   ends-small low high e f =
       let next : n - m ≡ n - m - 1 + 1 = omega arith in
       let a = e ∙ sum-of-rank m in
-      let b = f ∙ ap (λ (h : ℕ). sumBetween ranks numbers (n - m - 1) h n) next ∙ sum-of-rank (n - m - 1) in
-      (a,
-      b,
-      omega (arith, ranked-small m (omega arith) (omega arith), ranked-small (n - m - 1) (omega arith) (omega arith)))
+      let b = f ∙ ap (λ (h : ℕ). sumBetween ranks numbers (n - m - 1) h n) next ∙ sum-of-rank (n - m - 1) in (
+        a,
+        b,
+        omega (arith, ranked-small m (omega arith) (omega arith), ranked-small (n - m - 1) (omega arith) (omega arith)),
+      )
 
   pub sum-small : kept-total (length numbers) m (valueAt numbers) ≤ (length numbers - 2 * m) * (twoTo32 - 1)
   sum-small =

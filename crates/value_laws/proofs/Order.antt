@@ -76,9 +76,10 @@ module _ (x : ℕ → ℕ) where
   precedes-cases s r e =
       ⊎-elim (λ a. inl (ltb-true (x s) (x r) a))
       (λ b.
-      inr
-      (eqb-true (x s) (x r) (and-left (eqb (x s) (x r)) (ltb s r) b),
-      ltb-true s r (and-right (eqb (x s) (x r)) (ltb s r) b)))
+      inr (
+        eqb-true (x s) (x r) (and-left (eqb (x s) (x r)) (ltb s r) b),
+        ltb-true s r (and-right (eqb (x s) (x r)) (ltb s r) b),
+      ))
       (or-cases (ltb (x s) (x r)) (eqb (x s) (x r) && ltb s r) e)
 
   pub lower-precedes : (s r : ℕ) → x s < x r → precedes-nat x s r ≡ true

@@ -55,10 +55,11 @@ nearest-requires-2 c κs =
     let p = known .before .pre .1 in
     let few = p .0 in
     let sum = c .sum-between3 .ensures .0 ∙ sum-of-kept (a .numbers .now) (a .ranks .now) (a .m) few (p .1) small in
-    let twice : length (a .numbers .now) - a .m - a .m ≡ length (a .numbers .now) - 2 * a .m = omega arith in
-    (omega arith,
-    omega (arith, known .before .pre .0 .0),
-    rw (twice, sum) (sum-small (a .numbers .now) (a .ranks .now) (a .m) few (p .1) small))
+    let twice : length (a .numbers .now) - a .m - a .m ≡ length (a .numbers .now) - 2 * a .m = omega arith in (
+      omega arith,
+      omega (arith, known .before .pre .0 .0),
+      rw (twice, sum) (sum-small (a .numbers .now) (a .ranks .now) (a .m) few (p .1) small),
+    )
   where
     small : (i : ℕ) → valueAt (c .before .before .before .before .args .numbers .now) i < twoTo32
     small i = c .before .before .before .shared-slice-known .given i .fits

@@ -34,9 +34,10 @@ unfit-requires c κs = search needs
 returns : tie.Need-returns
 returns c =
     let a = c .before .before .before .before .args in
-    let e = sym (c .before .unfit .ensures) ∙ c .if1 .taken in
-    (trimmed-none (a .rule) (a .m) (a .marks .now) (a .values .now) e,
-    (marks-none (a .rule) (a .m) (a .marks .now) (a .values .now) e, omega arith))
+    let e = sym (c .before .unfit .ensures) ∙ c .if1 .taken in (
+      trimmed-none (a .rule) (a .m) (a .marks .now) (a .values .now) e,
+      (marks-none (a .rule) (a .m) (a .marks .now) (a .values .now) e, omega arith),
+    )
 
 array-borrow-prefix-numbers : tie.Need-array-borrow-prefix-numbers
 array-borrow-prefix-numbers c = few (c .before)
@@ -55,9 +56,10 @@ trim-in-requires : tie.Need-trim-in-requires
 trim-in-requires c κs =
     let e = c .before .before .before in
     let a = call e .args in
-    let long = first-places (length (a .marks .now)) (few e) in
-    ((few e, fits-even (a .rule) (a .m) (a .marks .now) (a .values .now) (fit e)),
-    ((long, long), some-left (a .rule) (a .m) (a .marks .now) (a .values .now) (fit e)))
+    let long = first-places (length (a .marks .now)) (few e) in (
+      (few e, fits-even (a .rule) (a .m) (a .marks .now) (a .values .now) (fit e)),
+      ((long, long), some-left (a .rule) (a .m) (a .marks .now) (a .values .now) (fit e)),
+    )
 
 mul-t11 : tie.Need-mul-t11
 mul-t11 c = search needs
@@ -75,10 +77,13 @@ returns-2 : tie.Need-returns-2
 returns-2 c =
     let e = c .before .before .before .before .before .before .before .before in
     let a = call e .args in
-    let trimmed = c .before .before .before .before .trim-in in
-    (trimmed-some (a .rule) (a .m) (a .marks .now) (a .values .now) (fit e) (trimmed .result) (trimmed .ensures .0),
-    (marks-some (a .rule) (a .m) (a .marks .now) (a .values .now) (fit e) (trimmed .last .0) (trimmed .ensures .1),
-    omega (arith, few e)))
+    let trimmed = c .before .before .before .before .trim-in in (
+      trimmed-some (a .rule) (a .m) (a .marks .now) (a .values .now) (fit e) (trimmed .result) (trimmed .ensures .0),
+      (
+        marks-some (a .rule) (a .m) (a .marks .now) (a .values .now) (fit e) (trimmed .last .0) (trimmed .ensures .1),
+        omega (arith, few e),
+      ),
+    )
 
 pub trim-spec : {M : Type 1} → statement M
 trim-spec =

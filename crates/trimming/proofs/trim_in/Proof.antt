@@ -53,13 +53,14 @@ returns c =
     let filled = ranked .before .before .before .before .before in
     let start = filled .before .before .before .before .before .before .before in
     let a = start .args in
-    let p = start .pre in
-    (value-is (a .marks .now) (a .values .now) (a .m) (p .0 .0) (p .1 .1) (a .numbers .now) (a .ranks .now)
-    (filled .fill .last .1 .1 .0) (ranked .rank .last .1 .0) (p .1 .0 .0) (p .1 .0 .1) (filled .fill .ensures)
-    (ranked .rank .ensures) (a .rule) (c .settle-value .result) (c .settle-value .ensures),
-    marks-are (a .marks .now) (a .values .now) (a .m) (p .0 .0) (p .1 .1) (a .numbers .now) (a .ranks .now)
-    (filled .fill .last .1 .1 .0) (ranked .rank .last .1 .0) (p .1 .0 .0) (p .1 .0 .1) (filled .fill .ensures)
-    (ranked .rank .ensures) (struck .strike .last .0) (struck .strike .ensures))
+    let p = start .pre in (
+      value-is (a .marks .now) (a .values .now) (a .m) (p .0 .0) (p .1 .1) (a .numbers .now) (a .ranks .now)
+          (filled .fill .last .1 .1 .0) (ranked .rank .last .1 .0) (p .1 .0 .0) (p .1 .0 .1) (filled .fill .ensures)
+          (ranked .rank .ensures) (a .rule) (c .settle-value .result) (c .settle-value .ensures),
+      marks-are (a .marks .now) (a .values .now) (a .m) (p .0 .0) (p .1 .1) (a .numbers .now) (a .ranks .now)
+          (filled .fill .last .1 .1 .0) (ranked .rank .last .1 .0) (p .1 .0 .0) (p .1 .0 .1) (filled .fill .ensures)
+          (ranked .rank .ensures) (struck .strike .last .0) (struck .strike .ensures),
+    )
 
 pub trim-in-spec : {M : Type 1} → statement M
 trim-in-spec =

@@ -4,9 +4,9 @@
 -- It speaks of `roundOf`, `readingsOf`, `settleSpread`, `read`, `write`, `plan` and `step` of crates/model/specs, the
 -- same definitions that the functions' promises are equations with, and says in the words of the paper and of document
 -- 01 what they are: any span, and not only those that start at a reading; what an estimate is among the accepted
--- readings; what the mean is nearest to. What `settleSpread` writes is `roundAt` of the sheet and the spread: for FCA and
--- CCA `roundOf` its settings and its `readingsOf`. `settle` is `settleSpread` with the spread 0. What the rounds of
--- document 02's rules 2 and 3 are is said in crates/trim_guarantee/specs/Guarantee.antt.
+-- readings; what the mean is nearest to. What `settleSpread` writes is `roundAt` of the sheet and the spread: for FCA
+-- and CCA `roundOf` its settings and its `readingsOf`. `settle` is `settleSpread` with the spread 0. What the rounds of
+-- document 02's rules 2 and 3 are is said in crates/trim_guarantee/specs/Rounds.antt.
 --
 -- What is not claimed: an estimate where no reading is accepted; a decision where N is below 3m+1. No call grants
 -- there.

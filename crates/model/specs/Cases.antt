@@ -223,8 +223,8 @@ halves =
     ∷ case 0 (planned plan11 100 32) (gives (pos 2 ∷ pos 179 ∷ []))
     ∷ []
 
--- ---- Document 02, request 5: "Rule 2 drops the m lowest and m highest of N and takes half the sum of the extremes left;
--- rule 3 takes the mean of those left"
+-- ---- Document 02, request 5: "Rule 2 drops the m lowest and m highest of N and takes half the sum of the extremes
+-- left; rule 3 takes the mean of those left"
 
 -- the count, the estimate and the new value; then the mark of each cabinet; then its used value
 abbrev pub ofAll : ℕ → Round → List ℤ

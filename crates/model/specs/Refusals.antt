@@ -169,8 +169,8 @@ badPlan fails = refuseIf fails badPlanNumber
 unfoldable pub targetMissed : ℕ → ℕ → Check
 targetMissed last target = refuseIf (ltb target last) targetMissedNumber
 
--- 16: "D above 100,000, or above 0 with CCA" (document 02, request 2); with rules 2 and 3 "D must be 0 here, else refusal
--- 16" (request 5)
+-- 16: "D above 100,000, or above 0 with CCA" (document 02, request 2); with rules 2 and 3 "D must be 0 here, else
+-- refusal 16" (request 5)
 abbrev pub unfitSpread : ℕ → ℕ → Bool
 unfitSpread rule D = ltb maxSpread D || (ltb 0 D && not (eqb rule fca))
 

@@ -28,8 +28,8 @@ fca = 0
 abbrev pub cca : ℕ
 cca = 1
 
--- document 02, request 5: "Rule 2 drops the m lowest and m highest of N and takes half the sum of the extremes left; rule
--- 3 takes the mean of those left"
+-- document 02, request 5: "Rule 2 drops the m lowest and m highest of N and takes half the sum of the extremes left;
+-- rule 3 takes the mean of those left"
 abbrev pub trimmedMidpoint : ℕ
 trimmedMidpoint = 2
 

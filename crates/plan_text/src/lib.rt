@@ -30,8 +30,8 @@ pub fn usage() -> bool {
         b"usage: plan N M RULE ESTIMATOR WINDOW ACCURACY rounds COUNT [T]\n       plan N M RULE ESTIMATOR \
           WINDOW ACCURACY target TICKS [T]\n       plan --help, plan --version\n  N, M              \
           cabinets, and faults planned for: 3M+1 <= N <= 64\n  RULE, ESTIMATOR   fca or cca; average, \
-          median or midpoint (the rules trimmed-midpoint \
-          and trimmed-mean are refused: no plan has them)\n  WINDOW, ACCURACY  in ticks of 1/16777216 second: how far apart good clocks \
+          median or midpoint\n                    (trimmed-midpoint and trimmed-mean are refused: no plan \
+          has them)\n  WINDOW, ACCURACY  in ticks of 1/16777216 second: how far apart good clocks \
           are, and how far from true time\n  COUNT, TICKS      how many rounds, or the window to reach, in \
           ticks\n  T                 bad cabinets, at most N: shows the limits that hold for them\nIt \
           prints the window and the accuracy after each round, in ticks and, rounded up, in microseconds; \

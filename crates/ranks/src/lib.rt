@@ -1,5 +1,5 @@
-// How many come before each of at most 64 numbers, ordered by value and then by place. Of each number those below it are
-// counted, in one pass without a branch. As many are below two numbers just where they are equal, so what was seen
+// How many come before each of at most 64 numbers, ordered by value and then by place. Of each number those below it
+// are counted, in one pass without a branch. As many are below two numbers just where they are equal, so what was seen
 // before says which of equal ones it is.
 ghost use mathlib.Core.Path.{_≡_};
 ghost use Prim.Native.Nat.{_≤_};

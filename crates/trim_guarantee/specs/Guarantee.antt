@@ -1,6 +1,7 @@
 -- Document 02, "Paper 5. Trimming rules" (docs/FORMAT.md, 14): where the new values of sound cabinets lie, and how far
--- apart they can be, where at most m cabinets are faulty, whatever the faulty ones send to whom. It is said of sheets in
--- bytes. The theorem is `trim-guarantee` of proofs/Guarantee.antt; Witnesses.antt has the sheets that reach the limits.
+-- apart they can be, where at most m cabinets are faulty, whatever the faulty ones send to whom. It is said of sheets
+-- in bytes. The theorem is `trim-guarantee` of proofs/Guarantee.antt; Witnesses.antt has the sheets that reach the
+-- limits.
 --
 -- δ is any number of ticks within which the sound readings lie of each other: the sheet's window, or less, or more. The
 -- rules themselves do not look at the window.

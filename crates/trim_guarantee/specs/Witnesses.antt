@@ -1,5 +1,5 @@
--- Sheets that reach the limits of Guarantee.antt, so that none can be a tick tighter. What they settle to is computed from
--- their bytes. The theorems are in proofs/Computed.antt.
+-- Sheets that reach the limits of Guarantee.antt, so that none can be a tick tighter. What they settle to is computed
+-- from their bytes. The theorems are in proofs/Computed.antt.
 --
 --   trimmed, five      N 4, m 1 and N 5, m 1 by a rule, with a window
 --   cabinet            a cabinet that read these numbers, its answer buffer just long enough and full of 255s
@@ -63,7 +63,8 @@ pub record MidpointReached : Type 0 where
 
 pub record HalvesReached : Type 0 where
   pub met : Met (trimmed trimmedMean 2) 3 (low trimmedMean) (high trimmedMean)
-  pub widest : apart (newValue 0 (low trimmedMean)) (newValue 0 (high trimmedMean)) ≡ meanGap (trimmed trimmedMean 2) 2 1
+  pub widest :
+      apart (newValue 0 (low trimmedMean)) (newValue 0 (high trimmedMean)) ≡ meanGap (trimmed trimmedMean 2) 2 1
 
 -- ---- Rule 3: 0, 0, 1, 4 and a liar leave 0, 0, 1 and 0, 1, 4, whose means 1/3 and 5/3 go to 0 and 2
 

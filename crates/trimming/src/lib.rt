@@ -1,6 +1,6 @@
 // The round of readings by the rules that drop the m lowest and the m highest (document 02, "Paper 5. Trimming rules").
-// Readings are held by their marks and by their ticks moved up by 2^31; the marks that it leaves are those of the answer
-// sheet.
+// Readings are held by their marks and by their ticks moved up by 2^31; the marks that it leaves are those of the
+// answer sheet.
 ghost use mathlib.Core.Path.{_≡_};
 ghost use mathlib.Core.Bool.{cond, _&&_, _||_};
 ghost use Prim.Native.Nat.{_+_, _*_, _-_, _≤_, _<_};
@@ -98,8 +98,8 @@ fn nearest(n: u64, sum: u64) -> u32
     (whole + (up as u64)) as u32
 }
 
-// The new value of numbers and their ranks, of which the m lowest and the m highest are dropped: by the one rule half the
-// sum of the lowest and the highest that are left, by the other the mean of those left.
+// The new value of numbers and their ranks, of which the m lowest and the m highest are dropped: by the one rule half
+// the sum of the lowest and the highest that are left, by the other the mean of those left.
 fn settle_value(rule: u8, numbers: &[u32], ranks: &[u8], m: usize) -> u32
     requires { ⌜ (length (now numbers) ≤ maxCabinets) × (length (now ranks) ≡ length (now numbers)) ⌝ }
     requires { ⌜ (2 * m < length (now numbers)) × Ranked (now numbers) (now ranks) ⌝ }

@@ -165,10 +165,10 @@ uint32_t tohiranga_version(void);
  * lowest and the highest left (rule 2), or the mean of the N - 2m left (rule 3), rounded as above. The answer sheet has N - 2m for
  * the number accepted; mark 1 for a present reading that is left, 2 for one that is dropped, 0 for a missing one; as used value the
  * reading where the mark is 1, and the new value elsewhere and for the estimate. Refusal 10 does not arise.
- * Let at most m cabinets be faulty, t of them, and all sound readings be present and within w of each other. Then each new value is
- * within the range of the sound readings, and two sound cabinets' new values are at most w/2 apart (rule 2), or tw/(N - 2m)
- * (rule 3), by the quotient's whole part plus one. With more faulty ones, or sound readings missing, nothing is promised, and no
- * refusal tells. */
+ * Let at most m cabinets be faulty, t of them, and let all sound readings be present, within w of each other, and read alike by
+ * every sound cabinet. Then each new value is within the range of the sound readings, and two sound cabinets' new values are at most
+ * w/2 apart (rule 2), or tw/(N - 2m) (rule 3), by the quotient's whole part plus one. A sound cabinet whose reading is missing may
+ * be counted as faulty. Where the faulty and the missing are more than m together nothing is promised, and no refusal tells. */
 uint64_t tohiranga_settle(const uint8_t *sheet, size_t sheet_len, uint8_t *answer, size_t answer_len);
 
 /* Settles a round sheet of rule 0 where cable runs differ: two sound cabinets' readings of a good one differ by up to the

@@ -9,7 +9,7 @@ use mathlib.Core.Path.{_≡_, refl, sym, ap, _∙_, subst, subst⁻¹}
 use Prim.Native.Nat.{ℕ, _+_, _*_, _≤_, _<_}
 use native.Mathlib.Nat.{one-mul, lt-of-not-le}
 use native.Mathlib.Omega.{arith}
-use borrow.Author.Tests.{eqb-true, eq-eqb, ne-eqb}
+use borrow.Author.Tests.{eqb-true, eq-eqb, ne-eqb, le-ltb}
 use lib.Dec.{eqb}
 use lib.IntN.{ℤ}
 use lib.ListN.{length}
@@ -18,7 +18,7 @@ use Rattle.arithmetic.specs.Writing.{overwrite}
 use Rattle.arithmetic.proofs.Bools.{and-left, and-right, and-intro}
 use Rattle.model.specs.declared.Settings.{Settings}
 use Rattle.model.specs.Ensemble.{missing, present, Readings, quorum}
-use Rattle.model.specs.RoundSheet.{cca, median, settingsAt}
+use Rattle.model.specs.RoundSheet.{cca, median, settingsAt, entryCount, entryAt}
 use Rattle.model.specs.AnswerSheet.{answerLength, answerBytes}
 use Rattle.model.specs.Steps.{Decision, knownFaulty, decidedReading, decideRow, readingsOf, Round, roundOf, roundAt}
 use Rattle.model.specs.Planner.{Plan, planFrom, windowFactor, nextWindow, growth, advance, after}
@@ -27,6 +27,7 @@ use Rattle.model.specs.Calls.{granted, lent, settleSpread, step}
 use Rattle.decision_laws.proofs.Decision.{decided-need, decide-value, decide-none}
 use Rattle.decision_laws.proofs.Equality.{missing-present}
 use Rattle.decision_laws.proofs.Rows.{reading-decided, read-direct, read-decided}
+use Rattle.round_laws.proofs.Local.{round-by-spans}
 use Rattle.planner_laws.proofs.Checks.{none-may-step}
 use Rattle.planner_laws.proofs.Steps.{plan-granted-check, plan-steps}
 use Rattle.planner_laws.proofs.Verdicts.{granted-check}
@@ -35,7 +36,7 @@ use Rattle.sheet_laws.proofs.Answer.{answer-cabinets, answer-count, answer-esti
 use Rattle.sheet_laws.proofs.Outcomes.{granted-none}
 use Rattle.sheet_laws.proofs.RoundTrips.{read-write, write-read}
 use Rattle.demand_1_2.specs.Demand2.{Accepted, copiesEqual, Decided, Used, Bytes, Shown, PastWhole, Forward}
-use Rattle.demand_1_2.specs.Demand2.{PlannedRounds, Demand2}
+use Rattle.demand_1_2.specs.Demand2.{PlannedRounds, BySpans, Demand2}
 use Rattle.demand_1_2.proofs.Estimated.{estimated}
 use Rattle.demand_1_2.proofs.Refused.{too-many-said}
 use Rattle.demand_1_2.proofs.Roundings.{mean-nearest-whole, rounded-up, past-whole}
@@ -193,6 +194,14 @@ planned c κ =
     start : (p : Plan) → p ≡ after 0 (planFrom c κ) → p ≡ planFrom c κ
     start p e = unfold after in e
 
+by-spans :
+    (s : List ℕ) (D : ℕ) → BySpans s
+    → roundAt s D ≡ roundOf (settingsAt s) D (readingsOf (settingsAt s) (entryAt s (entryCount (settingsAt s))))
+unfolding roundAt
+by-spans s D spans =
+    round-by-spans (settingsAt s) D (readingsOf (settingsAt s) (entryAt s (entryCount (settingsAt s))))
+    (le-ltb cca (settingsAt s .rule) spans)
+
 -- ---- the statement
 
 pub demand-2 : Demand2
@@ -202,6 +211,7 @@ demand-2 =
       estimate = estimated;
       decision = decision;
       mean = used;
+      round = by-spans;
       shown = shown;
       planned = planned;
       forward = forward;

@@ -269,6 +269,10 @@ pub record Demand2 : Type 0 where
       → Estimate c D v (roundOf c D v .estimate)
   pub decision : (c : Settings) (entry : Readings) (r : ℕ) → 3 * c .m + 1 ≤ c .n → Decided c entry r
   pub mean : (c : Settings) (D : ℕ) (v : Readings) → Used c D v
+  -- by FCA and CCA, whose steps these are
+  pub round :
+      (s : List ℕ) (D : ℕ) → BySpans s
+      → roundAt s D ≡ roundOf (settingsAt s) D (readingsOf (settingsAt s) (entryAt s (entryCount (settingsAt s))))
   pub shown :
       (s : List ℕ) (D : ℕ) (answer : List ℕ) → Bytes s
       → (size : ℕ) → settleSpread s D answer .verdict ≡ granted size → Shown s D (settleSpread s D answer .buffer)

@@ -237,9 +237,11 @@ trimmed rule readings = ofAll 4 (roundFrom (settings 4 1 rule average 0) reading
 
 unfoldable pub trimmedShown : List (List ℤ)
 trimmedShown =
-    -- half of 4 + 11 is 7.5, and goes to 8; half of -5 is -2.5, and goes to -2
+    -- half of 4 + 11 is 7.5, and goes to 8; half of -5 is -2.5, and goes to -2; half of -3 is -1.5, and goes to -2
     trimmed trimmedMidpoint (at 500 ∷ at 4 ∷ at 11 ∷ minus 9 ∷ [])
     ∷ trimmed trimmedMidpoint (minus 3 ∷ minus 2 ∷ at 0 ∷ minus 4 ∷ [])
+    ∷ trimmed trimmedMidpoint (minus 2 ∷ minus 1 ∷ at 0 ∷ minus 3 ∷ [])
+    ∷ trimmed trimmedMean (minus 2 ∷ minus 1 ∷ at 0 ∷ minus 3 ∷ [])
     -- "equal readings order by cabinet number"
     ∷ trimmed trimmedMean (at 5 ∷ at 5 ∷ at 5 ∷ at 9 ∷ [])
     -- "A missing reading counts as 0": it is dropped as the lowest, and it is kept
@@ -258,6 +260,8 @@ unfoldable pub trimmedWanted : List (List ℤ)
 trimmedWanted =
     (pos 2 ∷ pos 8 ∷ pos 8 ∷ pos 2 ∷ pos 1 ∷ pos 1 ∷ pos 2 ∷ pos 8 ∷ pos 4 ∷ pos 11 ∷ pos 8 ∷ [])
     ∷ (pos 2 ∷ negsuc 1 ∷ negsuc 1 ∷ pos 1 ∷ pos 1 ∷ pos 2 ∷ pos 2 ∷ negsuc 2 ∷ negsuc 1 ∷ negsuc 1 ∷ negsuc 1 ∷ [])
+    ∷ (pos 2 ∷ negsuc 1 ∷ negsuc 1 ∷ pos 1 ∷ pos 1 ∷ pos 2 ∷ pos 2 ∷ negsuc 1 ∷ negsuc 0 ∷ negsuc 1 ∷ negsuc 1 ∷ [])
+    ∷ (pos 2 ∷ negsuc 1 ∷ negsuc 1 ∷ pos 1 ∷ pos 1 ∷ pos 2 ∷ pos 2 ∷ negsuc 1 ∷ negsuc 0 ∷ negsuc 1 ∷ negsuc 1 ∷ [])
     ∷ (pos 2 ∷ pos 5 ∷ pos 5 ∷ pos 2 ∷ pos 1 ∷ pos 1 ∷ pos 2 ∷ pos 5 ∷ pos 5 ∷ pos 5 ∷ pos 5 ∷ [])
     ∷ (pos 2 ∷ pos 15 ∷ pos 15 ∷ pos 1 ∷ pos 0 ∷ pos 1 ∷ pos 2 ∷ pos 10 ∷ pos 15 ∷ pos 20 ∷ pos 15 ∷ [])
     ∷ (pos 2 ∷ pos 3 ∷ pos 3 ∷ pos 2 ∷ pos 0 ∷ pos 1 ∷ pos 2 ∷ pos 3 ∷ pos 3 ∷ pos 6 ∷ pos 3 ∷ [])

@@ -1,5 +1,5 @@
 -- Document 01, "The round sheet" (docs/FORMAT.md, 3).
---   fca, cca, trimmedMidpoint, trimmedMean    the rules; trims, whether one is the third or the fourth
+--   fca, cca, trimmedMidpoint, trimmedMean    the rules, 0 to 3; trims, whether one is 2 or 3
 --   byte, word               a byte; a number of four bytes, least significant first
 --   settingsAt               the sizes, bytes 0 to 7
 --   entryCount (E)           the number of entries
@@ -36,7 +36,7 @@ trimmedMidpoint = 2
 abbrev pub trimmedMean : ℕ
 trimmedMean = 3
 
--- of the rules 0 to 3, whether one drops the lowest and the highest
+-- whether a rule drops the lowest and the highest: of those that check 4 passes, 2 and 3
 abbrev pub trims : ℕ → Bool
 trims rule = ltb cca rule
 

@@ -2,7 +2,7 @@
 -- "Paper 2. Cable runs differ", the caller's spread D is added to the window, and is 0 without one; "Paper 4. Halves go
 -- to the even tick", the mean's rounding; "Paper 5. Trimming rules", the rules 2 and 3.
 --   Decision, decideRow       the crusaders decision of a row
---   readingsOf                the reading of each cabinet: FCA as sent, CCA as decided
+--   readingsOf                the reading of each cabinet: FCA, and rules 2 and 3, as sent, CCA as decided
 --   inside, held              a reading lies in a span; how many readings a span holds
 --   accepted                  some span of a width holds the reading and N-m readings
 --   numbered                  the accepted reading numbered h from below, counting from 1

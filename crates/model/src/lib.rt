@@ -80,7 +80,7 @@ pub struct Settings {
     pub m: u8,
     // 0 FCA, 1 CCA, 2 trimmed midpoint, 3 trimmed mean.
     pub rule: u8,
-    // 0 average, 1 median, 2 midpoint; 0 with the trimmed rules.
+    // 0 average, 1 median, 2 midpoint; 0 with the trimming rules.
     pub estimator: u8,
     // The window in ticks.
     pub window: u32,

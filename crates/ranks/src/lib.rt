@@ -1,6 +1,6 @@
 // How many come before each of at most 64 numbers, ordered by value and then by place. Of each number those below it
-// are counted, in one pass without a branch. As many are below two numbers just where they are equal, so what was seen
-// before says which of equal ones it is.
+// are counted, in one pass without a branch. Two numbers have equally many below them only where they are equal, so what
+// was seen before says which of equal ones it is.
 ghost use mathlib.Core.Path.{_≡_};
 ghost use Prim.Native.Nat.{_≤_};
 ghost use lib.Dec.{ltb};
@@ -30,7 +30,7 @@ fn count_below(values: &[u32], value: u32) -> u32
     below
 }
 
-// The rank of each number. `seen` has how many of the numbers passed have so many below them.
+// The rank of each number. `seen[b]` is how many of the numbers passed have b below them.
 fn rank_each(values: &[u32], seen: &mut [u8], ranks: &mut [u8])
     requires { ⌜ (length (now values) ≤ maxCabinets) × (length (now values) ≤ length (now ranks)) ⌝ }
     requires { ⌜ Seen (now values) 0 (now seen) ⌝ }

@@ -27,8 +27,8 @@ use Rattle.spread_guarantee.specs.Guarantee.{Cabinet, reading, newValue, bad}
 use Rattle.spread_guarantee.specs.Guarantee as spread
 use Rattle.spread_guarantee.proofs.Computed.{Tested, reads-tested}
 use Rattle.trim_guarantee.specs.Guarantee.{Reads, Alike}
-use Rattle.trim_guarantee.specs.Witnesses.{trimmed, five, low, high, fiveLow, fiveHigh, bottom, top, Met}
-use Rattle.trim_guarantee.specs.Witnesses.{MidpointReached, HalvesReached, MeanReached, RangeReached}
+use Rattle.trim_guarantee.specs.Witnesses.{trimmed, five, seven, low, high, fiveLow, fiveHigh, sevenLow, sevenHigh, bottom, top}
+use Rattle.trim_guarantee.specs.Witnesses.{Met, MidpointReached, HalvesReached, MeanReached, TwoFaultyReached, EndsReached, RangeReached}
 
 -- an accuracy that asks nothing of the readings below
 abbrev any : ℕ
@@ -54,13 +54,13 @@ alike-tested c sound p q e r l g =
     (tested sound (λ i. eqZ (ticks (reading p i)) (ticks (reading q i))) (c .n) e r l g)
 
 met :
-    (c : Settings) (sounds : ℕ) (p q : Cabinet)
-    → bad c (below sounds) ≡ 1
+    (c : Settings) (sounds t : ℕ) (p q : Cabinet)
+    → bad c (below sounds) ≡ t
     → Tested c 0 any (pos 0) (below sounds) p
     → Tested c 0 any (pos 0) (below sounds) q
     → differ c (below sounds) p q ≡ false
-    → Met c sounds p q
-met c sounds p q counts tp tq near =
+    → Met c sounds t p q
+met c sounds t p q counts tp tq near =
     record {
       counts = counts;
       readsLow = reads-of c (below sounds) p (reads-tested c 0 any (pos 0) (below sounds) p tp);
@@ -68,7 +68,27 @@ met c sounds p q counts tp tq near =
       alike = alike-tested c (below sounds) p q near;
     }
 
-all-reached : MidpointReached × HalvesReached × MeanReached × RangeReached
+ends :
+    (rule : ℕ) → bad (trimmed rule 7) (below 3) ≡ 1
+    → Tested (trimmed rule 7) 0 any (pos 0) (below 3) (bottom rule)
+    → Tested (trimmed rule 7) 0 any (pos 0) (below 3) (top rule)
+    → newValue 0 (bottom rule) ≡ pos 0
+    → newValue 0 (top rule) ≡ pos 7
+    → EndsReached rule
+ends rule counts at-bottom at-top lowest highest =
+    record {
+      counts = counts;
+      readsBottom =
+          reads-of (trimmed rule 7) (below 3) (bottom rule)
+          (reads-tested (trimmed rule 7) 0 any (pos 0) (below 3) (bottom rule) at-bottom);
+      readsTop =
+          reads-of (trimmed rule 7) (below 3) (top rule)
+          (reads-tested (trimmed rule 7) 0 any (pos 0) (below 3) (top rule) at-top);
+      lowest = lowest;
+      highest = highest;
+    }
+
+all-reached : MidpointReached × HalvesReached × MeanReached × TwoFaultyReached × RangeReached
 unfolding
     count anyBelow lowest sum table overwrite word entryCount entryAt bytes4 readingBytes sizeBytes sheetBytes
     answerHeader answerBytes readingsOf mean rank isKept ranked trimmedMidpointOf trimmedMeanOf trimmedValue trimmedRound
@@ -76,34 +96,34 @@ unfolding
     badMissing tooManyFaults badSpread settingsChecks spreadChecks entryChecks settleChecks settleSpread
 all-reached = (
   record {
-    met = met (trimmed trimmedMidpoint 2) 3 (low trimmedMidpoint) (high trimmedMidpoint) refl (refl, refl, refl, refl)
+    met = met (trimmed trimmedMidpoint 2) 3 1 (low trimmedMidpoint) (high trimmedMidpoint) refl (refl, refl, refl, refl)
         (refl, refl, refl, refl) refl;
     lowValue = refl;
     highValue = refl;
     widest = refl;
   },
   record {
-    met = met (trimmed trimmedMean 2) 3 (low trimmedMean) (high trimmedMean) refl (refl, refl, refl, refl)
+    met = met (trimmed trimmedMean 2) 3 1 (low trimmedMean) (high trimmedMean) refl (refl, refl, refl, refl)
         (refl, refl, refl, refl) refl;
     widest = refl;
   },
   record {
-    met = met (five trimmedMean 4) 4 fiveLow fiveHigh refl (refl, refl, refl, refl) (refl, refl, refl, refl) refl;
+    met = met (five trimmedMean 4) 4 1 fiveLow fiveHigh refl (refl, refl, refl, refl) (refl, refl, refl, refl) refl;
     lowValue = refl;
     highValue = refl;
     widest = refl;
     oddWidest = refl;
   },
   record {
-    counts = refl;
-    readsBottom =
-        reads-of (trimmed trimmedMidpoint 7) (below 3) (bottom trimmedMidpoint)
-        (reads-tested (trimmed trimmedMidpoint 7) 0 any (pos 0) (below 3) (bottom trimmedMidpoint) (refl, refl, refl, refl));
-    readsTop =
-        reads-of (trimmed trimmedMean 7) (below 3) (top trimmedMean)
-        (reads-tested (trimmed trimmedMean 7) 0 any (pos 0) (below 3) (top trimmedMean) (refl, refl, refl, refl));
-    lowest = refl;
-    highest = refl;
+    met = met (seven trimmedMean 5) 5 2 sevenLow sevenHigh refl (refl, refl, refl, refl) (refl, refl, refl, refl) refl;
+    lowValue = refl;
+    highValue = refl;
+    widest = refl;
+    oddWidest = refl;
+  },
+  record {
+    byMidpoint = ends trimmedMidpoint refl (refl, refl, refl, refl) (refl, refl, refl, refl) refl refl;
+    byMean = ends trimmedMean refl (refl, refl, refl, refl) (refl, refl, refl, refl) refl refl;
   },
 )
 
@@ -116,5 +136,8 @@ halves-reached = all-reached .1
 pub mean-reached : MeanReached
 mean-reached = all-reached .2
 
+pub two-faulty-reached : TwoFaultyReached
+two-faulty-reached = all-reached .3
+
 pub range-reached : RangeReached
-range-reached = all-reached .3
+range-reached = all-reached .4

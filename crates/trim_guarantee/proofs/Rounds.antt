@@ -1,32 +1,49 @@
 -- What rules 2 and 3 drop and make of any readings: `trimmed-rounds` is the theorem that specs/Rounds.antt states. The
 -- readings are moved up into the naturals by an even number, far enough for each.
 -- Assumes nothing.
-use mathlib.Core.Bool.{Bool, true, false, cond, _&&_}
-use mathlib.Core.Logic.{⊎-elim}
-use mathlib.Core.Path.{_≡_, refl, sym, ap, ap₂, _∙_, subst, subst⁻¹}
+use mathlib.Core.Bool.{Bool, true, false, not, cond, _&&_}
+use mathlib.Core.List.{List}
+use mathlib.Core.Option.{none}
+use mathlib.Core.Logic.{_⊎_, inl, inr, ⊎-elim}
+use mathlib.Core.Path.{_≡_, refl, sym, ap, ap₂, fun-ext, _∙_}
 use Prim.Native.Nat.{ℕ, _+_, _*_, _-_, _≤_, _<_}
 use native.Mathlib.Omega.{arith}
-use borrow.Author.Tests.{lt-ltb, le-leb, leb-true, leb-false, ltb-true, ltb-false, eq-eqb}
+use borrow.Author.Tests.{lt-ltb, le-leb, leb-true, leb-false, ltb-true, ltb-false, ne-eqb}
 use lib.Dec.{leb, ltb, eqb}
 use lib.IntN.{ℤ, pos, _+ℤ_}
+use lib.ListN.{length}
 use lib.Signed.{leZ, ltZ, _≤ℤ_, _<ℤ_}
 use Rattle.arithmetic.specs.Counting.{count, sum}
 use Rattle.arithmetic.specs.Naturals.{down, up}
-use Rattle.arithmetic.proofs.Bools.{both-ways, and-left, and-right, and-intro, of-T}
+use Rattle.arithmetic.proofs.Bools.{both-ways, clash, and-left, and-right, and-intro, or-left, or-right, of-T}
 use Rattle.arithmetic.proofs.Counting.{count-ext}
 use Rattle.arithmetic.proofs.Shift.{down-up, le-down, lt-down}
 use Rattle.model.specs.declared.Settings.{Settings}
-use Rattle.model.specs.Ensemble.{Reading, missing, present, Readings, isPresent, ticks}
-use Rattle.model.specs.RoundSheet.{trimmedMidpoint, trimmedMean}
-use Rattle.model.specs.Steps.{rank, isKept, keptCount, ranked, trimmedRound, trimmedValue, trimmedMidpointOf, trimmedMeanOf, mean}
-use Rattle.round_laws.specs.Naturals.{rank-nat, kept-nat, ranked-nat}
+use Rattle.model.specs.Ensemble.{Readings, ticks, maxSpread}
+use Rattle.model.specs.RoundSheet.{fca, cca, trimmedMidpoint, trimmedMean, trims, average, settingsAt, entryCount, entryAt}
+use Rattle.model.specs.AnswerSheet.{answerLength}
+use Rattle.model.specs.Steps.{rank, isKept, keptCount, ranked, trimmedRound, trimmedValue, trimmedMidpointOf, trimmedMeanOf}
+use Rattle.model.specs.Steps.{readingsOf, roundAt}
+use Rattle.model.specs.Planner.{Plan, advance}
+use Rattle.model.specs.Refusals.{firstOf, unfitSpread, badSpread, badSpreadNumber, settleChecks, plannerChecks, stepChecks, targetChecks}
+use Rattle.model.specs.Calls.{granted, settleSpread, plan, step, Target}
+use Rattle.refusal_laws.proofs.Checks.{none-left, when-none}
+use Rattle.refusal_laws.proofs.Limits.{planner-limits, planned-spans}
+use Rattle.sheet_laws.proofs.Outcomes.{granted-none}
+use Rattle.decision_laws.proofs.Rows.{read-direct}
+use Rattle.planner_laws.proofs.Checks.{none-may-start, none-may-step}
+use Rattle.planner_laws.proofs.Steps.{plan-granted-check}
+use Rattle.planner_laws.proofs.Verdicts.{granted-check}
+use Rattle.round_laws.proofs.Local.{round-by-trimming}
+use Rattle.value_laws.proofs.Sheets.{settled-limits, settled-fit}
+use Rattle.round_laws.specs.Naturals.{rank-nat, kept-nat}
 use Rattle.round_laws.proofs.Represent.{reach, reach-above, raise}
 use Rattle.value_laws.proofs.Order.{rank-less, rank-small, lower-precedes, equal-precedes, between, ranks-between, kept-many, ranked-found}
 use Rattle.value_laws.proofs.Trimmed.{rank-down, kept-down, ranked-down}
 use Rattle.demand_1_2.specs.Demand2.{NearestWhole}
 use Rattle.demand_1_2.proofs.Represented.{le-of-down}
 use Rattle.demand_1_2.proofs.Roundings.{mean-nearest-whole}
-use Rattle.trim_guarantee.specs.Rounds.{Ordered, Dropped, KeptReading, Extremes, Values, Shows, Trimmed, TrimmedRounds}
+use Rattle.trim_guarantee.specs.Rounds.{Ordered, Dropped, KeptReading, Extremes, Values, Shows, Trimmed, TrimmedRounds, TrimmedSheets}
 
 module _ (n m : ℕ) (v : Readings) (few : 2 * m < n) where
   -- the readings as naturals
@@ -66,6 +83,7 @@ module _ (n m : ℕ) (v : Readings) (few : 2 * m < n) where
       }
 
   dropped : Dropped n m v
+  unfolding isKept
   dropped =
       record {
         lowest =
@@ -77,8 +95,18 @@ module _ (n m : ℕ) (v : Readings) (few : 2 * m < n) where
             ∙ ranks-between x n (n - m) n (omega arith) (omega arith)
             ∙ omega arith;
         left = count-ext (isKept n m v) (kept-nat n m x) n (kept-down k n v x moved m) ∙ kept-many x n m (omega arith);
+        others = other;
       }
     where
+      other : (r : ℕ) → isKept n m v r ≡ false → (rank n v r < m) ⊎ (n - m ≤ rank n v r)
+      other r e =
+          ⊎-elim
+          (λ t.
+          inr
+          (ltb-false (rank n v r) (n - m) (ap (λ (b : Bool). b && ltb (rank n v r) (n - m)) (sym t) ∙ e)))
+          (λ f. inl (leb-false m (rank n v r) f))
+          (both-ways (leb m (rank n v r)))
+
       from-none : (r : ℕ) → r < n → ltb (rank n v r) m ≡ between x n 0 m r
       from-none r l =
           ap (λ (a : ℕ). ltb a m) (rank-is r l)
@@ -215,3 +243,77 @@ trimmed-rounds c v few =
       values = values c v few;
       shows = shows c v few;
     }
+
+-- ---- of sheets, and of plans
+
+module _ (c : Settings) (trimmed : trims (c .rule) ≡ true) where
+  above-cca : cca < c .rule
+  above-cca = ltb-true cca (c .rule) trimmed
+
+  not-cca : eqb (c .rule) cca ≡ false
+  not-cca = ne-eqb (c .rule) cca (λ e. other (c .rule) above-cca e)
+    where
+      other : (rule : ℕ) → cca < rule → rule ≡ cca → ⊥
+      other rule l e = omega arith
+
+  not-fca : eqb (c .rule) fca ≡ false
+  not-fca = ne-eqb (c .rule) fca (λ e. other (c .rule) above-cca e)
+    where
+      other : (rule : ℕ) → cca < rule → rule ≡ fca → ⊥
+      other rule l e = omega arith
+
+  one-each : entryCount c ≡ c .n
+  unfolding entryCount
+  one-each = rw not-cca
+
+  as-sent : (entry : Readings) → readingsOf c entry ≡ entry
+  as-sent entry = fun-ext (λ r. read-direct c entry r not-cca)
+
+sheet-round :
+    (s : List ℕ) (D : ℕ) → trims (settingsAt s .rule) ≡ true
+    → roundAt s D ≡ trimmedRound (settingsAt s) (entryAt s (settingsAt s .n))
+unfolding roundAt
+sheet-round s D t =
+    let c = settingsAt s in
+    round-by-trimming c D (readingsOf c (entryAt s (entryCount c))) t
+    ∙ ap (trimmedRound c) (as-sent c t (entryAt s (entryCount c)) ∙ ap (entryAt s) (one-each c t))
+
+-- what is granted passed checks 4 and 16
+asked-of :
+    (s : List ℕ) (D : ℕ) (answer : List ℕ) (size : ℕ) → trims (settingsAt s .rule) ≡ true
+    → settleSpread s D answer .verdict ≡ granted size
+    → (settingsAt s .rule ≤ trimmedMean) × (settingsAt s .estimator ≡ average) × (D ≡ 0)
+unfolding settleSpread badSpread
+asked-of s D answer size t ok =
+    let c = settingsAt s in
+    let passes = granted-none (firstOf (settleChecks s D (length answer))) (answerLength (c .n)) size ok in
+    let known = settled-limits s D answer passes .method in
+    let none = ltb-false average (c .estimator) (rw t at (or-right (ltb trimmedMean (c .rule)) _ known)) in
+    let unfit = when-none (unfitSpread (c .rule) D) badSpreadNumber (settled-fit s D answer passes) in
+    let wide = or-right (ltb maxSpread D) (ltb 0 D && not (eqb (c .rule) fca)) unfit in
+    let spread : (ltb 0 D && true) ≡ false = rw (not-fca c t) at wide in (
+      ltb-false trimmedMean (c .rule) (or-left (ltb trimmedMean (c .rule)) _ known),
+      omega arith,
+      no-spread D spread,
+    )
+  where
+    no-spread : (D : ℕ) → (ltb 0 D && true) ≡ false → D ≡ 0
+    no-spread D e =
+        ⊎-elim (λ a. clash (ap (λ (b : Bool). b && true) a) e) (λ a. omega (arith, ltb-false 0 D a)) (both-ways (ltb 0 D))
+
+pub trimmed-sheets : TrimmedSheets
+unfolding plan step
+trimmed-sheets =
+    record {
+      round = sheet-round;
+      asked = asked-of;
+      unplanned = λ c κ k p ok. planned-spans c (none-may-start c κ k (plan-granted-check c κ k (sym ok) .0) .passes);
+      unstepped = λ p q ok.
+          planned-spans (p .settings)
+          (none-may-step p (granted-check (advance p) (firstOf (stepChecks p)) (sym ok) .0) .passes);
+      uncounted = λ c κ target k t. planned-spans c (planner-limits c (target-settings c κ target (t .0)));
+    }
+  where
+    target-settings :
+        (c : Settings) (κ target : ℕ) → firstOf (targetChecks c κ target) ≡ none → firstOf (plannerChecks c) ≡ none
+    target-settings c κ target e = unfold targetChecks in none-left (plannerChecks c) _ e

@@ -8,7 +8,11 @@
 --   KeptReading, Extremes    a reading that is left; the lowest and the highest of those
 --   Shows            what the answer sheet shows
 --   TrimmedRounds    all of it, of all settings and readings
+--   TrimmedSheets    what a sheet by rules 2 and 3 is settled to, and what is asked of it; no plan has them. The theorem
+--                    is `trimmed-sheets`
 use mathlib.Core.Bool.{true, false, cond}
+use mathlib.Core.List.{List}
+use mathlib.Core.Logic.{_⊎_}
 use mathlib.Core.Path.{_≡_}
 use Prim.Native.Nat.{ℕ, _*_, _-_, _≤_, _<_}
 use lib.Dec.{leb, ltb}
@@ -17,8 +21,10 @@ use lib.Signed.{_≤ℤ_, _<ℤ_}
 use Rattle.arithmetic.specs.Counting.{count, sum}
 use Rattle.model.specs.declared.Settings.{Settings}
 use Rattle.model.specs.Ensemble.{missing, present, Readings, ticks}
-use Rattle.model.specs.RoundSheet.{trimmedMidpoint, trimmedMean}
-use Rattle.model.specs.Steps.{rank, isKept, keptCount, trimmedRound}
+use Rattle.model.specs.RoundSheet.{trimmedMidpoint, trimmedMean, trims, average, settingsAt, entryAt}
+use Rattle.model.specs.Steps.{rank, isKept, keptCount, trimmedRound, roundAt}
+use Rattle.model.specs.Planner.{Plan}
+use Rattle.model.specs.Calls.{granted, settleSpread, plan, step, Target}
 use Rattle.demand_1_2.specs.Demand2.{NearestWhole}
 
 -- a lower reading comes before a higher one. "A missing reading counts as 0; equal readings order by cabinet number"
@@ -31,6 +37,7 @@ pub record Dropped (n m : ℕ) (v : Readings) : Type 0 where
   pub lowest : count (λ r. ltb (rank n v r) m) n ≡ m
   pub highest : count (λ r. leb (n - m) (rank n v r)) n ≡ m
   pub left : count (isKept n m v) n ≡ keptCount n m
+  pub others : (r : ℕ) → isKept n m v r ≡ false → (rank n v r < m) ⊎ (n - m ≤ rank n v r)
 
 -- z is what counts for a cabinet that is left
 pub record KeptReading (n m : ℕ) (v : Readings) (z : ℤ) : Type 0 where
@@ -81,3 +88,20 @@ pub record Trimmed (c : Settings) (v : Readings) : Type 0 where
 
 abbrev pub TrimmedRounds : Type 0
 TrimmedRounds = (c : Settings) (v : Readings) → 2 * c .m < c .n → Trimmed c v
+
+-- ---- Of sheets, and of plans
+
+pub record TrimmedSheets : Type 0 where
+  -- a sheet by rule 2 or 3 settles to that round of the readings as they were sent
+  pub round :
+      (s : List ℕ) (D : ℕ) → trims (settingsAt s .rule) ≡ true
+      → roundAt s D ≡ trimmedRound (settingsAt s) (entryAt s (settingsAt s .n))
+  -- "The estimator byte must be 0, else refusal 4"; "D must be 0 here, else refusal 16"
+  pub asked :
+      (s : List ℕ) (D : ℕ) (answer : List ℕ) (size : ℕ) → trims (settingsAt s .rule) ≡ true
+      → settleSpread s D answer .verdict ≡ granted size
+      → (settingsAt s .rule ≤ trimmedMean) × (settingsAt s .estimator ≡ average) × (D ≡ 0)
+  -- "The planner still refuses these rules under 4": nothing by them is granted
+  pub unplanned : (c : Settings) (κ k : ℕ) (p : Plan) → plan c κ k ≡ granted p → trims (c .rule) ≡ false
+  pub unstepped : (p q : Plan) → step p ≡ granted q → trims (p .settings .rule) ≡ false
+  pub uncounted : (c : Settings) (κ target k : ℕ) → Target c κ target (granted k) → trims (c .rule) ≡ false

@@ -1,11 +1,10 @@
 -- The loops over the readings: their numbers are filled in; those that are dropped are struck out; what has a rank from low
 -- to high is summed.
 -- Assumes nothing.
-use mathlib.Core.Bool.{Bool, true, false, cond, _&&_}
 use mathlib.Core.List.{List}
 use mathlib.Core.Path.{_≡_, refl, sym, ap, ap₂, _∙_}
-use Prim.Native.Nat.{ℕ, zero, suc, _+_, _*_, _-_, _≤_, _<_}
-use native.Mathlib.Nat.{le-refl, add-mul, one-mul}
+use Prim.Native.Nat.{ℕ, _+_, _*_, _-_, _≤_, _<_}
+use native.Mathlib.Nat.{le-refl, mul-le-mul, add-mul, one-mul}
 use native.Mathlib.Omega.{arith}
 use lib.ListN.{length, getD, set}
 use Rattle.arithmetic.specs.Naturals.{total}
@@ -13,8 +12,9 @@ use Rattle.arithmetic.specs.Words.{twoTo32}
 use Rattle.arithmetic.specs.Writing.{table, overwrite}
 use Rattle.arithmetic.proofs.Writing.{length-table, overwrite-whole}
 use Rattle.loop_laws.proofs.Loops.{Storing, storing-none, storing-long, storing-behind, storing-next, storing-all, total-next}
-use Rattle.held.specs.Held.{valueAt, keptMark}
-use Rattle.trimming.specs.Values.{numberIn, between, sumBetween}
+use Rattle.model.specs.Ensemble.{maxCabinets}
+use Rattle.held.specs.Held.{keptMark}
+use Rattle.trimming.specs.Values.{numberIn, between}
 
 -- ---- filling in the numbers, r of them
 
@@ -58,38 +58,36 @@ module _ (ranks marks₀ : List ℕ) (m : ℕ) where
         storing-all struck (length marks₀) marks₀ marks r (so-far .stores) (omega (arith, marks-long))
         ∙ overwrite-whole (table struck (length marks₀)) marks₀ (omega arith)
 
--- ---- summing, r of them
+-- ---- summing, r of n, each at most b
 
-pub record Summing (ranks numbers : List ℕ) (low high sum r : ℕ) : Type 0 where
-  pub upTo : r ≤ length numbers
-  pub exact : sum ≡ sumBetween ranks numbers low high r
-  pub small : sum ≤ r * (twoTo32 - 1)
+pub record Summing (f : ℕ → ℕ) (b n sum r : ℕ) : Type 0 where
+  pub upTo : r ≤ n
+  pub exact : sum ≡ total f r
+  pub small : sum ≤ r * b
 
-module _ (ranks numbers : List ℕ) (low high : ℕ) where
-  pub summing-none : Summing ranks numbers low high 0 0
-  unfolding sumBetween total
+module _ (f : ℕ → ℕ) (b n : ℕ) where
+  pub summing-none : Summing f b n 0 0
+  unfolding total
   summing-none = record { upTo = omega arith; exact = refl; small = omega arith }
 
   pub summing-one :
-      (sum r x : ℕ) → Summing ranks numbers low high sum r → r < length numbers
-      → (x ≡ cond (between ranks low high r) (valueAt numbers r) 0) × (x < twoTo32)
-      → Summing ranks numbers low high (sum + x) (r + 1)
-  unfolding sumBetween
-  summing-one sum r x k here p =
-      let small = k .small in
-      let most = add-mul r 1 (twoTo32 - 1) in
-      let one = one-mul (twoTo32 - 1) in
+      (sum r x : ℕ) → Summing f b n sum r → r < n → x ≡ f r → x ≤ b → Summing f b n (sum + x) (r + 1)
+  summing-one sum r x k here e most =
       record {
         upTo = omega arith;
-        exact =
-            ap₂ (λ (a b : ℕ). a + b) (k .exact) (p .0)
-            ∙ sym (total-next (λ i. cond (between ranks low high i) (valueAt numbers i) 0) r);
-        small = omega (arith, p .1);
+        exact = ap₂ (λ (i j : ℕ). i + j) (k .exact) e ∙ sym (total-next f r);
+        small = omega (arith, k .small, add-mul r 1 b, one-mul b);
       }
 
-  pub all-summed :
-      (sum r : ℕ) → Summing ranks numbers low high sum r → length numbers ≤ r
-      → (sum ≡ sumBetween ranks numbers low high (length numbers)) × (sum ≤ length numbers * (twoTo32 - 1))
+  pub all-summed : (sum r : ℕ) → Summing f b n sum r → n ≤ r → sum ≡ total f n
   all-summed sum r k ended =
-      let all : r ≡ length numbers = omega (arith, k .upTo) in
-      rw (← all) (k .exact, k .small)
+      let all : r ≡ n = omega (arith, k .upTo) in
+      rw (← all) (k .exact)
+
+  -- what is added fits 64 bits
+  pub sum-fits : (sum r x : ℕ) → Summing f b n sum r → r < n → n ≤ maxCabinets → x ≤ b → b < twoTo32 + twoTo32
+      → sum + x < 18446744073709551616
+  sum-fits sum r x k here few most small =
+      let c = mul-le-mul (k .upTo) (le-refl b) in
+      let d = mul-le-mul few (le-refl b) in
+      omega (arith, k .small)

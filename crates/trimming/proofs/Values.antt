@@ -5,15 +5,15 @@ use mathlib.Core.List.{List}
 use mathlib.Core.Path.{_≡_, refl, sym, ap, ap₂, _∙_}
 use Prim.Native.Nat.{ℕ, suc, _+_, _*_, _-_, _≤_, _<_}
 use native.Mathlib.Omega.{arith}
-use borrow.Author.Tests.{lt-ltb, le-ltb, le-leb, leb-true, leb-false, ltb-true, eq-eqb, eqb-true}
+use borrow.Author.Tests.{le-ltb, leb-false}
 use lib.Dec.{leb, ltb, eqb}
 use lib.ListN.{length, getD}
 use Rattle.arithmetic.specs.Naturals.{down, up, total}
 use Rattle.arithmetic.specs.Words.{twoTo31, twoTo32}
 use Rattle.arithmetic.specs.Writing.{table, overwrite}
-use Rattle.arithmetic.proofs.Bools.{and-left, and-right, and-intro, or-left, or-right, iff-eq}
+use Rattle.arithmetic.proofs.Bools.{or-left, or-right}
 use Rattle.arithmetic.proofs.Shift.{pos-down, down-cong, up-down}
-use Rattle.arithmetic.proofs.Sums.{total-ext}
+use Rattle.arithmetic.proofs.Sums.{total-ext, total-add}
 use Rattle.arithmetic.proofs.Writing.{length-table, getD-table, table-ext, overwrite-whole}
 use Rattle.model.specs.Ensemble.{ticks, maxCabinets}
 use Rattle.model.specs.Steps.{isKept}
@@ -26,7 +26,7 @@ use Rattle.held.proofs.Held.{moved-back, mark-kept, fit-few, fit-even}
 use Rattle.estimates.specs.Values.{nothing}
 use Rattle.estimates.specs.declared.Estimated.{Estimated}
 use Rattle.ranks.specs.Ranks.{rankAt, ranksOf}
-use Rattle.trimming.specs.Values.{trimmedIn, unfitFor, trimmedOf, markAt, trimmedMarks, numberIn, between, sumBetween, Ranked}
+use Rattle.trimming.specs.Values.{trimmedIn, unfitFor, trimmedOf, markAt, trimmedMarks, numberIn, between, sumBetween, endAt, sumEnds, Ranked}
 use Rattle.trimming.proofs.Loops.{struck}
 
 module _ (numbers ranks : List ℕ) (m : ℕ) (few : 2 * m < length numbers) (ranked : Ranked numbers ranks)
@@ -36,29 +36,6 @@ module _ (numbers ranks : List ℕ) (m : ℕ) (few : 2 * m < length numbers) (ra
 
   abbrev x : ℕ → ℕ
   x = valueAt numbers
-
-  -- one rank
-  one-rank : (h k : ℕ) → (leb h k && ltb k (h + 1)) ≡ eqb k h
-  one-rank h k =
-      iff-eq (leb h k && ltb k (h + 1)) (eqb k h)
-      (λ e.
-      eq-eqb k h
-      (omega (
-        arith,
-        leb-true h k (and-left (leb h k) (ltb k (h + 1)) e),
-        ltb-true k (h + 1) (and-right (leb h k) (ltb k (h + 1)) e),
-      )))
-      (λ e.
-      let same = eqb-true k h e in
-      and-intro (le-leb h k (omega arith)) (lt-ltb k (h + 1) (omega arith)))
-
-  pub sum-of-rank : (h : ℕ) → sumBetween ranks numbers h (h + 1) (length numbers) ≡ ranked-nat (length numbers) (valueAt numbers) h
-  unfolding sumBetween ranked-nat
-  sum-of-rank h =
-      total-ext (λ r. cond (between ranks h (h + 1) r) (x r) 0) (λ r. cond (eqb (rank-nat n x r) h) (x r) 0) n
-      (λ r l.
-      ap (λ (b : Bool). cond b (x r) 0)
-      (ap (λ (k : ℕ). leb h k && ltb k (h + 1)) (ranked r l) ∙ one-rank h (rank-nat n x r)))
 
   pub sum-of-kept :
       sumBetween ranks numbers m (length numbers - m) (length numbers) ≡ kept-total (length numbers) m (valueAt numbers)
@@ -73,18 +50,26 @@ module _ (numbers ranks : List ℕ) (m : ℕ) (few : 2 * m < length numbers) (ra
       ranked-within n m few x 0 (twoTo32 - 1) (λ r _ _. record { low = omega arith; high = omega (arith, small r) }) h low
       high .high
 
+  -- the sum of two ranks
+  sum-of-ranks :
+      (low high : ℕ) → sumEnds ranks numbers low high n ≡ ranked-nat n x low + ranked-nat n x high
+  unfolding sumEnds ranked-nat
+  sum-of-ranks low high =
+      total-ext (endAt ranks numbers low high)
+      (λ r. cond (eqb (rank-nat n x r) low) (x r) 0 + cond (eqb (rank-nat n x r) high) (x r) 0)
+      n
+      (λ r l. ap (λ (k : ℕ). cond (eqb k low) (x r) 0 + cond (eqb k high) (x r) 0) (ranked r l))
+      ∙ total-add (λ r. cond (eqb (rank-nat n x r) low) (x r) 0) (λ r. cond (eqb (rank-nat n x r) high) (x r) 0) n
+
   pub ends-small :
-      (low high : ℕ) → low ≡ sumBetween ranks numbers m (m + 1) (length numbers)
-      → high ≡ sumBetween ranks numbers (length numbers - m - 1) (length numbers - m) (length numbers)
-      → (low ≡ ranked-nat (length numbers) (valueAt numbers) m)
-      × (high ≡ ranked-nat (length numbers) (valueAt numbers) (length numbers - m - 1))
-      × (low + high ≤ 2 * (twoTo32 - 1))
-  ends-small low high e f =
-      let next : n - m ≡ n - m - 1 + 1 = omega arith in
-      let a = e ∙ sum-of-rank m in
-      let b = f ∙ ap (λ (h : ℕ). sumBetween ranks numbers (n - m - 1) h n) next ∙ sum-of-rank (n - m - 1) in (
+      (s : ℕ) → s ≡ sumEnds ranks numbers m (length numbers - m - 1) (length numbers)
+      → (s
+      ≡ ranked-nat (length numbers) (valueAt numbers) m
+      + ranked-nat (length numbers) (valueAt numbers) (length numbers - m - 1))
+      × (s ≤ 2 * (twoTo32 - 1))
+  ends-small s e =
+      let a = e ∙ sum-of-ranks m (n - m - 1) in (
         a,
-        b,
         omega (arith, ranked-small m (omega arith) (omega arith), ranked-small (n - m - 1) (omega arith) (omega arith)),
       )
 

@@ -7,12 +7,13 @@
 -- What the functions below it give:
 --   numberIn                 the number by which a reading is ordered
 --   between, sumBetween      an index has a rank from low to high; the sum of the numbers that have
+--   endAt, sumEnds           the sum of the numbers that have the ranks low and high
 --   Ranked                   a list has the ranks of a list of numbers
 use mathlib.Core.Bool.{Bool, cond, _&&_, _||_}
 use mathlib.Core.List.{List}
 use mathlib.Core.Path.{_≡_}
-use Prim.Native.Nat.{ℕ, _*_, _<_}
-use lib.Dec.{leb, ltb}
+use Prim.Native.Nat.{ℕ, _+_, _*_, _<_}
+use lib.Dec.{leb, ltb, eqb}
 use lib.ListN.{length, getD}
 use Rattle.arithmetic.specs.Naturals.{up, total}
 use Rattle.arithmetic.specs.Writing.{table}
@@ -59,6 +60,13 @@ between ranks low high r = leb low (getD ranks r 0) && ltb (getD ranks r 0) high
 
 unfoldable pub sumBetween : List ℕ → List ℕ → ℕ → ℕ → ℕ → ℕ
 sumBetween ranks numbers low high n = total (λ r. cond (between ranks low high r) (valueAt numbers r) 0) n
+
+abbrev pub endAt : List ℕ → List ℕ → ℕ → ℕ → ℕ → ℕ
+endAt ranks numbers low high r =
+    cond (eqb (getD ranks r 0) low) (valueAt numbers r) 0 + cond (eqb (getD ranks r 0) high) (valueAt numbers r) 0
+
+unfoldable pub sumEnds : List ℕ → List ℕ → ℕ → ℕ → ℕ → ℕ
+sumEnds ranks numbers low high n = total (endAt ranks numbers low high) n
 
 -- the ranks are those of the numbers
 abbrev pub Ranked : List ℕ → List ℕ → Type 0

@@ -13,7 +13,7 @@ ghost use Rattle.model.specs.Ensemble.{maxCabinets};
 ghost use Rattle.round_laws.specs.Naturals.{mean-nat, trimmed-nat};
 ghost use Rattle.held.specs.Held.{keptMark, valueAt};
 ghost use Rattle.trimming.specs.Values.{trimmedIn, unfitFor, trimmedOf, markAt, trimmedMarks};
-ghost use Rattle.trimming.specs.Values.{numberIn, between, sumBetween, Ranked};
+ghost use Rattle.trimming.specs.Values.{numberIn, between, sumBetween, sumEnds, Ranked};
 use estimates::Estimated;
 use held::PRESENT;
 use model::TRIMMED_MIDPOINT;
@@ -56,13 +56,28 @@ fn sum_between(numbers: &[u32], ranks: &[u8], low: usize, high: usize) -> u64
     requires { ⌜ (length (now numbers) ≤ maxCabinets) × (length (now ranks) ≡ length (now numbers)) ⌝ }
     ensures { λ s. ⌜
         s ≡ sumBetween (now (ranks .entry)) (now (numbers .entry)) low high (length (now (numbers .entry))) ⌝ }
-    ensures { λ s. ⌜ s ≤ length (now (numbers .entry)) * (twoTo32 - 1) ⌝ }
 {
     let mut sum: u64 = 0;
     let mut r = 0;
     'numbers: while r < numbers.len() {
         let rank = ranks[r] as usize;
         sum += part(numbers[r], (low <= rank) & (rank < high));
+        r += 1;
+    }
+    sum
+}
+
+// The sum of the two numbers that have the ranks low and high, which may be the same.
+fn sum_ends(numbers: &[u32], ranks: &[u8], low: usize, high: usize) -> u64
+    requires { ⌜ (length (now numbers) ≤ maxCabinets) × (length (now ranks) ≡ length (now numbers)) ⌝ }
+    ensures { λ s. ⌜
+        s ≡ sumEnds (now (ranks .entry)) (now (numbers .entry)) low high (length (now (numbers .entry))) ⌝ }
+{
+    let mut sum: u64 = 0;
+    let mut r = 0;
+    'numbers: while r < numbers.len() {
+        let rank = ranks[r] as usize;
+        sum += part(numbers[r], rank == low) + part(numbers[r], rank == high);
         r += 1;
     }
     sum
@@ -108,9 +123,8 @@ fn settle_value(rule: u8, numbers: &[u32], ranks: &[u8], m: usize) -> u32
 {
     let end = numbers.len() - m;
     if rule == TRIMMED_MIDPOINT {
-        let low = sum_between(numbers, ranks, m, m + 1);
-        let high = sum_between(numbers, ranks, end - 1, end);
-        nearest(2, low + high)
+        let sum = sum_ends(numbers, ranks, m, end - 1);
+        nearest(2, sum)
     } else {
         let sum = sum_between(numbers, ranks, m, end);
         nearest((end - m) as u64, sum)

@@ -22,7 +22,7 @@ use Rattle.model.specs.Ensemble.{Reading, missing, present, Readings, ticks, qu
 use Rattle.model.specs.RoundSheet.{cca, byte, settingsAt, entryCount, markAt, bitsAt, entryAt, headerSize}
 use Rattle.model.specs.Steps.{same, decisionAt, decidedReading, decideRow, readingsOf, roundAt}
 use Rattle.model.specs.AnswerSheet.{answerLength}
-use Rattle.model.specs.Refusals.{Check, orNext, firstOf, spreadChecks, entryChecks, settleChecks, noRoom, tooManyFaults}
+use Rattle.model.specs.Refusals.{Check, orNext, firstOf, spreadChecks, entryChecks, settleChecks, noRoom, tooManyFaults, badSpread}
 use Rattle.model.specs.Refusals.{tooManyFaultsNumber}
 use Rattle.sheet_laws.proofs.Words.{word-fits}
 use Rattle.refusal_laws.proofs.Checks.{next-none-left, next-none-right, when-none}
@@ -76,8 +76,12 @@ module _ (s : List ℕ) (D : ℕ) (answer : List ℕ) (granted : firstOf (settle
   pub settled-limits : Limits (settingsAt s)
   settled-limits = limits (settingsAt s) (settings-passed s (spread-passed s D passed .1))
 
+  -- check 16
+  pub settled-fit : badSpread (settingsAt s) D ≡ none
+  settled-fit = spread-passed s D passed .0
+
   pub settled-spread : D ≤ maxSpread
-  settled-spread = spread-most (settingsAt s) D (spread-passed s D passed .0)
+  settled-spread = spread-most (settingsAt s) D settled-fit
 
   few-faults : faults ≡ none
   few-faults =

@@ -3,7 +3,7 @@
 use borrow.Author.Needs.{needs}
 use native.Mathlib.Omega.{arith}
 use mathlib.Core.Path.{_≡_, sym, ap, ap₂, _∙_}
-use Prim.Native.Nat.{ℕ, _+_, _*_, _-_, _<_}
+use Prim.Native.Nat.{ℕ, _*_, _-_, _<_}
 use lib.ListN.{length}
 use Rattle.arithmetic.specs.Words.{twoTo32}
 use Rattle.held.specs.Held.{valueAt}
@@ -16,34 +16,24 @@ use Rattle.trimming.proofs.settle_value.Tie as tie
 sub-end : tie.Need-sub-end
 sub-end c = search needs
 
-add-sum-between : tie.Need-add-sum-between
-add-sum-between c = search needs
+sub-sum-ends : tie.Need-sub-sum-ends
+sub-sum-ends c = search needs
 
-sum-between-requires : tie.Need-sum-between-requires
-sum-between-requires c κs = search needs
-
-sub-sum-between : tie.Need-sub-sum-between
-sub-sum-between c = search needs
-
-sum-between-requires-2 : tie.Need-sum-between-requires-2
-sum-between-requires-2 c κs = search needs
-
-add-nearest : tie.Need-add-nearest
-add-nearest c = search needs
+sum-ends-requires : tie.Need-sum-ends-requires
+sum-ends-requires c κs = search needs
 
 nearest-requires : tie.Need-nearest-requires
 nearest-requires c κs =
-    let known = c .before .before .before .before in
+    let known = c .before .before .before in
     let a = known .before .args in
     let p = known .before .pre .1 in
     let e =
     ends-small (a .numbers .now) (a .ranks .now) (a .m) (p .0) (p .1) (λ i. known .shared-slice-known .given i .fits)
-    (c .before .sum-between .result) (c .sum-between2 .result) (c .before .sum-between .ensures .0)
-    (c .sum-between2 .ensures .0) in
-    (omega arith, omega arith, e .2)
+    (c .sum-ends .result) (c .sum-ends .ensures) in
+    (omega arith, omega arith, e .1)
 
-sum-between-requires-3 : tie.Need-sum-between-requires-3
-sum-between-requires-3 c κs = search needs
+sum-between-requires : tie.Need-sum-between-requires
+sum-between-requires c κs = search needs
 
 sub-nearest : tie.Need-sub-nearest
 sub-nearest c = search needs
@@ -54,7 +44,7 @@ nearest-requires-2 c κs =
     let a = known .before .args in
     let p = known .before .pre .1 in
     let few = p .0 in
-    let sum = c .sum-between3 .ensures .0 ∙ sum-of-kept (a .numbers .now) (a .ranks .now) (a .m) few (p .1) small in
+    let sum = c .sum-between .ensures ∙ sum-of-kept (a .numbers .now) (a .ranks .now) (a .m) few (p .1) small in
     let twice : length (a .numbers .now) - a .m - a .m ≡ length (a .numbers .now) - 2 * a .m = omega arith in (
       omega arith,
       omega (arith, known .before .pre .0 .0),
@@ -66,18 +56,17 @@ nearest-requires-2 c κs =
 
 returns : tie.Need-returns
 returns c =
-    let known = c .before .before .before .before .before in
+    let known = c .before .before .before .before in
     let a = known .before .args in
     let p = known .before .pre .1 in
     let e =
     ends-small (a .numbers .now) (a .ranks .now) (a .m) (p .0) (p .1) (λ i. known .shared-slice-known .given i .fits)
-    (c .before .before .sum-between .result) (c .before .sum-between2 .result)
-    (c .before .before .sum-between .ensures .0) (c .before .sum-between2 .ensures .0) in
+    (c .before .sum-ends .result) (c .before .sum-ends .ensures) in
     c .nearest .ensures
-    ∙ ap₂ (λ (s t : ℕ). mean-nat 2 (s + t)) (e .0) (e .1)
+    ∙ ap (mean-nat 2) (e .0)
     ∙ sym
     (trimmed-midpoint (a .rule) (length (a .numbers .now)) (a .m) (valueAt (a .numbers .now))
-    (c .before .before .before .if1 .taken))
+    (c .before .before .if1 .taken))
 
 returns-2 : tie.Need-returns-2
 returns-2 c =
@@ -86,7 +75,7 @@ returns-2 c =
     let p = known .before .pre .1 in
     let few = p .0 in
     let sum =
-    c .before .sum-between3 .ensures .0
+    c .before .sum-between .ensures
     ∙ sum-of-kept (a .numbers .now) (a .ranks .now) (a .m) few (p .1) (λ i. known .shared-slice-known .given i .fits) in
     let twice : length (a .numbers .now) - a .m - a .m ≡ length (a .numbers .now) - 2 * a .m = omega arith in
     c .nearest2 .ensures
@@ -98,13 +87,10 @@ settle-value-spec =
     tie.close
     (tie.spec
     sub-end
-    add-sum-between
-    sum-between-requires
-    sub-sum-between
-    sum-between-requires-2
-    add-nearest
+    sub-sum-ends
+    sum-ends-requires
     nearest-requires
-    sum-between-requires-3
+    sum-between-requires
     sub-nearest
     nearest-requires-2
     returns

@@ -2,14 +2,19 @@
 -- Assumes nothing.
 use borrow.Author.Needs.{needs}
 use native.Mathlib.Omega.{arith}
+use mathlib.Core.Bool.{cond}
 use Prim.Native.Nat.{_-_}
 use lib.ListN.{length}
-use Rattle.trimming.proofs.Loops.{Summing, summing-none, summing-one, all-summed}
+use Rattle.arithmetic.specs.Words.{twoTo32}
+use Rattle.held.specs.Held.{valueAt}
+use Rattle.trimming.specs.Values.{between, sumBetween}
+use Rattle.trimming.proofs.Loops.{Summing, summing-none, summing-one, sum-fits, all-summed}
 use Rattle.trimming.proofs.sum_between.Statement.{statement}
 use Rattle.trimming.proofs.sum_between.Tie as tie
 
 abbrev Inv-numbers : tie.InvT-numbers
-Inv-numbers numbers ranks low high sum₀ r₀ sum r = Summing ranks numbers low high sum r
+Inv-numbers numbers ranks low high sum₀ r₀ sum r =
+    Summing (λ i. cond (between ranks low high i) (valueAt numbers i) 0) (twoTo32 - 1) (length numbers) sum r
 
 abbrev μ-numbers : tie.MeasureT-numbers
 μ-numbers numbers ranks low high sum₀ r₀ sum r = length numbers - r
@@ -17,7 +22,8 @@ abbrev μ-numbers : tie.MeasureT-numbers
 numbers-holds : tie.Need-numbers-holds Inv-numbers μ-numbers
 numbers-holds c =
     let a = c .before .before .args in
-    summing-none (a .ranks .now) (a .numbers .now) (a .low) (a .high)
+    summing-none (λ i. cond (between (a .ranks .now) (a .low) (a .high) i) (valueAt (a .numbers .now) i) 0) (twoTo32 - 1)
+    (length (a .numbers .now))
 
 shared-slice-read-rank : tie.Need-shared-slice-read-rank Inv-numbers μ-numbers
 shared-slice-read-rank c =
@@ -40,13 +46,14 @@ part-requires c κs = search needs
 
 add-sum : tie.Need-add-sum Inv-numbers μ-numbers
 add-sum c =
-    let at = c .before .before .before .before in
+    let test = c .before .before .before in
+    let at = test .before in
+    let a = at .before .before .before .args in
     omega (
       arith,
-      at .numbers .inv .small,
-      at .numbers .inv .upTo,
-      at .before .before .before .pre .0,
-      c .part .ensures .1,
+      sum-fits (λ i. cond (between (a .ranks .now) (a .low) (a .high) i) (valueAt (a .numbers .now) i) 0) (twoTo32 - 1)
+          (length (a .numbers .now)) (at .numbers .sum) (at .numbers .r) (c .part .result) (at .numbers .inv)
+          (test .numbers-test .taken) (at .before .before .before .pre .0) (omega (arith, c .part .ensures .1)) (omega arith),
     )
 
 add-r : tie.Need-add-r Inv-numbers μ-numbers
@@ -60,15 +67,17 @@ numbers-again c =
     let test = c .before .before .before in
     let at = test .before in
     let a = at .before .before .before .args in
-    summing-one (a .ranks .now) (a .numbers .now) (a .low) (a .high) (at .numbers .sum) (at .numbers .r)
-    (c .part .result) (at .numbers .inv) (test .numbers-test .taken) (c .part .ensures)
+    summing-one (λ i. cond (between (a .ranks .now) (a .low) (a .high) i) (valueAt (a .numbers .now) i) 0) (twoTo32 - 1)
+    (length (a .numbers .now)) (at .numbers .sum) (at .numbers .r) (c .part .result) (at .numbers .inv)
+    (test .numbers-test .taken) (c .part .ensures .0) (omega (arith, c .part .ensures .1))
 
 returns : tie.Need-returns Inv-numbers μ-numbers
+unfolding sumBetween
 returns c =
     let at = c .before in
     let a = at .before .before .before .args in
-    all-summed (a .ranks .now) (a .numbers .now) (a .low) (a .high) (at .numbers .sum) (at .numbers .r)
-    (at .numbers .inv) (c .numbers-test .left)
+    all-summed (λ i. cond (between (a .ranks .now) (a .low) (a .high) i) (valueAt (a .numbers .now) i) 0) (twoTo32 - 1)
+    (length (a .numbers .now)) (at .numbers .sum) (at .numbers .r) (at .numbers .inv) (c .numbers-test .left)
 
 pub sum-between-spec : {M : Type 1} → statement M
 sum-between-spec =

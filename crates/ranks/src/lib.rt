@@ -1,6 +1,6 @@
 // How many come before each of at most 64 numbers, ordered by value and then by place. Of each number those below it
-// are counted, in one pass without a branch. Two numbers have equally many below them only where they are equal, so what
-// was seen before says which of equal ones it is.
+// are counted, in one pass without a branch. Two numbers have equally many below them only where they are equal, so
+// what was seen before says which of equal ones it is.
 ghost use mathlib.Core.Path.{_≡_};
 ghost use Prim.Native.Nat.{_≤_};
 ghost use lib.Dec.{ltb};

@@ -1,5 +1,5 @@
--- Sheets that reach the limits of Guarantee.antt, so that neither can be a tick tighter for every window and spread, and
--- that pass the paper's: the counterexample of document 02, "Paper 2. Cable runs differ". What they settle to is
+-- Sheets that reach the limits of Guarantee.antt, so that neither can be a tick tighter for every window and spread,
+-- and that pass the paper's: the counterexample of document 02, "Paper 2. Cable runs differ". What they settle to is
 -- computed from their bytes. The theorems are in proofs/Computed.antt.
 --
 --   wired              N 4, m 1, FCA with median, and a window

@@ -7,8 +7,8 @@
 -- rules themselves do not look at the window.
 -- `sound` may be any set of sound cabinets; t counts all others, so that a sound one whose reading is missing can count
 -- as faulty.
--- What is not claimed: anything where the faulty and the missing are more than m together, where two sound cabinets read
--- a sound one differently, or of a second round: no plan has these rules.
+-- What is not claimed: anything where the faulty and the missing are more than m together, where two sound cabinets
+-- read a sound one differently, or of a second round: no plan has these rules.
 --
 --   Reads, Alike          what is asked of one cabinet's sheet, and of two (Cabinet, reading, settled, newValue and bad
 --                         are those of crates/spread_guarantee/specs/Guarantee.antt, with the spread 0)

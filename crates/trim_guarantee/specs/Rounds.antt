@@ -8,8 +8,8 @@
 --   KeptReading, Extremes    a reading that is left; the lowest and the highest of those
 --   Shows            what the answer sheet shows
 --   TrimmedRounds    all of it, of all settings and readings
---   TrimmedSheets    what a sheet by rules 2 and 3 is settled to, and what is asked of it; no plan has them. The theorem
---                    is `trimmed-sheets`
+--   TrimmedSheets    what a sheet by rules 2 and 3 is settled to, and what is asked of it; no plan has them. The
+--                    theorem is `trimmed-sheets`
 use mathlib.Core.Bool.{true, false, cond}
 use mathlib.Core.List.{List}
 use mathlib.Core.Logic.{_⊎_}

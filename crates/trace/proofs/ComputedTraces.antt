@@ -10,7 +10,7 @@ use Rattle.trace.specs.Replay.{badTrace, strangeRole, soundSent, badRole
 use Rattle.trace.specs.Replay.{traceChecks, replayChecks, valuesTo, replayTo, replay}
 use Rattle.trace.specs.Traces.{zeros, lent17, onceTrace, directTraceWith, directTrace, toldTrace, silentTrace}
 use Rattle.trace.specs.Traces.{spokenTrace, strangeTrace, longTrace, headTrace, firstTraceWith, firstTrace}
-use Rattle.trace.specs.Traces.{farTrace, TracesComputed}
+use Rattle.trace.specs.Traces.{farTrace, trimmedTrace, TracesComputed}
 use Rattle.run.proofs.Computed.{computed}
 
 -- a replay, with all that it computes by
@@ -30,6 +30,9 @@ traces-computed =
       strange = unfold replayed strangeTrace in refl;
       long = unfold replayed longTrace in refl;
       head = unfold replayed headTrace in refl;
+      trimmedMidpoints = unfold replayed trimmedTrace in refl;
+      trimmedMeans = unfold replayed trimmedTrace in refl;
+      trimmedMedians = unfold replayed trimmedTrace in refl;
       first = unfold replayed firstTraceWith firstTrace in refl;
       far = unfold replayed firstTraceWith farTrace in refl;
     }

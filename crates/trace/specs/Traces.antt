@@ -9,7 +9,8 @@ use mathlib.Core.List.{List, [], _∷_, _++_}
 use mathlib.Core.Path.{_≡_}
 use Prim.Native.Nat.{ℕ}
 use lib.ListN.{replicate}
-use Rattle.model.specs.Refusals.{refusal, badTraceNumber, badRolesNumber, runStoppedNumber}
+use Rattle.model.specs.RoundSheet.{trimmedMidpoint, trimmedMean, average, median}
+use Rattle.model.specs.Refusals.{refusal, badMethodNumber, badTraceNumber, badRolesNumber, runStoppedNumber}
 use Rattle.model.specs.Calls.{Verdict, granted, refused, Outcome}
 use Rattle.trace.specs.Replay.{replay}
 
@@ -87,6 +88,10 @@ longTrace = (1 ∷ 0 ∷ 0 ∷ 0 ∷ 0 ∷ 0 ∷ 0 ∷ 0 ∷ 33 ∷ 1 ∷ []) ++
 unfoldable pub headTrace : List ℕ
 headTrace = 4 ∷ 1 ∷ 0 ∷ 2 ∷ 100 ∷ 0 ∷ 0 ∷ 0 ∷ []
 
+-- N 1, m 0, no round, by a rule and with an estimator
+unfoldable pub trimmedTrace : ℕ → ℕ → List ℕ
+trimmedTrace rule estimator = (1 ∷ 0 ∷ rule ∷ estimator ∷ 0 ∷ 0 ∷ 0 ∷ 0 ∷ 0 ∷ 1 ∷ []) ++ zeros 4
+
 -- ---- No round
 
 -- N 4, m 1, δ 100; cabinets 0, 1, 2 are sound and read 1, -1 and 0; cabinet 3 reads 256. Left open is its role
@@ -128,6 +133,10 @@ pub record TracesComputed : Type 0 where
   -- lent nothing: 13 comes before 7
   pub long : replay longTrace [] .verdict ≡ refused (refusal badTraceNumber 0)
   pub head : replay headTrace [] .verdict ≡ refused (refusal badTraceNumber 0)
+  -- document 02, request 5: rules 2 and 3 are rules of a sheet, so 13 is said of them, and 4 of their estimator
+  pub trimmedMidpoints : replay (trimmedTrace trimmedMidpoint average) [] .verdict ≡ refused (refusal badTraceNumber 0)
+  pub trimmedMeans : replay (trimmedTrace trimmedMean average) [] .verdict ≡ refused (refusal badTraceNumber 0)
+  pub trimmedMedians : replay (trimmedTrace trimmedMean median) [] .verdict ≡ refused (refusal badMethodNumber 0)
   pub first :
       replay firstTrace lent17
       ≡ outcome (granted 16)

@@ -16,9 +16,10 @@ use Rattle.arithmetic.proofs.Shift.{pos-down, down-cong, up-down}
 use Rattle.arithmetic.proofs.Sums.{total-ext, total-add}
 use Rattle.arithmetic.proofs.Writing.{length-table, getD-table, table-ext, overwrite-whole}
 use Rattle.model.specs.Ensemble.{ticks, maxCabinets}
+use Rattle.model.specs.RoundSheet.{trimmedMidpoint}
 use Rattle.model.specs.Steps.{isKept}
 use Rattle.round_laws.proofs.Shifted.{even-31}
-use Rattle.round_laws.specs.Naturals.{shift, rank-nat, kept-nat, ranked-nat, kept-total, trimmed-nat}
+use Rattle.round_laws.specs.Naturals.{shift, rank-nat, kept-nat, ranked-nat, kept-total, mean-nat, trimmed-nat}
 use Rattle.value_laws.proofs.Estimates.{Between}
 use Rattle.value_laws.proofs.Trimmed.{kept-down, trimmed-down, kept-total-within, ranked-within}
 use Rattle.held.specs.Held.{presentIn, valueAt, keptMark, readingsIn, unfit}
@@ -26,8 +27,8 @@ use Rattle.held.proofs.Held.{moved-back, mark-kept, fit-few, fit-even}
 use Rattle.estimates.specs.Values.{nothing}
 use Rattle.estimates.specs.declared.Estimated.{Estimated}
 use Rattle.ranks.specs.Ranks.{rankAt, ranksOf}
-use Rattle.trimming.specs.Values.{trimmedIn, unfitFor, trimmedOf, markAt, trimmedMarks, numberIn, between, sumBetween, endAt, sumEnds, Ranked}
-use Rattle.trimming.proofs.Loops.{struck}
+use Rattle.trimming.specs.Values.{trimmedIn, unfitFor, trimmedOf, markAt, trimmedMarks, numberIn, between, Ranked, Sums}
+use Rattle.trimming.proofs.Loops.{struck, keptAt, endAt}
 
 module _ (numbers ranks : List ℕ) (m : ℕ) (few : 2 * m < length numbers) (ranked : Ranked numbers ranks)
     (small : (i : ℕ) → valueAt numbers i < twoTo32) where
@@ -37,9 +38,8 @@ module _ (numbers ranks : List ℕ) (m : ℕ) (few : 2 * m < length numbers) (ra
   abbrev x : ℕ → ℕ
   x = valueAt numbers
 
-  pub sum-of-kept :
-      sumBetween ranks numbers m (length numbers - m) (length numbers) ≡ kept-total (length numbers) m (valueAt numbers)
-  unfolding sumBetween kept-total kept-nat
+  sum-of-kept : total (keptAt ranks numbers m (length numbers - m)) n ≡ kept-total n m x
+  unfolding kept-total kept-nat
   sum-of-kept =
       total-ext (λ r. cond (between ranks m (n - m) r) (x r) 0) (λ r. cond (kept-nat n m x r) (x r) 0) n
       (λ r l. ap (λ (k : ℕ). cond (leb m k && ltb k (n - m)) (x r) 0) (ranked r l))
@@ -51,9 +51,8 @@ module _ (numbers ranks : List ℕ) (m : ℕ) (few : 2 * m < length numbers) (ra
       high .high
 
   -- the sum of two ranks
-  sum-of-ranks :
-      (low high : ℕ) → sumEnds ranks numbers low high n ≡ ranked-nat n x low + ranked-nat n x high
-  unfolding sumEnds ranked-nat
+  sum-of-ranks : (low high : ℕ) → total (endAt ranks numbers low high) n ≡ ranked-nat n x low + ranked-nat n x high
+  unfolding ranked-nat
   sum-of-ranks low high =
       total-ext (endAt ranks numbers low high)
       (λ r. cond (eqb (rank-nat n x r) low) (x r) 0 + cond (eqb (rank-nat n x r) high) (x r) 0)
@@ -61,22 +60,23 @@ module _ (numbers ranks : List ℕ) (m : ℕ) (few : 2 * m < length numbers) (ra
       (λ r l. ap (λ (k : ℕ). cond (eqb k low) (x r) 0 + cond (eqb k high) (x r) 0) (ranked r l))
       ∙ total-add (λ r. cond (eqb (rank-nat n x r) low) (x r) 0) (λ r. cond (eqb (rank-nat n x r) high) (x r) 0) n
 
-  pub ends-small :
-      (s : ℕ) → s ≡ sumEnds ranks numbers m (length numbers - m - 1) (length numbers)
-      → (s
-      ≡ ranked-nat (length numbers) (valueAt numbers) m
-      + ranked-nat (length numbers) (valueAt numbers) (length numbers - m - 1))
-      × (s ≤ 2 * (twoTo32 - 1))
-  ends-small s e =
-      let a = e ∙ sum-of-ranks m (n - m - 1) in (
-        a,
-        omega (arith, ranked-small m (omega arith) (omega arith), ranked-small (n - m - 1) (omega arith) (omega arith)),
-      )
-
-  pub sum-small : kept-total (length numbers) m (valueAt numbers) ≤ (length numbers - 2 * m) * (twoTo32 - 1)
-  sum-small =
-      kept-total-within n m few x 0 (twoTo32 - 1) (λ r _ _. record { low = omega arith; high = omega (arith, small r) })
-      .high
+  -- the two sums of the loop are those that the rules ask for
+  pub sums-are :
+      (sum ends : ℕ) → sum ≡ total (keptAt ranks numbers m (length numbers - m)) (length numbers)
+      → ends ≡ total (endAt ranks numbers m (length numbers - m - 1)) (length numbers)
+      → Sums sum ends numbers m
+  sums-are sum ends e f =
+      record {
+        sumIs = e ∙ sum-of-kept;
+        endsAre = f ∙ sum-of-ranks m (n - m - 1);
+        sumSmall =
+            rw (e ∙ sum-of-kept)
+            (kept-total-within n m few x 0 (twoTo32 - 1)
+            (λ r _ _. record { low = omega arith; high = omega (arith, small r) }) .high);
+        endsSmall =
+            rw (f ∙ sum-of-ranks m (n - m - 1))
+            (omega (arith, ranked-small m (omega arith) (omega arith), ranked-small (n - m - 1) (omega arith) (omega arith)));
+      }
 
 -- ---- readings that two lists hold
 
@@ -98,7 +98,7 @@ module _ (marks values : List ℕ) where
       (trimmed-down twoTo31 (length marks) (readingsIn marks values) (numberIn marks values) (λ r _. number-ticks r) m left
       even-31 rule)
 
-  module _ (m : ℕ) (few : length marks ≤ maxCabinets) (left : 2 * m < length marks) (numbers₀ ranks₀ numbers ranks : List ℕ)
+  module _ (m : ℕ) (few : length marks ≤ maxCabinets) (rest : 2 * m < length marks) (numbers₀ ranks₀ numbers ranks : List ℕ)
       (numbers-even : length numbers₀ ≡ length marks) (ranks-even : length ranks₀ ≡ length marks)
       (filled : numbers ≡ overwrite (table (numberIn marks values) (length marks)) numbers₀)
       (ordered : ranks ≡ ranksOf numbers ranks₀) where
@@ -139,14 +139,16 @@ module _ (marks values : List ℕ) where
     moved r l = number-ticks r ∙ ap (down twoTo31) (sym (number-at r l))
 
     pub value-is :
-        (rule v : ℕ) → v ≡ trimmed-nat rule (length numbers) m (valueAt numbers)
+        (rule v sum ends left : ℕ) → left ≡ length numbers - 2 * m → Sums sum ends numbers m
+        → v ≡ cond (eqb rule trimmedMidpoint) (mean-nat 2 ends) (mean-nat left sum)
         → v ≡ up twoTo31 (trimmedIn rule m marks values .value)
-    value-is rule v e =
+    unfolding trimmed-nat
+    value-is rule v sum ends left l s e =
         e
-        ∙ ap (λ (k : ℕ). trimmed-nat rule k m (valueAt numbers)) numbers-long
+        ∙ rw (l, s .sumIs, s .endsAre, numbers-long) refl
         ∙ sym (up-down twoTo31 (trimmed-nat rule (length marks) m (valueAt numbers)))
         ∙ ap (up twoTo31)
-        (sym (trimmed-down twoTo31 (length marks) (readingsIn marks values) (valueAt numbers) moved m left even-31 rule))
+        (sym (trimmed-down twoTo31 (length marks) (readingsIn marks values) (valueAt numbers) moved m rest even-31 rule))
 
     -- the mark of a reading, by its rank
     mark-is : (r : ℕ) → r < length marks → struck ranks marks m r ≡ markAt m marks values r

@@ -6,20 +6,20 @@
 --   markAt, trimmedMarks     the mark of a reading; the marks that `trim` leaves
 -- What the functions below it give:
 --   numberIn                 the number by which a reading is ordered
---   between, sumBetween      an index has a rank from low to high; the sum of the numbers that have
---   endAt, sumEnds           the sum of the numbers that have the ranks low and high
+--   between                  an index has a rank from low to high
 --   Ranked                   a list has the ranks of a list of numbers
+--   Sums                     the sums of the numbers that are left, and of the lowest and the highest of them
 use mathlib.Core.Bool.{Bool, cond, _&&_, _||_}
 use mathlib.Core.List.{List}
 use mathlib.Core.Path.{_≡_}
-use Prim.Native.Nat.{ℕ, _+_, _*_, _<_}
-use lib.Dec.{leb, ltb, eqb}
+use Prim.Native.Nat.{ℕ, _+_, _*_, _-_, _≤_, _<_}
+use lib.Dec.{leb, ltb}
 use lib.ListN.{length, getD}
-use Rattle.arithmetic.specs.Naturals.{up, total}
+use Rattle.arithmetic.specs.Naturals.{up}
 use Rattle.arithmetic.specs.Writing.{table}
-use Rattle.arithmetic.specs.Words.{twoTo31}
+use Rattle.arithmetic.specs.Words.{twoTo31, twoTo32}
 use Rattle.model.specs.Steps.{Round, markOf, isKept, keptCount, trimmedValue, trimmedWith}
-use Rattle.round_laws.specs.Naturals.{rank-nat}
+use Rattle.round_laws.specs.Naturals.{rank-nat, ranked-nat, kept-total}
 use Rattle.held.specs.Held.{readingsIn, presentIn, valueAt, unfit}
 use Rattle.estimates.specs.Values.{nothing}
 use Rattle.estimates.specs.declared.Estimated.{Estimated}
@@ -58,16 +58,16 @@ numberIn marks values r = cond (presentIn marks r) (valueAt values r) twoTo31
 abbrev pub between : List ℕ → ℕ → ℕ → ℕ → Bool
 between ranks low high r = leb low (getD ranks r 0) && ltb (getD ranks r 0) high
 
-unfoldable pub sumBetween : List ℕ → List ℕ → ℕ → ℕ → ℕ → ℕ
-sumBetween ranks numbers low high n = total (λ r. cond (between ranks low high r) (valueAt numbers r) 0) n
-
-abbrev pub endAt : List ℕ → List ℕ → ℕ → ℕ → ℕ → ℕ
-endAt ranks numbers low high r =
-    cond (eqb (getD ranks r 0) low) (valueAt numbers r) 0 + cond (eqb (getD ranks r 0) high) (valueAt numbers r) 0
-
-unfoldable pub sumEnds : List ℕ → List ℕ → ℕ → ℕ → ℕ → ℕ
-sumEnds ranks numbers low high n = total (endAt ranks numbers low high) n
-
 -- the ranks are those of the numbers
 abbrev pub Ranked : List ℕ → List ℕ → Type 0
 Ranked numbers ranks = (r : ℕ) → r < length numbers → getD ranks r 0 ≡ rank-nat (length numbers) (valueAt numbers) r
+
+-- the sum of the numbers that are left, and that of the lowest and the highest of them: each of these is below 2^32
+pub record Sums (sum ends : ℕ) (numbers : List ℕ) (m : ℕ) : Type 0 where
+  pub sumIs : sum ≡ kept-total (length numbers) m (valueAt numbers)
+  pub endsAre :
+      ends
+      ≡ ranked-nat (length numbers) (valueAt numbers) m
+      + ranked-nat (length numbers) (valueAt numbers) (length numbers - m - 1)
+  pub sumSmall : sum ≤ (length numbers - 2 * m) * (twoTo32 - 1)
+  pub endsSmall : ends ≤ 2 * (twoTo32 - 1)

@@ -10,13 +10,20 @@ ghost use Rattle.arithmetic.specs.Naturals.{up};
 ghost use Rattle.arithmetic.specs.Words.{twoTo31, twoTo32};
 ghost use Rattle.arithmetic.specs.Writing.{table, overwrite};
 ghost use Rattle.model.specs.Ensemble.{maxCabinets};
-ghost use Rattle.round_laws.specs.Naturals.{mean-nat, trimmed-nat};
-ghost use Rattle.held.specs.Held.{keptMark, valueAt};
+ghost use Rattle.round_laws.specs.Naturals.{mean-nat};
+ghost use Rattle.model.specs.RoundSheet.{trimmedMidpoint};
+ghost use Rattle.held.specs.Held.{keptMark};
 ghost use Rattle.trimming.specs.Values.{trimmedIn, unfitFor, trimmedOf, markAt, trimmedMarks};
-ghost use Rattle.trimming.specs.Values.{numberIn, between, sumBetween, sumEnds, Ranked};
+ghost use Rattle.trimming.specs.Values.{numberIn, between, Ranked, Sums};
 use estimates::Estimated;
 use held::PRESENT;
 use model::TRIMMED_MIDPOINT;
+
+// The sum of the numbers that are left, and that of the lowest and the highest of them.
+struct Kept {
+    sum: u64,
+    ends: u64,
+}
 
 // What stands for 0 ticks.
 const ZERO: u32 = 2_147_483_648;
@@ -51,41 +58,14 @@ fn part(number: u32, taken: bool) -> u64
     if taken { number as u64 } else { 0 }
 }
 
-// The sum of the numbers that have a rank from low to high.
-fn sum_between(numbers: &[u32], ranks: &[u8], low: usize, high: usize) -> u64
-    requires { ⌜ (length (now numbers) ≤ maxCabinets) × (length (now ranks) ≡ length (now numbers)) ⌝ }
-    ensures { λ s. ⌜
-        s ≡ sumBetween (now (ranks .entry)) (now (numbers .entry)) low high (length (now (numbers .entry))) ⌝ }
-{
-    let mut sum: u64 = 0;
-    let mut r = 0;
-    'numbers: while r < numbers.len() {
-        let rank = ranks[r] as usize;
-        sum += part(numbers[r], (low <= rank) & (rank < high));
-        r += 1;
-    }
-    sum
-}
-
-// The sum of the two numbers that have the ranks low and high, which may be the same.
-fn sum_ends(numbers: &[u32], ranks: &[u8], low: usize, high: usize) -> u64
-    requires { ⌜ (length (now numbers) ≤ maxCabinets) × (length (now ranks) ≡ length (now numbers)) ⌝ }
-    ensures { λ s. ⌜
-        s ≡ sumEnds (now (ranks .entry)) (now (numbers .entry)) low high (length (now (numbers .entry))) ⌝ }
-{
-    let mut sum: u64 = 0;
-    let mut r = 0;
-    'numbers: while r < numbers.len() {
-        let rank = ranks[r] as usize;
-        sum += part(numbers[r], rank == low) + part(numbers[r], rank == high);
-        r += 1;
-    }
-    sum
-}
-
-// Strikes out the readings that are dropped, by their ranks.
-fn strike(marks: &mut [u8], ranks: &[u8], m: usize)
-    requires { ⌜ (m ≤ length (now marks)) × (length (now ranks) ≡ length (now marks)) ⌝ }
+// Drops the readings that have one of the m lowest ranks, or one of the m highest: strikes them out, and sums the
+// numbers that are left, and the lowest and the highest of these.
+fn drop_ends(marks: &mut [u8], numbers: &[u32], ranks: &[u8], m: usize) -> Kept
+    requires { ⌜ (length (now marks) ≤ maxCabinets) × (2 * m < length (now marks)) ⌝ }
+    requires { ⌜
+        (length (now numbers) ≡ length (now marks)) × (length (now ranks) ≡ length (now marks)) ⌝ }
+    requires { ⌜ Ranked (now numbers) (now ranks) ⌝ }
+    ensures { λ k. ⌜ Sums (k .sum) (k .ends) (now (numbers .entry)) m ⌝ }
     ensures { λ _. ⌜
         now (marks .exit)
         ≡ table
@@ -94,12 +74,20 @@ fn strike(marks: &mut [u8], ranks: &[u8], m: usize)
         (length (now (marks .entry))) ⌝ }
 {
     let end = marks.len() - m;
+    let last = end - 1;
+    let mut sum: u64 = 0;
+    let mut ends: u64 = 0;
     let mut r = 0;
     'readings: while r < marks.len() {
         let rank = ranks[r] as usize;
-        marks[r] = held::kept_mark((m <= rank) & (rank < end), marks[r]);
+        let number = numbers[r];
+        let kept = (m <= rank) & (rank < end);
+        marks[r] = held::kept_mark(kept, marks[r]);
+        sum += part(number, kept);
+        ends += part(number, rank == m) + part(number, rank == last);
         r += 1;
     }
+    Kept { sum, ends }
 }
 
 // The mean of n numbers below 2^32 with this sum, to the nearest, a half going to the even neighbour: the whole part,
@@ -113,21 +101,16 @@ fn nearest(n: u64, sum: u64) -> u32
     (whole + (up as u64)) as u32
 }
 
-// The new value of numbers and their ranks, of which the m lowest and the m highest are dropped: by the one rule half
-// the sum of the lowest and the highest that are left, by the other the mean of those left.
-fn settle_value(rule: u8, numbers: &[u32], ranks: &[u8], m: usize) -> u32
-    requires { ⌜ (length (now numbers) ≤ maxCabinets) × (length (now ranks) ≡ length (now numbers)) ⌝ }
-    requires { ⌜ (2 * m < length (now numbers)) × Ranked (now numbers) (now ranks) ⌝ }
-    ensures { λ r. ⌜
-        r ≡ trimmed-nat rule (length (now (numbers .entry))) m (valueAt (now (numbers .entry))) ⌝ }
+// The new value by the sums: by the one rule half that of the lowest and the highest left, by the other the mean of
+// those left.
+fn settle_value(rule: u8, sum: u64, ends: u64, left: u64) -> u32
+    requires { ⌜ (0 < left) × (left ≤ maxCabinets) × (sum ≤ left * (twoTo32 - 1)) × (ends ≤ 2 * (twoTo32 - 1)) ⌝ }
+    ensures { λ r. ⌜ r ≡ cond (eqb rule trimmedMidpoint) (mean-nat 2 ends) (mean-nat left sum) ⌝ }
 {
-    let end = numbers.len() - m;
     if rule == TRIMMED_MIDPOINT {
-        let sum = sum_ends(numbers, ranks, m, end - 1);
-        nearest(2, sum)
+        nearest(2, ends)
     } else {
-        let sum = sum_between(numbers, ranks, m, end);
-        nearest((end - m) as u64, sum)
+        nearest(left, sum)
     }
 }
 
@@ -153,8 +136,9 @@ fn trim_in(
 {
     fill(&*marks, values, &mut *numbers);
     ranks::rank(&*numbers, &mut *ranks);
-    strike(marks, &*ranks, m);
-    settle_value(rule, &*numbers, &*ranks, m)
+    let left = (numbers.len() - 2 * m) as u64;
+    let kept = drop_ends(marks, &*numbers, &*ranks, m);
+    settle_value(rule, kept.sum, kept.ends, left)
 }
 
 // Whether the lists are not those of at most 64 readings, or none is left.

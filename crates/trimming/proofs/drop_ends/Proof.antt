@@ -1,0 +1,195 @@
+-- `trimming::drop_ends` meets its contract: the readings passed are struck out in their place, and summed; the measure is
+-- the readings left.
+-- Assumes nothing.
+use borrow.Author.Needs.{needs}
+use native.Mathlib.Omega.{arith}
+use Prim.Native.Nat.{_*_, _-_, _≤_}
+use lib.ListN.{length}
+use Rattle.arithmetic.specs.Words.{twoTo32}
+use Rattle.trimming.proofs.Loops.{keptAt, endAt, Dropping, dropping-none, dropping-one, sums-fit, marks-long, all-struck}
+use Rattle.trimming.proofs.Loops.{all-summed}
+use Rattle.trimming.proofs.Values.{sums-are}
+use Rattle.trimming.proofs.drop_ends.Statement.{statement}
+use Rattle.trimming.proofs.drop_ends.Tie as tie
+
+abbrev Inv-readings : tie.InvT-readings
+Inv-readings marks₀ numbers ranks m end last sum₀ ends₀ r₀ marks sum ends r =
+    Dropping ranks numbers marks₀ m marks sum ends r
+
+abbrev μ-readings : tie.MeasureT-readings
+μ-readings marks₀ numbers ranks m end last sum₀ ends₀ r₀ marks sum ends r = length marks₀ - r
+
+sub-end : tie.Need-sub-end Inv-readings μ-readings
+sub-end c = omega (arith, c .before .before .before .pre .0 .1)
+
+sub-last : tie.Need-sub-last Inv-readings μ-readings
+sub-last c = omega (arith, c .before .before .before .pre .0 .1)
+
+readings-holds : tie.Need-readings-holds Inv-readings μ-readings
+readings-holds c =
+    let start = c .before .before .before in
+    let a = start .args in
+    dropping-none (a .ranks .now) (a .numbers .now) (a .marks .now) (a .m) (start .pre .1 .0 .1)
+
+shared-slice-read-rank : tie.Need-shared-slice-read-rank Inv-readings μ-readings
+shared-slice-read-rank c =
+    let at = c .before .before in
+    let start = at .before .before .before .before in
+    let a = start .args in
+    let k = at .readings in
+    omega (
+      arith,
+      start .pre .1 .0 .1,
+      c .before .readings-test .taken,
+      marks-long (a .ranks .now) (a .marks .now) (a .m) (k .marks) (k .r) (k .inv .strikes),
+    )
+
+cast-rank : tie.Need-cast-rank Inv-readings μ-readings
+cast-rank c =
+    let at = c .before .before in
+    omega (arith, at .before .shared-slice-known2 .given (at .readings .r) .fits)
+
+mul-number : tie.Need-mul-number Inv-readings μ-readings
+mul-number c = search needs
+
+shared-slice-read-number : tie.Need-shared-slice-read-number Inv-readings μ-readings
+shared-slice-read-number c =
+    let at = c .before .before .before in
+    let start = at .before .before .before .before in
+    let a = start .args in
+    let k = at .readings in
+    omega (
+      arith,
+      start .pre .1 .0 .0,
+      c .before .before .readings-test .taken,
+      marks-long (a .ranks .now) (a .marks .now) (a .m) (k .marks) (k .r) (k .inv .strikes),
+    )
+
+slice-read-kept-mark : tie.Need-slice-read-kept-mark Inv-readings μ-readings
+slice-read-kept-mark c = search needs
+
+kept-mark-requires : tie.Need-kept-mark-requires Inv-readings μ-readings
+kept-mark-requires c κs = search needs
+
+slice-write-marks : tie.Need-slice-write-marks Inv-readings μ-readings
+slice-write-marks c = search needs
+
+part-requires : tie.Need-part-requires Inv-readings μ-readings
+part-requires c κs = search needs
+
+add-sum : tie.Need-add-sum Inv-readings μ-readings
+add-sum c =
+    let at = c .before .before .before .before .before .before in
+    let start = at .before .before .before .before in
+    let a = start .args in
+    let k = at .readings in
+    omega (
+      arith,
+      sums-fit (a .ranks .now) (a .numbers .now) (a .marks .now) (a .m) (k .marks) (k .sum) (k .ends) (k .r) (k .inv)
+          (c .before .before .before .before .before .readings-test .taken) (c .part .result) 0 0 (start .pre .0 .0) (c .part .ensures .1) (omega arith) (omega arith)
+          .0,
+    )
+
+part-requires-2 : tie.Need-part-requires-2 Inv-readings μ-readings
+part-requires-2 c κs = search needs
+
+part-requires-3 : tie.Need-part-requires-3 Inv-readings μ-readings
+part-requires-3 c κs = search needs
+
+add-ends : tie.Need-add-ends Inv-readings μ-readings
+add-ends c = omega (arith, c .before .part2 .ensures .1, c .part3 .ensures .1)
+
+add-ends-2 : tie.Need-add-ends-2 Inv-readings μ-readings
+add-ends-2 c =
+    let at = c .before .before .before .before .before .before .before .before in
+    let start = at .before .before .before .before in
+    let a = start .args in
+    let k = at .readings in
+    omega (
+      arith,
+      sums-fit (a .ranks .now) (a .numbers .now) (a .marks .now) (a .m) (k .marks) (k .sum) (k .ends) (k .r) (k .inv)
+          (c .before .before .before .before .before .before .before .readings-test .taken) 0 (c .before .part2 .result) (c .part3 .result) (start .pre .0 .0) (omega arith)
+          (c .before .part2 .ensures .1) (c .part3 .ensures .1)
+          .1,
+    )
+
+add-r : tie.Need-add-r Inv-readings μ-readings
+add-r c = search needs
+
+readings-less : tie.Need-readings-less Inv-readings μ-readings
+readings-less c =
+    let test = c .before .before .before .before .before .before .before in
+    let at = test .before in
+    let a = at .before .before .before .before .args in
+    let k = at .readings in
+    omega (
+      arith,
+      test .readings-test .taken,
+      marks-long (a .ranks .now) (a .marks .now) (a .m) (k .marks) (k .r) (k .inv .strikes),
+    )
+
+readings-again : tie.Need-readings-again Inv-readings μ-readings
+readings-again c =
+    let test = c .before .before .before .before .before .before .before in
+    let at = test .before in
+    let a = at .before .before .before .before .args in
+    let k = at .readings in
+    let marked = c .before .before .before .kept-mark in
+    let summed = c .before .before .part in
+    dropping-one (a .ranks .now) (a .numbers .now) (a .marks .now) (a .m) (k .marks) (k .sum) (k .ends) (k .r) (k .inv)
+    (test .readings-test .taken) (marked .result) (summed .result) (c .before .part2 .result) (c .part3 .result)
+    (marked .ensures) (summed .ensures) (c .before .part2 .ensures) (c .part3 .ensures)
+
+same-length : tie.Need-same-length Inv-readings μ-readings
+same-length c =
+    let at = c .before in
+    let a = at .before .before .before .before .args in
+    let k = at .readings in
+    marks-long (a .ranks .now) (a .marks .now) (a .m) (k .marks) (k .r) (k .inv .strikes)
+
+returns : tie.Need-returns Inv-readings μ-readings
+returns c =
+    let at = c .before in
+    let start = at .before .before .before .before in
+    let a = start .args in
+    let k = at .readings in
+    let n = length (a .marks .now) in
+    let even = start .pre .1 .0 .0 in
+    let ended : n ≤ k .r =
+    omega (arith, c .readings-test .left, marks-long (a .ranks .now) (a .marks .now) (a .m) (k .marks) (k .r) (k .inv .strikes)) in (
+      sums-are (a .numbers .now) (a .ranks .now) (a .m) (omega (arith, start .pre .0 .1)) (start .pre .1 .1)
+          (λ i. at .before .before .shared-slice-known .given i .fits) (k .sum) (k .ends)
+          (rw even (all-summed (keptAt (a .ranks .now) (a .numbers .now) (a .m) (n - a .m)) (twoTo32 - 1) n (k .sum) (k .r) (k .inv .sums) ended))
+          (rw even
+          (all-summed (endAt (a .ranks .now) (a .numbers .now) (a .m) (n - a .m - 1)) (2 * (twoTo32 - 1)) n (k .ends) (k .r)
+          (k .inv .sumsEnds) ended)),
+      all-struck (a .ranks .now) (a .marks .now) (a .m) (k .marks) (k .r) (k .inv .strikes) (c .readings-test .left),
+    )
+
+pub drop-ends-spec : {M : Type 1} → statement M
+drop-ends-spec =
+    tie.close
+    (tie.spec
+    Inv-readings
+    μ-readings
+    sub-end
+    sub-last
+    readings-holds
+    shared-slice-read-rank
+    cast-rank
+    mul-number
+    shared-slice-read-number
+    slice-read-kept-mark
+    kept-mark-requires
+    slice-write-marks
+    part-requires
+    add-sum
+    part-requires-2
+    part-requires-3
+    add-ends
+    add-ends-2
+    add-r
+    readings-less
+    readings-again
+    same-length
+    returns)

@@ -2,8 +2,9 @@
 -- values (Rattle.held.specs.Held).
 --   readingAt         document 01's reading of a cabinet: as sent for FCA, as decided for CCA
 --   fitting           sizes that fit
+--   fittingDirect     sizes that fit, of a sheet whose readings are as sent
 --   marksReceived, valuesReceived    the lists that `receive` leaves
-use mathlib.Core.Bool.{Bool, cond, _&&_}
+use mathlib.Core.Bool.{Bool, cond, not, _&&_}
 use mathlib.Core.List.{List}
 use Prim.Native.Nat.{ℕ, _*_}
 use lib.Dec.{leb, ltb, eqb}
@@ -11,7 +12,7 @@ use lib.ListN.{length}
 use Rattle.arithmetic.specs.Writing.{table}
 use Rattle.model.specs.declared.Settings.{Settings}
 use Rattle.model.specs.Ensemble.{Reading, maxCabinets}
-use Rattle.model.specs.RoundSheet.{entryCount, entryAt, sheetLength}
+use Rattle.model.specs.RoundSheet.{cca, entryCount, entryAt, sheetLength}
 use Rattle.model.specs.Steps.{readingsOf}
 use Rattle.held.specs.Held.{heldMark, heldValue}
 
@@ -24,6 +25,9 @@ unfoldable pub fitting : Settings → ℕ → ℕ → ℕ → Bool
 fitting c sheet marks values =
     (leb (c .n) maxCabinets && ltb (2 * c .m) (c .n))
     && (eqb sheet (sheetLength c) && (eqb marks (c .n) && eqb values (c .n)))
+
+abbrev pub fittingDirect : Settings → ℕ → ℕ → ℕ → Bool
+fittingDirect c sheet marks values = not (eqb (c .rule) cca) && fitting c sheet marks values
 
 -- the lists are filled where the sizes fit, and else are as they were
 unfoldable pub marksReceived : List ℕ → Settings → List ℕ → List ℕ → List ℕ

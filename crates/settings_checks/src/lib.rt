@@ -2,12 +2,11 @@
 // refused, those of a sheet and those of a plan.
 ghost use mathlib.Core.Path.{_≡_};
 ghost use mathlib.Core.Bool.{cond, _||_};
-ghost use mathlib.Core.List.{[], _∷_};
-ghost use Prim.Native.Nat.{_+_, _*_};
+ghost use Prim.Native.Nat.{ℕ, _+_, _*_};
 ghost use lib.Dec.{eqb, ltb};
 ghost use Rattle.model.specs.RoundSheet.{trims, average, midpoint};
-ghost use Rattle.model.specs.Refusals.{firstOf, refuseIf, badMethodNumber, badCabinets, badFaults, badWindow};
-ghost use Rattle.model.specs.Refusals.{settingsChecks, plannerChecks, unknownMethod, unplannedMethod, unfitSpread};
+ghost use Rattle.model.specs.Refusals.{firstOf, settingsChecks, plannerChecks, unknownMethod, unplannedMethod};
+ghost use Rattle.model.specs.Refusals.{unfitSpread};
 ghost use Rattle.model.specs.Ensemble.{maxCabinets, maxWindow};
 ghost use Rattle.refusals.specs.Answers.{checkOf};
 use model::AVERAGE;
@@ -51,13 +50,6 @@ fn bad_method(rule: u8, estimator: u8) -> bool
     (TRIMMED_MEAN < rule) | (last_estimator(rule) < estimator)
 }
 
-// Whether no plan may have them.
-fn unplanned_method(rule: u8, estimator: u8) -> bool
-    ensures { λ r. ⌜ r ≡ unplannedMethod rule estimator ⌝ }
-{
-    (CCA < rule) | (MIDPOINT < estimator)
-}
-
 fn bad_window(window: u32) -> bool
     ensures { λ r. ⌜ r ≡ ltb maxWindow window ⌝ }
 {
@@ -71,35 +63,39 @@ pub fn bad_spread(rule: u8, spread: u32) -> bool
     (MAX_SPREAD < spread) | ((0 < spread) & (rule != FCA))
 }
 
-// Checks 2 to 5, by whether the rule or the estimator fails.
-fn screen_by(settings: Settings, unknown: bool) -> Screened
-    ensures { λ r. ⌜
-        checkOf r
-        ≡ firstOf
-        (badCabinets settings ∷ badFaults settings ∷ refuseIf unknown badMethodNumber ∷ badWindow settings ∷ []) ⌝ }
+// Checks 2 to 5 of a sheet's settings.
+pub fn screen(settings: Settings) -> Screened
+    ensures { λ r. ⌜ checkOf r ≡ firstOf (settingsChecks settings) ⌝ }
 {
     let cabinets = refusals::refuse_if(bad_cabinets(settings.n), BAD_CABINETS);
     let faults = refusals::refuse_if(bad_faults(settings.n, settings.m), BAD_FAULTS);
-    let method = refusals::refuse_if(unknown, BAD_METHOD);
+    let method = refusals::refuse_if(bad_method(settings.rule, settings.estimator), BAD_METHOD);
     let window = refusals::refuse_if(bad_window(settings.window), BAD_WINDOW);
     let last = refusals::first_of(method, window);
     let later = refusals::first_of(faults, last);
     refusals::first_of(cabinets, later)
 }
 
-// Checks 2 to 5 of a sheet's settings.
-pub fn screen(settings: Settings) -> Screened
-    ensures { λ r. ⌜ checkOf r ≡ firstOf (settingsChecks settings) ⌝ }
+// No rule of a sheet.
+const NO_RULE: u8 = 255;
+
+// A rule that sheets do not have in place of one that no plan may have.
+fn planned_rule(rule: u8) -> u8
+    ensures { λ r. ⌜ ((e : ℕ) → unknownMethod r e ≡ unplannedMethod rule e) ⌝ }
 {
-    screen_by(settings, bad_method(settings.rule, settings.estimator))
+    if CCA < rule { NO_RULE } else { rule }
 }
 
 // Checks 2 to 5 of a plan's settings.
 pub fn screen_plan(settings: Settings) -> Screened
     ensures { λ r. ⌜ checkOf r ≡ firstOf (plannerChecks settings) ⌝ }
 {
-    screen_by(
-        settings,
-        unplanned_method(settings.rule, settings.estimator),
-    )
+    let planned = Settings {
+        n: settings.n,
+        m: settings.m,
+        rule: planned_rule(settings.rule),
+        estimator: settings.estimator,
+        window: settings.window,
+    };
+    screen(planned)
 }

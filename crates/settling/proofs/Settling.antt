@@ -4,7 +4,7 @@ use mathlib.Core.Bool.{Bool, true, false, cond}
 use mathlib.Core.List.{List}
 use mathlib.Core.Option.{none, some}
 use mathlib.Core.Path.{_≡_, refl, sym, ap, ap₂, _∙_, subst}
-use Prim.Native.Nat.{ℕ, _≤_}
+use Prim.Native.Nat.{ℕ, _≤_, _<_}
 use native.Mathlib.Omega.{arith}
 use borrow.Author.Tests.{le-leb, eq-eqb, ne-eqb}
 use lib.Dec.{eqb}
@@ -14,7 +14,7 @@ use Rattle.arithmetic.proofs.Bools.{and-intro}
 use Rattle.model.specs.declared.Refusal.{Refusal}
 use Rattle.model.specs.declared.Settings.{Settings}
 use Rattle.model.specs.Ensemble.{maxCabinets}
-use Rattle.model.specs.RoundSheet.{trims, settingsAt}
+use Rattle.model.specs.RoundSheet.{byte, trims, settingsAt}
 use Rattle.model.specs.AnswerSheet.{answerBytes, answerLength}
 use Rattle.model.specs.Steps.{spanWidth, Round, roundAt}
 use Rattle.model.specs.Refusals.{Check, refusal, firstOf, rowChecks, tooManyFaults, badSpread, tooManyFaultsNumber}
@@ -27,7 +27,8 @@ use Rattle.answer_writer.specs.Answers.{roundHeld, writtenOf}
 use Rattle.answer_writer.proofs.Bytes.{written}
 use Rattle.outcomes.specs.Outcomes.{concluded}
 use Rattle.outcomes.proofs.Outcomes.{none-left, some-left}
-use Rattle.settling.specs.Rounds.{Ready, numbersBy, marksBy}
+use Rattle.reception.specs.Receiving.{marksReceived, valuesReceived}
+use Rattle.settling.specs.Rounds.{Ready, spreadOf, numbersBy, marksBy, numbersOf, marksOf}
 use Rattle.settling.proofs.Checking.{passes-settle}
 use Rattle.settling.proofs.Received as received
 use Rattle.settling.proofs.Received.{Receives, Written}
@@ -46,6 +47,35 @@ pub record CallsLeave (s : List ℕ) (c : Settings) (D : ℕ) (marks₀ values�
   pub receives : Receives s c marks₀ values₀ marks values
   pub agrees : a ≡ numbersBy c (spanWidth c D) marks values
   pub keeps : kept ≡ marksBy c (spanWidth c D) marks values
+
+-- the span is as wide as its window and its spread
+wide : (c : Settings) (span : ℕ) → c .window ≤ span → span ≡ spanWidth c (spreadOf c span)
+wide c span l = omega arith
+
+pub calls-leave :
+    (s : List ℕ) (c : Settings) (span : ℕ) (marks₀ values₀ values kept : List ℕ) (a : Estimated)
+    → ((j : ℕ) → byte s j < 256)
+    → length marks₀ ≡ c .n
+    → length values₀ ≡ c .n
+    → c .window ≤ span
+    → a ≡ numbersOf s c span marks₀ values₀
+    → kept ≡ marksOf s c span marks₀ values₀
+    → values ≡ valuesReceived s c marks₀ values₀
+    → CallsLeave s c (spreadOf c span) marks₀ values₀ (marksReceived s c marks₀ values₀) values kept a
+calls-leave s c span marks₀ values₀ values kept a small mark-room value-room l agrees keeps valued =
+    let marks = marksReceived s c marks₀ values₀ in
+    record {
+      receives =
+          record {
+            small = small;
+            markRoom = mark-room;
+            valueRoom = value-room;
+            marked = refl;
+            valued = valued;
+          };
+      agrees = agrees ∙ ap₂ (λ (w : ℕ) (v : List ℕ). numbersBy c w marks v) (wide c span l) (sym valued);
+      keeps = keeps ∙ ap₂ (λ (w : ℕ) (v : List ℕ). marksBy c w marks v) (wide c span l) (sym valued);
+    }
 
 module _ (s : List ℕ) (D : ℕ) (pass : firstOf (rowChecks s) ≡ none) (spread : badSpread (settingsAt s) D ≡ none) where
   abbrev own : Settings

@@ -3,6 +3,7 @@
 --   settlingBy  settling, by what its last check says
 --   numbersBy   the count, the estimate and the new value of the readings that two lists hold, by their rule
 --   marksBy     the marks that are left of them
+--   numbersOf, marksOf    the same of the readings of a sheet, received in two lists
 --   Ready       a sheet with these settings, and a spread, pass checks 1 to 9 and 16, so that only check 10 is left
 use mathlib.Core.Bool.{cond}
 use mathlib.Core.List.{List}
@@ -21,6 +22,7 @@ use Rattle.model.specs.Refusals.{firstOf, badSpread, rowChecks}
 use Rattle.estimates.specs.declared.Estimated.{Estimated}
 use Rattle.agreement.specs.Values.{agreedOf, agreedMarks}
 use Rattle.trimming.specs.Values.{trimmedOf, trimmedMarks}
+use Rattle.reception.specs.Receiving.{marksReceived, valuesReceived}
 
 abbrev pub spreadOf : Settings → ℕ → ℕ
 spreadOf c span = span - c .window
@@ -42,3 +44,10 @@ numbersBy c span marks values =
 unfoldable pub marksBy : Settings → ℕ → List ℕ → List ℕ → List ℕ
 marksBy c span marks values =
     cond (trims (c .rule)) (trimmedMarks (c .m) marks values) (agreedMarks span (quorum c) marks values)
+
+abbrev pub numbersOf : List ℕ → Settings → ℕ → List ℕ → List ℕ → Estimated
+numbersOf s c span marks values =
+    numbersBy c span (marksReceived s c marks values) (valuesReceived s c marks values)
+
+abbrev pub marksOf : List ℕ → Settings → ℕ → List ℕ → List ℕ → List ℕ
+marksOf s c span marks values = marksBy c span (marksReceived s c marks values) (valuesReceived s c marks values)

@@ -2,18 +2,21 @@
 // with a spread, which a caller without one has as 0.
 ghost use mathlib.Core.Path.{_≡_};
 ghost use lib.ListN.{length};
-ghost use Prim.Native.Nat.{_≤_};
+ghost use Prim.Native.Nat.{ℕ, _≤_, _<_};
 ghost use Rattle.model.specs.Ensemble.{maxCabinets, maxWindow, maxSpread};
+ghost use Rattle.model.specs.RoundSheet.{cca};
 ghost use Rattle.model.specs.AnswerSheet.{answerLength};
 ghost use Rattle.model.specs.Calls.{settleSpread, settle};
 ghost use Rattle.model.specs.Steps.{spanWidth};
 ghost use Rattle.settling.specs.Answers.{settlingOf};
-ghost use Rattle.settling.specs.Rounds.{Ready, spreadOf, settlingBy, numbersBy, marksBy};
+ghost use Rattle.settling.specs.Rounds.{Ready, spreadOf, settlingBy, numbersOf, marksOf};
+ghost use Rattle.reception.specs.Receiving.{valuesReceived};
 use estimates::Estimated;
 use model::CCA;
 use model::NO_ROOM;
 use model::Refusal;
 use model::Settings;
+use model::TRIMMED_MIDPOINT;
 use refusals::Screened;
 use sheet_checks::Opened;
 
@@ -31,19 +34,78 @@ fn span_width(settings: Settings, spread: u32) -> u32
     settings.window + spread
 }
 
-// The round of the readings that two lists hold, by their rule: by spans of a width, or by dropping the lowest and the
-// highest.
-fn settle_by(settings: Settings, span: u32, marks: &mut [u8], values: &[u32]) -> Estimated
+// Receives a sheet by rule 2 or 3 into lent lists, and drops the lowest and the highest of its readings; there are no
+// spans. Trimming is called in two places, so that the compiler keeps it out of the way of FCA and CCA.
+fn settle_trimmed(
+    sheet: &[u8],
+    settings: Settings,
+    marks: &mut [u8],
+    values: &mut [u32],
+) -> Estimated
+    requires { ⌜ cca < settings .rule ⌝ }
+    ensures { λ r.
+        ⌜ ((w : ℕ) → r ≡ numbersOf (now (sheet .entry)) settings w (now (marks .entry)) (now (values .entry))) ⌝ }
+    ensures { λ _.
+        ⌜ ((w : ℕ)
+        → now (marks .exit) ≡ marksOf (now (sheet .entry)) settings w (now (marks .entry)) (now (values .entry))) ⌝ }
+    ensures { λ _.
+        ⌜ now (values .exit)
+        ≡ valuesReceived (now (sheet .entry)) settings (now (marks .entry)) (now (values .entry)) ⌝ }
+    ensures { λ r. ⌜ r .count ≤ maxCabinets ⌝ }
+{
+    reception::receive_direct(sheet, settings, &mut *marks, &mut *values);
+    if settings.rule == TRIMMED_MIDPOINT {
+        trimming::trim(marks, &*values, settings.m, TRIMMED_MIDPOINT)
+    } else {
+        trimming::trim(marks, &*values, settings.m, settings.rule)
+    }
+}
+
+// Receives a sheet by FCA or CCA into lent lists, and agrees by spans of a width.
+fn settle_spans(
+    sheet: &[u8],
+    settings: Settings,
+    span: u32,
+    marks: &mut [u8],
+    values: &mut [u32],
+) -> Estimated
+    requires { ⌜ (settings .rule ≤ cca) × (settings .m ≤ settings .n) ⌝ }
+    ensures { λ r.
+        ⌜ r ≡ numbersOf (now (sheet .entry)) settings span (now (marks .entry)) (now (values .entry)) ⌝ }
+    ensures { λ _.
+        ⌜ now (marks .exit) ≡ marksOf (now (sheet .entry)) settings span (now (marks .entry)) (now (values .entry)) ⌝ }
+    ensures { λ _.
+        ⌜ now (values .exit)
+        ≡ valuesReceived (now (sheet .entry)) settings (now (marks .entry)) (now (values .entry)) ⌝ }
+    ensures { λ r. ⌜ r .count ≤ maxCabinets ⌝ }
+{
+    reception::receive(sheet, settings, &mut *marks, &mut *values);
+    let need = settings.n - settings.m;
+    agreement::agree(marks, &*values, span, need as u32, settings.estimator)
+}
+
+// Receives a sheet into lent lists and settles it by its rule: the marks say what the round makes of each reading.
+fn settle_by(
+    sheet: &[u8],
+    settings: Settings,
+    span: u32,
+    marks: &mut [u8],
+    values: &mut [u32],
+) -> Estimated
     requires { ⌜ settings .m ≤ settings .n ⌝ }
-    ensures { λ r. ⌜ r ≡ numbersBy settings span (now (marks .entry)) (now (values .entry)) ⌝ }
-    ensures { λ _. ⌜ now (marks .exit) ≡ marksBy settings span (now (marks .entry)) (now (values .entry)) ⌝ }
+    ensures { λ r.
+        ⌜ r ≡ numbersOf (now (sheet .entry)) settings span (now (marks .entry)) (now (values .entry)) ⌝ }
+    ensures { λ _.
+        ⌜ now (marks .exit) ≡ marksOf (now (sheet .entry)) settings span (now (marks .entry)) (now (values .entry)) ⌝ }
+    ensures { λ _.
+        ⌜ now (values .exit)
+        ≡ valuesReceived (now (sheet .entry)) settings (now (marks .entry)) (now (values .entry)) ⌝ }
     ensures { λ r. ⌜ r .count ≤ maxCabinets ⌝ }
 {
     if CCA < settings.rule {
-        trimming::trim(marks, values, settings.m, settings.rule)
+        settle_trimmed(sheet, settings, marks, values)
     } else {
-        let need = settings.n - settings.m;
-        agreement::agree(marks, values, span, need as u32, settings.estimator)
+        settle_spans(sheet, settings, span, marks, values)
     }
 }
 
@@ -63,8 +125,7 @@ fn settle_in(
         ⌜ settlingBy r (answerLength (settings .n)) (now (answer .exit))
         ≡ settleSpread (now (sheet .entry)) (spreadOf settings span) (now (answer .entry)) ⌝ }
 {
-    reception::receive(sheet, settings, &mut *marks, &mut *values);
-    let settled = settle_by(settings, span, &mut *marks, &*values);
+    let settled = settle_by(sheet, settings, span, &mut *marks, &mut *values);
     outcomes::conclude(
         settled.count as u8,
         settled.estimate,

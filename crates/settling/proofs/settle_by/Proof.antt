@@ -1,56 +1,46 @@
--- `settling::settle_by` meets its contract: a rule above CCA trims, and any other agrees by spans.
+-- `settling::settle_by` meets its contract: a rule above CCA is settled by trimming, whatever the width of a span.
 -- Assumes nothing.
 use borrow.Author.Needs.{needs}
-use mathlib.Core.Path.{_∙_}
-use borrow.Author.Tests.{lt-ltb, le-ltb}
-use Rattle.model.specs.RoundSheet.{cca}
-use Rattle.settling.specs.Rounds.{numbersBy, marksBy}
 use Rattle.settling.proofs.settle_by.Statement.{statement}
 use Rattle.settling.proofs.settle_by.Tie as tie
 
-trim-requires : tie.Need-trim-requires
-trim-requires c κs = search needs
+settle-trimmed-requires : tie.Need-settle-trimmed-requires
+settle-trimmed-requires c κs = search needs
 
-sub-need : tie.Need-sub-need
-sub-need c = search needs
-
-cast-agree : tie.Need-cast-agree
-cast-agree c = search needs
-
-agree-requires : tie.Need-agree-requires
-agree-requires c κs = search needs
+settle-spans-requires : tie.Need-settle-spans-requires
+settle-spans-requires c κs = search needs
 
 same-length : tie.Need-same-length
 same-length c = search needs
 
-returns : tie.Need-returns
-unfolding numbersBy marksBy
-returns c =
-    let call = c .before .before in
-    let e = lt-ltb cca (call .before .before .before .before .before .before .args .settings .rule) (c .before .before .before .before .if1 .taken) in
-    let t = call .trim .ensures in
-    (t .0 ∙ rw e, (t .1 .0 ∙ rw e, t .1 .1))
-
 same-length-2 : tie.Need-same-length-2
 same-length-2 c = search needs
 
+returns : tie.Need-returns
+returns c =
+    let trimmed = c .before .before .before .before in
+    let a = trimmed .before .before .before .before .before .before .before .before .args in
+    let t = trimmed .settle-trimmed .ensures in
+    (t .0 (a .span), (t .1 .0 (a .span), t .1 .1))
+
+same-length-3 : tie.Need-same-length-3
+same-length-3 c = search needs
+
+same-length-4 : tie.Need-same-length-4
+same-length-4 c = search needs
+
 returns-2 : tie.Need-returns-2
-unfolding numbersBy marksBy
-returns-2 c =
-    let call = c .before .before in
-    let e = le-ltb cca (call .before .before .before .before .before .before .before .args .settings .rule) (c .before .before .before .before .before .if1 .left) in
-    let t = call .agree .ensures in
-    (t .0 ∙ rw e, (t .1 .0 ∙ rw e, t .1 .1))
+returns-2 c = search needs
 
 pub settle-by-spec : {M : Type 1} → statement M
 settle-by-spec =
     tie.close
     (tie.spec
-    trim-requires
-    sub-need
-    cast-agree
-    agree-requires
+    settle-trimmed-requires
+    settle-spans-requires
     same-length
-    returns
     same-length-2
+    returns
+    same-length-3
+    same-length-4
     returns-2)

@@ -187,11 +187,11 @@ module _ (rule m : ℕ) (marks values : List ℕ) where
     some-left = leb-false (length marks) (2 * m) (or-right (unfit (length marks) (length values)) _ fit)
 
     pub trimmed-some :
-        (v : ℕ) → v ≡ up twoTo31 (trimmedIn rule m marks values .value)
-        → _≡_ {A = Estimated} (record { count = length marks - 2 * m; estimate = v; value = v }) (trimmedOf rule m marks values)
+        (n v : ℕ) → n ≡ length marks → v ≡ up twoTo31 (trimmedIn rule m marks values .value)
+        → _≡_ {A = Estimated} (record { count = n - 2 * m; estimate = v; value = v }) (trimmedOf rule m marks values)
     unfolding trimmedOf
-    trimmed-some v e =
-        ap (λ (x : ℕ). record { count = length marks - 2 * m; estimate = x; value = x }) e ∙ rw fit
+    trimmed-some n v all e =
+        ap₂ (λ (k x : ℕ). record { count = k - 2 * m; estimate = x; value = x }) all e ∙ rw fit
 
     pub marks-some :
         (left : List ℕ) → left ≡ table (markAt m marks values) (length marks) → left ≡ trimmedMarks m marks values

@@ -17,6 +17,7 @@ ghost use Rattle.trimming.specs.Values.{trimmedIn, unfitFor, trimmedOf, 
 ghost use Rattle.trimming.specs.Values.{numberIn, between, Ranked, Sums};
 use estimates::Estimated;
 use held::PRESENT;
+use model::MAX_CABINETS;
 use model::TRIMMED_MIDPOINT;
 
 // The sum of the numbers that are left, and that of the lowest and the highest of them.
@@ -24,6 +25,9 @@ struct Kept {
     sum: u64,
     ends: u64,
 }
+
+// The most readings.
+const MOST: usize = MAX_CABINETS as usize;
 
 // What stands for 0 ticks.
 const ZERO: u32 = 2_147_483_648;
@@ -60,7 +64,7 @@ fn part(number: u32, taken: bool) -> u64
 
 // Drops the readings that have one of the m lowest ranks, or one of the m highest: strikes them out, and sums the
 // numbers that are left, and the lowest and the highest of these.
-fn drop_ends(marks: &mut [u8], numbers: &[u32], ranks: &[u8], m: usize) -> Kept
+fn drop_ends(marks: &mut [u8], numbers: &[u32], ranks: &[u8], m: u8) -> Kept
     requires { ⌜ (length (now marks) ≤ maxCabinets) × (2 * m < length (now marks)) ⌝ }
     requires { ⌜
         (length (now numbers) ≡ length (now marks)) × (length (now ranks) ≡ length (now marks)) ⌝ }
@@ -73,13 +77,13 @@ fn drop_ends(marks: &mut [u8], numbers: &[u32], ranks: &[u8], m: usize) -> Kept
         keptMark (between (now (ranks .entry)) m (length (now (marks .entry)) - m) r) (getD (now (marks .entry)) r 0))
         (length (now (marks .entry))) ⌝ }
 {
-    let end = marks.len() - m;
+    let end = marks.len() as u8 - m;
     let last = end - 1;
     let mut sum: u64 = 0;
     let mut ends: u64 = 0;
     let mut r = 0;
     'readings: while r < marks.len() {
-        let rank = ranks[r] as usize;
+        let rank = ranks[r];
         let number = numbers[r];
         let kept = (m <= rank) & (rank < end);
         marks[r] = held::kept_mark(kept, marks[r]);
@@ -119,7 +123,7 @@ fn settle_value(rule: u8, sum: u64, ends: u64, left: u64) -> u32
 fn trim_in(
     marks: &mut [u8],
     values: &[u32],
-    m: usize,
+    m: u8,
     rule: u8,
     numbers: &mut [u32],
     ranks: &mut [u8],
@@ -136,9 +140,16 @@ fn trim_in(
 {
     fill(&*marks, values, &mut *numbers);
     ranks::rank(&*numbers, &mut *ranks);
-    let left = (numbers.len() - 2 * m) as u64;
+    let left = (numbers.len() - 2 * (m as usize)) as u64;
     let kept = drop_ends(marks, &*numbers, &*ranks, m);
     settle_value(rule, kept.sum, kept.ends, left)
+}
+
+// A number of readings, or 64 where there are more. By it the compiler knows the most that a pass over them compares.
+fn at_most_64(n: usize) -> usize
+    ensures { λ r. ⌜ (r ≤ maxCabinets) × (n ≤ maxCabinets → r ≡ n) ⌝ }
+{
+    if n < MOST { n } else { MOST }
 }
 
 // Whether the lists are not those of at most 64 readings, or none is left.
@@ -155,8 +166,8 @@ pub fn trim(marks: &mut [u8], values: &[u32], m: u8, rule: u8) -> Estimated
     ensures { λ _. ⌜ now (marks .exit) ≡ trimmedMarks m (now (marks .entry)) (now (values .entry)) ⌝ }
     ensures { λ r. ⌜ r .count ≤ maxCabinets ⌝ }
 {
-    let n = marks.len();
-    if unfit(n, values.len(), m) {
+    let n = at_most_64(marks.len());
+    if unfit(marks.len(), values.len(), m) {
         return Estimated {
             count: 0,
             estimate: 0,
@@ -165,17 +176,16 @@ pub fn trim(marks: &mut [u8], values: &[u32], m: u8, rule: u8) -> Estimated
     }
     let mut numbers = [0u32; 64];
     let mut ranks = [0u8; 64];
-    let low = m as usize;
     let value = trim_in(
         &mut *marks,
         values,
-        low,
+        m,
         rule,
         &mut numbers[..n],
         &mut ranks[..n],
     );
     Estimated {
-        count: (n - 2 * low) as u32,
+        count: (n - 2 * (m as usize)) as u32,
         estimate: value,
         value,
     }

@@ -19,6 +19,9 @@ Inv-readings marks₀ numbers ranks m end last sum₀ ends₀ r₀ marks sum end
 abbrev μ-readings : tie.MeasureT-readings
 μ-readings marks₀ numbers ranks m end last sum₀ ends₀ r₀ marks sum ends r = length marks₀ - r
 
+cast-end : tie.Need-cast-end Inv-readings μ-readings
+cast-end c = omega (arith, c .before .before .before .pre .0 .0)
+
 sub-end : tie.Need-sub-end Inv-readings μ-readings
 sub-end c = omega (arith, c .before .before .before .pre .0 .1)
 
@@ -43,11 +46,6 @@ shared-slice-read-rank c =
       c .before .readings-test .taken,
       marks-long (a .ranks .now) (a .marks .now) (a .m) (k .marks) (k .r) (k .inv .strikes),
     )
-
-cast-rank : tie.Need-cast-rank Inv-readings μ-readings
-cast-rank c =
-    let at = c .before .before in
-    omega (arith, at .before .shared-slice-known2 .given (at .readings .r) .fits)
 
 mul-number : tie.Need-mul-number Inv-readings μ-readings
 mul-number c = search needs
@@ -172,11 +170,11 @@ drop-ends-spec =
     (tie.spec
     Inv-readings
     μ-readings
+    cast-end
     sub-end
     sub-last
     readings-holds
     shared-slice-read-rank
-    cast-rank
     mul-number
     shared-slice-read-number
     slice-read-kept-mark

@@ -4,7 +4,7 @@ use borrow.Author.Needs.{needs}
 use native.Mathlib.Omega.{arith}
 use mathlib.Core.Bool.{false}
 use mathlib.Core.Path.{_≡_, sym, _∙_}
-use Prim.Native.Nat.{_*_, _≤_, _<_}
+use Prim.Native.Nat.{ℕ, _*_, _≤_, _<_}
 use lib.ListN.{length}
 use Rattle.model.specs.Ensemble.{maxCabinets}
 use Rattle.held.proofs.Held.{first-places}
@@ -15,7 +15,7 @@ use Rattle.trimming.proofs.trim.Tie as tie
 
 -- the lists fit
 abbrev call : tie.Else1 → tie.Start
-call e = e .before .before .before .before
+call e = e .before .before .before .before .before
 
 fit :
     (e : tie.Else1)
@@ -28,35 +28,46 @@ few e = let a = call e .args in fits-few (a .rule) (a .m) (a .marks .now) (a .va
 left : (e : tie.Else1) → 2 * call e .args .m < length (call e .args .marks .now)
 left e = let a = call e .args in some-left (a .rule) (a .m) (a .marks .now) (a .values .now) (fit e)
 
+-- so as many places are lent as there are readings
+abbrev places : (e : tie.Else1) → ℕ
+places e = e .before .before .at-most-64 .result
+
+all-places : (e : tie.Else1) → places e ≡ length (call e .args .marks .now)
+all-places e = e .before .before .at-most-64 .ensures .1 (few e)
+
+at-most-64-requires : tie.Need-at-most-64-requires
+at-most-64-requires c κs = search needs
+
 unfit-requires : tie.Need-unfit-requires
 unfit-requires c κs = search needs
 
 returns : tie.Need-returns
 returns c =
-    let a = c .before .before .before .before .args in
+    let a = c .before .before .before .before .before .args in
     let e = sym (c .before .unfit .ensures) ∙ c .if1 .taken in (
       trimmed-none (a .rule) (a .m) (a .marks .now) (a .values .now) e,
       (marks-none (a .rule) (a .m) (a .marks .now) (a .values .now) e, omega arith),
     )
 
 array-borrow-prefix-numbers : tie.Need-array-borrow-prefix-numbers
-array-borrow-prefix-numbers c = few (c .before)
+array-borrow-prefix-numbers c = search needs
 
 slice-aggregate-trim-in : tie.Need-slice-aggregate-trim-in
-slice-aggregate-trim-in c = sym (first-places (length (call (c .before .before) .args .marks .now)) (few (c .before .before)))
+slice-aggregate-trim-in c = sym (first-places (places (c .before .before)) (c .before .before .before .before .at-most-64 .ensures .0))
 
 array-borrow-prefix-ranks : tie.Need-array-borrow-prefix-ranks
-array-borrow-prefix-ranks c = few (c .before .before)
+array-borrow-prefix-ranks c = search needs
 
 slice-aggregate-trim-in-2 : tie.Need-slice-aggregate-trim-in-2
 slice-aggregate-trim-in-2 c =
-    sym (first-places (length (call (c .before .before .before) .args .marks .now)) (few (c .before .before .before)))
+    let e = c .before .before .before in
+    sym (first-places (places e) (e .before .before .at-most-64 .ensures .0))
 
 trim-in-requires : tie.Need-trim-in-requires
 trim-in-requires c κs =
     let e = c .before .before .before in
     let a = call e .args in
-    let long = first-places (length (a .marks .now)) (few e) in (
+    let long = first-places (places e) (e .before .before .at-most-64 .ensures .0) ∙ all-places e in (
       (few e, fits-even (a .rule) (a .m) (a .marks .now) (a .values .now) (fit e)),
       ((long, long), some-left (a .rule) (a .m) (a .marks .now) (a .values .now) (fit e)),
     )
@@ -65,10 +76,12 @@ mul-t11 : tie.Need-mul-t11
 mul-t11 c = search needs
 
 sub-t18 : tie.Need-sub-t18
-sub-t18 c = omega (arith, left (c .before .before .before .before .before .before .before .before))
+sub-t18 c =
+    let e = c .before .before .before .before .before .before .before .before in
+    omega (arith, left e, all-places e)
 
 cast-t19 : tie.Need-cast-t19
-cast-t19 c = omega (arith, few (c .before .before .before .before .before .before .before .before))
+cast-t19 c = search needs
 
 same-length : tie.Need-same-length
 same-length c = search needs
@@ -78,10 +91,11 @@ returns-2 c =
     let e = c .before .before .before .before .before .before .before .before in
     let a = call e .args in
     let trimmed = c .before .before .before .before .trim-in in (
-      trimmed-some (a .rule) (a .m) (a .marks .now) (a .values .now) (fit e) (trimmed .result) (trimmed .ensures .0),
+      trimmed-some (a .rule) (a .m) (a .marks .now) (a .values .now) (fit e) (places e) (trimmed .result) (all-places e)
+          (trimmed .ensures .0),
       (
         marks-some (a .rule) (a .m) (a .marks .now) (a .values .now) (fit e) (trimmed .last .0) (trimmed .ensures .1),
-        omega (arith, few e),
+        omega (arith, few e, all-places e),
       ),
     )
 
@@ -89,6 +103,7 @@ pub trim-spec : {M : Type 1} → statement M
 trim-spec =
     tie.close
     (tie.spec
+    at-most-64-requires
     unfit-requires
     returns
     array-borrow-prefix-numbers

@@ -20,7 +20,12 @@ use Rattle.model.specs.Ensemble.{maxCabinets}
 use Rattle.round_laws.specs.Naturals.{precedes-nat, rank-nat}
 use Rattle.value_laws.proofs.Order.{none-pass, count-more, rank-small}
 use Rattle.held.specs.Held.{valueAt}
-use Rattle.ranks.specs.Ranks.{rankAt, belowAt, Seen}
+use Rattle.ranks.specs.Ranks.{belowNumber, belowOf, rankAt, belowAt, Seen}
+
+-- what `count_below` gives of at most 64 numbers
+pub below-of : (values : List ℕ) (v : ℕ) → length values ≤ maxCabinets → belowOf values v ≡ belowNumber values v
+unfolding belowOf
+below-of values v few = rw (le-ltb maxCabinets (length values) few)
 
 and-true : (a : Bool) {b : Bool} → b ≡ true → (a && b) ≡ a
 and-true true e = e
@@ -73,17 +78,14 @@ module _ (x : ℕ → ℕ) (n : ℕ) where
       (both-ways (ltb (x s) (x r))))
 
   -- a number comes behind those below it, and behind equal ones of a lower index
-  rank-split : (r : ℕ) → r < n → rank-nat n x r ≡ below r + count (λ s. eqb (below s) (below r)) r
+  pub rank-equal : (r : ℕ) → r < n → rank-nat n x r ≡ below r + count (λ s. eqb (x s) (x r)) r
   unfolding rank-nat
-  rank-split r l =
+  rank-equal r l =
       let a = count-both (λ s. ltb (x s) (x r)) (λ s. eqb (x s) (x r) && ltb s r) n in
       let b =
       count-ext (λ s. ltb (x s) (x r) && (eqb (x s) (x r) && ltb s r)) (λ _. false) n
       (λ s _. apart (x s) (x r) (ltb s r)) in
       let c = count-first (λ s. eqb (x s) (x r)) r n (omega arith) in
-      let d =
-      count-ext (λ s. eqb (x s) (x r)) (λ s. eqb (below s) (below r)) r
-      (λ s h. same-below s r (omega arith) l) in
       omega (arith, none-pass n)
     where
       apart : (y z : ℕ) (b : Bool) → (ltb y z && (eqb y z && b)) ≡ false
@@ -97,6 +99,12 @@ module _ (x : ℕ → ℕ) (n : ℕ) where
         where
           lower : (y z : ℕ) → y < z → y ≡ z → ⊥
           lower y z l e = omega arith
+
+  rank-split : (r : ℕ) → r < n → rank-nat n x r ≡ below r + count (λ s. eqb (below s) (below r)) r
+  rank-split r l =
+      rank-equal r l
+      ∙ ap (λ (k : ℕ). below r + k)
+      (count-ext (λ s. eqb (x s) (x r)) (λ s. eqb (below s) (below r)) r (λ s h. same-below s r (omega arith) l))
 
 -- ---- what was seen of the indices passed
 

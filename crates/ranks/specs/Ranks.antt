@@ -1,4 +1,5 @@
 -- INNER: no reader needs this page to believe a public promise. The ranks of the numbers of a list.
+--   belowNumber, belowOf   how many numbers are below one; what `count_below` gives: at most 64 numbers are asked
 --   rankAt             how many come before an index (Rattle.round_laws.specs.Naturals)
 --   misfit, ranksOf    what `rank` leaves in the lent list: at most 64 numbers and a list no shorter are asked
 -- What the functions below it give:
@@ -16,6 +17,12 @@ use Rattle.model.specs.Ensemble.{maxCabinets}
 use Rattle.round_laws.specs.Naturals.{rank-nat}
 use Rattle.held.specs.Held.{valueAt}
 
+abbrev pub belowNumber : List ℕ → ℕ → ℕ
+belowNumber values v = count (λ t. ltb (valueAt values t) v) (length values)
+
+unfoldable pub belowOf : List ℕ → ℕ → ℕ
+belowOf values v = cond (ltb maxCabinets (length values)) 0 (belowNumber values v)
+
 abbrev pub rankAt : List ℕ → ℕ → ℕ
 rankAt values r = rank-nat (length values) (valueAt values) r
 
@@ -29,7 +36,7 @@ ranksOf values old =
 -- ---- the functions below it
 
 abbrev pub belowAt : List ℕ → ℕ → ℕ
-belowAt values r = count (λ t. ltb (valueAt values t) (valueAt values r)) (length values)
+belowAt values r = belowNumber values (valueAt values r)
 
 pub record Seen (values : List ℕ) (r : ℕ) (seen : List ℕ) : Type 0 where
   pub long : length seen ≡ maxCabinets

@@ -3,24 +3,22 @@
 // what was seen before says which of equal ones it is.
 ghost use mathlib.Core.Path.{_≡_};
 ghost use Prim.Native.Nat.{_≤_};
-ghost use lib.Dec.{ltb};
 ghost use lib.ListN.{length};
-ghost use Rattle.arithmetic.specs.Counting.{count};
 ghost use Rattle.arithmetic.specs.Writing.{table, overwrite};
 ghost use Rattle.model.specs.Ensemble.{maxCabinets};
-ghost use Rattle.held.specs.Held.{valueAt};
-ghost use Rattle.ranks.specs.Ranks.{belowAt, rankAt, ranksOf, Seen};
+ghost use Rattle.ranks.specs.Ranks.{belowOf, rankAt, ranksOf, Seen};
 use model::MAX_CABINETS;
 
 // The most numbers.
 const MOST: usize = MAX_CABINETS as usize;
 
-// How many numbers are below a number.
-fn count_below(values: &[u32], value: u32) -> u32
-    requires { ⌜ length (now values) ≤ maxCabinets ⌝ }
-    ensures { λ r. ⌜
-        r ≡ count (λ t. ltb (valueAt (now (values .entry)) t) value) (length (now (values .entry))) ⌝ }
+// How many of at most 64 numbers are below a number; 0 where there are more.
+pub fn count_below(values: &[u32], value: u32) -> u32
+    ensures { λ r. ⌜ r ≡ belowOf (now (values .entry)) value ⌝ }
 {
+    if MOST < values.len() {
+        return 0;
+    }
     let mut below: u32 = 0;
     let mut t = 0;
     'values: while t < values.len() {

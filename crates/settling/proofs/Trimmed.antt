@@ -28,7 +28,8 @@ use Rattle.held.specs.Held.{valueAt, presentIn, readingsIn, unfit}
 use Rattle.estimates.specs.declared.Estimated.{Estimated}
 use Rattle.reception.specs.Receiving.{readingAt}
 use Rattle.answer_writer.specs.Answers.{usedIn, roundHeld}
-use Rattle.trimming.specs.Values.{trimmedIn, unfitFor, trimmedOf, markAt, trimmedMarks}
+use Rattle.dropping.specs.Dropping.{unfitFor}
+use Rattle.trimming.specs.Values.{trimmedIn, trimmedOf, markAt, trimmedMarks}
 use Rattle.trimming.proofs.Values.{value-back}
 use Rattle.settling.proofs.Received as received
 use Rattle.settling.proofs.Received.{Receives, Written}

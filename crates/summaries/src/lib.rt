@@ -31,13 +31,15 @@ pub struct Summary {
     pub high: u32,
 }
 
-fn lower(a: u32, b: u32) -> u32
+// The lower of two numbers.
+pub fn lower(a: u32, b: u32) -> u32
     ensures { λ r. ⌜ r ≡ min a b ⌝ }
 {
     if a < b { a } else { b }
 }
 
-fn higher(a: u32, b: u32) -> u32
+// The higher of two numbers.
+pub fn higher(a: u32, b: u32) -> u32
     ensures { λ r. ⌜ r ≡ max a b ⌝ }
 {
     if a < b { b } else { a }

@@ -5,7 +5,7 @@ use engine::{number, Settings};
 use reference::{accepted, in_order, numbers_in, TRIMMED_MEAN, TRIMMED_MIDPOINT};
 
 /// What can be met of a settled sheet.
-pub const ROUNDS: [&str; 18] = [
+pub const ROUNDS: [&str; 22] = [
     "a kept reading is missing",
     "a dropped reading is missing",
     "equal readings on both sides of the low cut",
@@ -24,6 +24,10 @@ pub const ROUNDS: [&str; 18] = [
     "the new value is the lowest of 32 bits",
     "the new value is the highest of 32 bits",
     "no span holds N-m readings, which FCA would refuse under 10",
+    "of more than 32 readings none is dropped",
+    "of more than 32 readings no dropped one is equal to one that is kept",
+    "of more than 32 readings equal ones are on both sides of the low cut alone",
+    "of more than 32 readings equal ones are on both sides of the high cut alone",
 ];
 
 /// The numbers under which each call can refuse a trimming rule, and whether it can grant it. A refusal under 4 is
@@ -101,7 +105,7 @@ impl Trims {
         self.settled[(settings.rule - TRIMMED_MIDPOINT) as usize][settings.n as usize] += 1;
         let round = Round::new(&settings, &readings);
         let new = numbers_in(&answer[6..10])[0];
-        let met = [round.cuts(), round.halves(), round.ends(new)].concat();
+        let met = [round.cuts(), round.halves(), round.ends(new), round.many()].concat();
         for (times, met) in self.rounds.iter_mut().zip(met) {
             *times += met as u64;
         }
@@ -159,7 +163,7 @@ impl<'a> Round<'a> {
         [of(TRIMMED_MIDPOINT, &ends), of(TRIMMED_MEAN, &kept)].concat()
     }
 
-    /// The last five.
+    /// The five before the last four.
     fn ends(&self, new: i32) -> Vec<bool> {
         let kept = self.kept();
         let extremes = kept[0] + kept[kept.len() - 1];
@@ -171,5 +175,14 @@ impl<'a> Round<'a> {
             new == i32::MAX,
             !accepted(self.readings, need, window).contains(&true),
         ]
+    }
+
+    /// The last four, which the library drops in another way than few.
+    fn many(&self) -> Vec<bool> {
+        let many = self.order.len() > 32;
+        let cuts = self.cuts();
+        let (low, high) = (cuts[2], cuts[3]);
+        let none = self.settings.m == 0;
+        vec![many && none, many && !none && !low && !high, many && low && !high, many && !low && high]
     }
 }

@@ -7,8 +7,8 @@ use native.Mathlib.Omega.{arith}
 use Prim.Native.Nat.{_+_, _-_, _<_}
 use lib.ListN.{length, getD}
 use Rattle.model.specs.Ensemble.{maxCabinets}
-use Rattle.ranks.specs.Ranks.{rankAt}
-use Rattle.ranks.proofs.Seeing.{Ranking, ranking-none, ranks-long, found, ranking-next, all-ranked}
+use Rattle.ranks.specs.Ranks.{rankAt, belowAt}
+use Rattle.ranks.proofs.Seeing.{below-of, Ranking, ranking-none, ranks-long, found, ranking-next, all-ranked}
 use Rattle.ranks.proofs.rank_each.Statement.{statement}
 use Rattle.ranks.proofs.rank_each.Tie as tie
 
@@ -17,6 +17,16 @@ Inv-numbers values seen₀ ranks₀ r₀ seen ranks r = Ranking values ranks₀ 
 
 abbrev μ-numbers : tie.MeasureT-numbers
 μ-numbers values seen₀ ranks₀ r₀ seen ranks r = length values - r
+
+-- how many were counted
+counted :
+    (k : tie.After-count-below Inv-numbers μ-numbers)
+    → k .count-below .result
+    ≡ belowAt (k .before .before .before .before .before .before .before .args .values .now)
+    (k .before .before .before .numbers .r)
+counted k =
+    let start = k .before .before .before .before .before .before .before in
+    k .count-below .ensures ∙ below-of (start .args .values .now) _ (start .pre .0 .0)
 
 -- what is known of the number that is ranked
 fact :
@@ -30,7 +40,7 @@ fact k =
     let m = test .before .numbers in
     let a = test .before .before .before .before .before .args in
     found (a .values .now) (a .ranks .now) (m .seen) (m .ranks) (m .r) (m .inv) (test .numbers-test .taken)
-    (k .count-below .result) (k .count-below .ensures)
+    (k .count-below .result) (counted k)
 
 numbers-holds : tie.Need-numbers-holds Inv-numbers μ-numbers
 numbers-holds c =
@@ -45,7 +55,7 @@ shared-slice-read-count-below : tie.Need-shared-slice-read-count-below Inv-numbe
 shared-slice-read-count-below c = search needs
 
 count-below-requires : tie.Need-count-below-requires Inv-numbers μ-numbers
-count-below-requires c κs = c .before .before .before .before .before .before .pre .0 .0
+count-below-requires c κs = search needs
 
 cast-below : tie.Need-cast-below Inv-numbers μ-numbers
 cast-below c = search needs
@@ -90,7 +100,7 @@ numbers-again c =
     let m = test .before .numbers in
     let a = test .before .before .before .before .before .args in
     ranking-next (a .values .now) (a .ranks .now) (m .seen) (m .ranks) (m .r) (m .inv) (test .numbers-test .taken)
-    (k .count-below .result) (k .count-below .ensures)
+    (k .count-below .result) (counted k)
 
 same-length : tie.Need-same-length Inv-numbers μ-numbers
 same-length c =

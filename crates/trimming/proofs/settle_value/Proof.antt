@@ -1,17 +1,23 @@
 -- `trimming::settle_value` meets its contract: each rule rounds its own sum.
 -- Assumes nothing.
-use borrow.Author.Needs.{needs}
 use mathlib.Core.Path.{_∙_}
 use borrow.Author.Tests.{eq-eqb, ne-eqb}
+use native.Mathlib.Omega.{arith}
 use Rattle.model.specs.RoundSheet.{trimmedMidpoint}
 use Rattle.trimming.proofs.settle_value.Statement.{statement}
 use Rattle.trimming.proofs.settle_value.Tie as tie
 
 nearest-requires : tie.Need-nearest-requires
-nearest-requires c κs = search needs
+nearest-requires c κs =
+    let start = c .before in
+    let by = eq-eqb (start .args .rule) trimmedMidpoint (c .if1 .taken) in
+    (omega arith, omega arith, rw by at (start .pre .2))
 
 nearest-requires-2 : tie.Need-nearest-requires-2
-nearest-requires-2 c κs = search needs
+nearest-requires-2 c κs =
+    let start = c .before in
+    let by = ne-eqb (start .args .rule) trimmedMidpoint (c .if1 .left) in
+    (start .pre .0, start .pre .1, rw by at (start .pre .2))
 
 returns : tie.Need-returns
 returns c = c .nearest .ensures ∙ rw (eq-eqb (c .before .before .args .rule) trimmedMidpoint (c .before .if1 .taken))

@@ -1,12 +1,12 @@
--- `trimming::unfit` meets its contract.
+-- `dropping::unfit` meets its contract.
 -- Assumes nothing.
 use borrow.Author.Needs.{needs}
 use mathlib.Core.Bool.{Bool, _||_}
 use mathlib.Core.Path.{ap}
 use Prim.Native.Nat.{_*_}
 use lib.Dec.{leb}
-use Rattle.trimming.proofs.unfit.Statement.{statement}
-use Rattle.trimming.proofs.unfit.Tie as tie
+use Rattle.dropping.proofs.unfit.Statement.{statement}
+use Rattle.dropping.proofs.unfit.Tie as tie
 
 unfit-requires : tie.Need-unfit-requires
 unfit-requires c κs = search needs

@@ -1,0 +1,3 @@
+pub mod Splitting
+pub mod Loops
+pub mod Dropped

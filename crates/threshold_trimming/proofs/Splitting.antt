@@ -21,7 +21,7 @@ use Rattle.value_laws.proofs.Order.{count-more, lower-precedes, precedes-at-mos
 use Rattle.value_laws.proofs.Order.{Ranked, ranked-found}
 use Rattle.ranks.proofs.Seeing.{rank-equal}
 use Rattle.thresholds.specs.Thresholds.{Split}
-use Rattle.thresholds.proofs.Halving.{none-counted}
+use Rattle.thresholds.proofs.Narrowing.{none-counted}
 use Rattle.threshold_trimming.specs.Trimming.{leastFrom, greatestTo, after}
 
 positive : (t : ℕ) → (t ≡ 0 → ⊥) → 0 < t

@@ -6,13 +6,15 @@
 --   misfit, Found      what `find_both` gives: at most 64 numbers are asked, of which some are left
 -- What the functions below it give:
 --   Bounds             no number is below the one, or above the other
-use mathlib.Core.Bool.{Bool, true, false, _||_}
+--   maxUnit, guessed   the most that even numbers lie apart; where to look next in a range
+use mathlib.Core.Bool.{Bool, true, false, cond, _||_}
 use mathlib.Core.List.{List}
 use mathlib.Core.Path.{_≡_}
-use Prim.Native.Nat.{ℕ, _+_, _*_, _-_, min, _≤_, _<_}
+use Prim.Native.Nat.{ℕ, _+_, _*_, _-_, _/_, min, _≤_, _<_}
 use lib.Dec.{ltb, leb}
 use lib.ListN.{length}
 use Rattle.arithmetic.specs.Counting.{count}
+use Rattle.arithmetic.specs.Words.{twoTo32}
 use Rattle.model.specs.Ensemble.{maxCabinets}
 use Rattle.held.specs.Held.{valueAt}
 use Rattle.thresholds.specs.declared.Thresholds.{Thresholds}
@@ -42,3 +44,12 @@ pub record Bounds (values : List ℕ) (low high : ℕ) : Type 0 where
   pub ordered : low ≤ high
   pub least : (j : ℕ) → j < length values → low ≤ valueAt values j
   pub greatest : (j : ℕ) → j < length values → valueAt values j ≤ high
+
+abbrev pub maxUnit : ℕ
+maxUnit = twoTo32 / 64
+
+-- as far from the nearer end as even numbers would be, and no farther than the middle
+unfoldable pub guessed : ℕ → ℕ → ℕ → ℕ → ℕ → ℕ
+guessed low high unit left right =
+    cond (leb left right) (low + min (unit * min left right + 1) (high - low - (high - low) / 2))
+    (high - min (unit * min left right) ((high - low) / 2))

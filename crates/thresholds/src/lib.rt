@@ -1,15 +1,18 @@
 // Where the numbers that are left start and end when the m lowest and the m highest of a list are dropped, equal ones
-// by index. Nothing is sorted: a range of numbers is halved, and those below its middle are counted, until as many are
-// below its start as are dropped.
+// by index. Nothing is sorted: a range of numbers is narrowed, and those below a number in it are counted, until as many
+// are below its start as are dropped.
 ghost use mathlib.Core.Path.{_≡_};
-ghost use Prim.Native.Nat.{_-_, _/_, _≤_, _<_};
+ghost use Prim.Native.Nat.{_+_, _≤_, _<_};
 ghost use lib.ListN.{length};
 ghost use Rattle.model.specs.Ensemble.{maxCabinets};
-ghost use Rattle.thresholds.specs.Thresholds.{Bounds, Splits, misfit, Found};
+ghost use Rattle.thresholds.specs.Thresholds.{Bounds, Splits, misfit, Found, maxUnit, guessed};
 use model::MAX_CABINETS;
 
 // The most numbers.
 const MOST: usize = MAX_CABINETS as usize;
+
+// Into so many parts a range is taken to be parted by its numbers.
+const UNITS: u32 = 64;
 
 // The lowest and the highest of a list's numbers.
 struct Range {
@@ -48,31 +51,43 @@ fn bound(values: &[u32]) -> Range
     Range { low, high }
 }
 
-// The middle of a range, the higher one of two.
-fn middle(low: u32, high: u32) -> u32
-    requires { ⌜ low < high ⌝ }
-    ensures { λ r. ⌜ r ≡ high - (high - low) / 2 ⌝ }
+// Where to look next in a range, of whose numbers `left` are to be below and `right` are not. Numbers that lie evenly are
+// `unit` apart, so it looks as far from the nearer end; but no farther than the middle, so that a range of any numbers
+// is soon narrowed.
+fn guess(low: u32, high: u32, unit: u32, left: u32, right: u32) -> u32
+    requires { ⌜ (low < high) × (unit ≤ maxUnit) × (left + right ≤ maxCabinets) ⌝ }
+    ensures { λ r. ⌜ r ≡ guessed low high unit left right ⌝ }
 {
-    high - (high - low) / 2
+    let step = unit * summaries::lower(left, right);
+    let half = (high - low) / 2;
+    if left <= right {
+        low + summaries::lower(step + 1, high - low - half)
+    } else {
+        high - summaries::lower(step, half)
+    }
 }
 
-// The threshold of the k lowest numbers. The range from `low` to `high` holds one; `below` are below `low`.
+// The threshold of the k lowest numbers. The range from `low` to `high` holds one; `below` are below `low`, and `within`
+// are at most `high`.
 fn find(values: &[u32], k: u32, from: u32, to: u32) -> Threshold
     requires { ⌜ (length (now values) ≤ maxCabinets) × (k ≤ length (now values)) ⌝ }
     requires { ⌜ Bounds (now values) from to ⌝ }
     ensures { λ r. ⌜ Splits (now (values .entry)) k (r .at) (r .ties) ⌝ }
 {
+    let unit = (to - from) / UNITS + 1;
     let mut low = from;
     let mut high = to;
     let mut below: u32 = 0;
-    'halving: while (low < high) & (below != k) {
-        let mid = middle(low, high);
+    let mut within = values.len() as u32;
+    'narrowing: while (low < high) & (below != k) {
+        let mid = guess(low, high, unit, k - below, within - k);
         let count = ranks::count_below(values, mid);
         if count <= k {
             low = mid;
             below = count;
         } else {
             high = mid - 1;
+            within = count;
         }
     }
     Threshold {

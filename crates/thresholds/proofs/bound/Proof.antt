@@ -3,7 +3,7 @@
 use borrow.Author.Needs.{needs}
 use Prim.Native.Nat.{_-_}
 use lib.ListN.{length}
-use Rattle.thresholds.proofs.Halving.{Bounding, bound-none, bound-next, bound-all}
+use Rattle.thresholds.proofs.Narrowing.{Bounding, bound-none, bound-next, bound-all}
 use Rattle.thresholds.proofs.bound.Statement.{statement}
 use Rattle.thresholds.proofs.bound.Tie as tie
 

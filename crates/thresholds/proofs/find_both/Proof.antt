@@ -7,7 +7,7 @@ use Prim.Native.Nat.{_*_, _≤_, _<_}
 use lib.ListN.{length}
 use Rattle.arithmetic.proofs.Bools.{clash}
 use Rattle.model.specs.Ensemble.{maxCabinets}
-use Rattle.thresholds.proofs.Halving.{fitting}
+use Rattle.thresholds.proofs.Narrowing.{fitting}
 use Rattle.thresholds.proofs.find_both.Statement.{statement}
 use Rattle.thresholds.proofs.find_both.Tie as tie
 

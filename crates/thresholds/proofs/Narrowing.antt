@@ -1,25 +1,27 @@
--- The lowest and the highest number, gathered index by index, and the search for a threshold by halving a range.
+-- The lowest and the highest number, gathered index by index, and the search for a threshold in a range that is narrowed.
 --   Bounding values low high t        no number below index t is below low, or above high
---   Halving values k low high below   so many numbers are below low, at most k; more than k are at most high, or all
+--   Narrowing values k low high below within   so many numbers are below low, at most k, and so many at most high, more
+--                                     than k, or all
 -- Assumes nothing.
-use mathlib.Core.Bool.{Bool, true, false, not, _&&_}
+use mathlib.Core.Bool.{Bool, true, false, not, cond, _&&_}
 use mathlib.Core.List.{List}
 use mathlib.Core.Logic.{⊎-elim}
 use mathlib.Core.Path.{_≡_, refl, sym, ap, _∙_}
 use Prim.Native.Nat.{ℕ, zero, suc, _+_, _*_, _-_, _/_, min, max, _≤_, _<_}
+use native.Mathlib.Nat.{mul-le-mul}
 use native.Mathlib.Omega.{arith}
 use borrow.Author.Count.{below-none, below-more}
 use borrow.Author.Tests.{lt-ltb, le-ltb, le-leb, ltb-true, ltb-false, leb-true, leb-false, eqb-true}
 use lib.Dec.{ltb, leb, eqb}
 use lib.ListN.{length}
 use Rattle.arithmetic.proofs.Bools.{both-ways, clash, and-intro, or-left, or-right, iff-eq}
-use Rattle.arithmetic.proofs.Counting.{initial, last, count-ext, count-not}
+use Rattle.arithmetic.proofs.Counting.{initial, last, count-ext, count-le, count-not}
 use Rattle.arithmetic.specs.Counting.{bit, count}
 use Rattle.model.specs.Ensemble.{maxCabinets}
 use Rattle.held.specs.Held.{valueAt}
 use Rattle.ranks.specs.Ranks.{belowNumber, belowOf}
 use Rattle.ranks.proofs.Seeing.{below-of}
-use Rattle.thresholds.specs.Thresholds.{upToNumber, Bounds, Splits, misfit}
+use Rattle.thresholds.specs.Thresholds.{upToNumber, Bounds, Splits, misfit, maxUnit, guessed}
 
 -- where all fail, none is counted
 pub none-counted : (p : ℕ → Bool) (n : ℕ) → ((i : ℕ) → i < n → p i ≡ false) → count p n ≡ 0
@@ -76,51 +78,68 @@ module _ (values : List ℕ) where
       (λ e. lt-ltb x v (omega (arith, leb-true x (v - 1) e)))
       (λ e. le-leb x (v - 1) (omega (arith, ltb-true x v e))))
 
-  pub record Halving (k low high below : ℕ) : Type 0 where
+  pub record Narrowing (k low high below within : ℕ) : Type 0 where
     pub ordered : low ≤ high
     pub counted : below ≡ belowNumber values low
     pub most : below ≤ k
-    pub top : min (k + 1) (length values) ≤ upToNumber values high
+    pub reached : within ≡ upToNumber values high
+    pub top : min (k + 1) (length values) ≤ within
 
-  pub halving-start : (k low high : ℕ) → Bounds values low high → Halving k low high 0
-  halving-start k low high b =
+  pub narrowing-start : (k low high : ℕ) → Bounds values low high → Narrowing k low high 0 (length values)
+  narrowing-start k low high b =
       let n = length values in
-      let none = none-counted (λ t. ltb (valueAt values t) low) n (λ t l. le-ltb (valueAt values t) low (b .least t l)) in
+      let none =
+      none-counted (λ t. ltb (valueAt values t) low) n (λ t l. le-ltb (valueAt values t) low (b .least t l)) in
       let no-more =
       none-counted (λ t. not (leb (valueAt values t) high)) n
       (λ t l. ap not (le-leb (valueAt values t) high (b .greatest t l))) in
       let all = count-not (λ t. leb (valueAt values t) high) n in
-      record { ordered = b .ordered; counted = omega arith; most = omega arith; top = omega arith }
+      record {
+        ordered = b .ordered;
+        counted = omega arith;
+        most = omega arith;
+        reached = omega arith;
+        top = omega arith;
+      }
 
-  module _ (k low high below : ℕ) (so-far : Halving k low high below) where
-    module _ (few : length values ≤ maxCabinets) (wide : low < high) (mid number : ℕ)
-        (half : mid ≡ high - (high - low) / 2) (counts : number ≡ belowOf values mid) where
-      -- not too many are below the middle
-      pub halving-up : number ≤ k → Halving k mid high number
-      halving-up l =
+  module _ (k low high below within : ℕ) (so-far : Narrowing k low high below within) where
+    -- no more are within than there are
+    pub within-most : within ≤ length values
+    within-most = omega (arith, so-far .reached, count-le (λ t. leb (valueAt values t) high) (length values))
+
+    pub within-least : k ≤ length values → k ≤ within
+    within-least l = omega (arith, so-far .top)
+
+    module _ (few : length values ≤ maxCabinets) (mid number : ℕ) (above : low < mid) (up-to : mid ≤ high)
+        (counts : number ≡ belowOf values mid) where
+      -- not too many are below the number
+      pub narrowing-up : number ≤ k → Narrowing k mid high number within
+      narrowing-up l =
           record {
-            ordered = omega arith;
+            ordered = up-to;
             counted = counts ∙ below-of values mid few;
             most = l;
+            reached = so-far .reached;
             top = so-far .top;
           }
 
       -- too many are
-      pub halving-down : k < number → Halving k low (mid - 1) below
-      halving-down l =
+      pub narrowing-down : k < number → Narrowing k low (mid - 1) below number
+      narrowing-down l =
           record {
             ordered = omega arith;
             counted = so-far .counted;
             most = so-far .most;
-            top = omega (arith, below-of values mid few, up-to-before mid (omega arith));
+            reached = counts ∙ below-of values mid few ∙ sym (up-to-before mid (omega arith));
+            top = omega arith;
           }
 
     -- the range is one number, or as many are below it as are asked for
-    pub halving-done : (ltb low high && not (eqb below k)) ≡ false → Splits values k low (k - below)
-    halving-done ended =
+    pub narrowing-done : (ltb low high && not (eqb below k)) ≡ false → Splits values k low (k - below)
+    narrowing-done ended =
         record {
           exact = omega (arith, so-far .counted, so-far .most);
-          tied = λ some. rw (met some) (so-far .top);
+          tied = λ some. rw (met some) (omega (arith, so-far .top, so-far .reached));
         }
       where
         closed : ltb low high ≡ true → k ≤ below
@@ -134,6 +153,32 @@ module _ (values : List ℕ) where
             ⊎-elim (λ t. absurd (omega (arith, closed t)))
             (λ f. omega (arith, ltb-false low high f, so-far .ordered))
             (both-ways (ltb low high))
+
+-- ---- where to look next
+
+-- a step fits 32 bits
+pub step-small :
+    (unit left right : ℕ) → unit ≤ maxUnit → left + right ≤ maxCabinets → unit * min left right ≤ maxUnit * 32
+step-small unit left right a b =
+    let fewer : min left right ≤ 32 = omega arith in mul-le-mul a fewer
+
+-- it is above the start of the range, and no higher than its end
+pub guessed-within :
+    (low high unit left right : ℕ) → low < high
+    → (low < guessed low high unit left right) × (guessed low high unit left right ≤ high)
+unfolding guessed
+guessed-within low high unit left right wide = go (leb left right)
+  where
+    go :
+        (b : Bool)
+        → (low
+        < cond b (low + min (unit * min left right + 1) (high - low - (high - low) / 2))
+        (high - min (unit * min left right) ((high - low) / 2)))
+        × (cond b (low + min (unit * min left right + 1) (high - low - (high - low) / 2))
+        (high - min (unit * min left right) ((high - low) / 2))
+        ≤ high)
+    go true = (omega arith, omega arith)
+    go false = (omega arith, omega arith)
 
 -- ---- lists that fit
 

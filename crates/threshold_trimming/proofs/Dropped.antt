@@ -1,14 +1,15 @@
 -- What is between two thresholds is what is left when the m lowest and the m highest of n numbers are dropped.
 -- Assumes nothing.
-use mathlib.Core.Bool.{Bool, true, false, not, cond, _&&_, _||_}
+use mathlib.Core.Bool.{Bool, true, false, not, cond, _&&_}
 use mathlib.Core.List.{List}
 use mathlib.Core.Logic.{⊎-elim}
-use mathlib.Core.Path.{_≡_, refl, sym, ap, ap₂, _∙_}
-use Prim.Native.Nat.{ℕ, _+_, _*_, _-_, _≤_, _<_}
+use mathlib.Core.Path.{_≡_, sym, ap, ap₂, _∙_}
+use Prim.Native.Nat.{ℕ, _+_, _*_, _-_, min, _≤_, _<_}
 use native.Mathlib.Omega.{arith}
-use borrow.Author.Tests.{lt-ltb, le-ltb, lt-leb, leb-true, leb-false, eq-eqb}
+use borrow.Author.Tests.{le-ltb, le-leb, lt-leb, ltb-true, ltb-false}
 use lib.Dec.{leb, ltb, eqb}
 use lib.ListN.{length, getD}
+use Rattle.arithmetic.specs.Counting.{count}
 use Rattle.arithmetic.specs.Naturals.{total}
 use Rattle.arithmetic.specs.Words.{twoTo32}
 use Rattle.arithmetic.specs.Writing.{table}
@@ -20,32 +21,32 @@ use Rattle.held.specs.Held.{valueAt, keptMark}
 use Rattle.thresholds.specs.Thresholds.{Split, Splits, misfit}
 use Rattle.dropping.specs.Dropping.{unfitFor, trimmedSum, droppedSum, droppedMarks}
 use Rattle.dropping.proofs.Dropped.{fits-few, fits-even, some-left, sum-some, marks-some, sum-left, marks-left}
-use Rattle.threshold_trimming.specs.Trimming.{within, leastFrom, greatestTo, leftAt}
-use Rattle.threshold_trimming.proofs.Splitting.{after-rank, from-rank, to-rank, at-some}
-use Rattle.threshold_trimming.proofs.Splitting.{least-ranked, greatest-ranked}
+use Rattle.threshold_trimming.specs.Trimming.{leastFrom, greatestTo, leftAt}
+use Rattle.threshold_trimming.proofs.Splitting.{before-rank, least-ranked, greatest-ranked}
 
 -- ---- n numbers, of which some are left, between thresholds
 
-not-least : (k r : ℕ) → not (leb k r) ≡ ltb r k
-not-least k r =
-    ⊎-elim (λ t. ap not t ∙ sym (le-ltb r k (leb-true k r t))) (λ f. ap not f ∙ sym (lt-ltb r k (leb-false k r f)))
-    (both-ways (leb k r))
+not-below : (k r : ℕ) → not (ltb r k) ≡ leb k r
+not-below k r =
+    ⊎-elim (λ t. ap not t ∙ sym (lt-leb k r (ltb-true r k t))) (λ f. ap not f ∙ sym (le-leb k r (ltb-false r k f)))
+    (both-ways (ltb r k))
+
+-- places behind as many numbers equal to a threshold as are among the m lowest, and as are not among the m highest
+pub record Places (x : ℕ → ℕ) (n low dropped high kept start end : ℕ) : Type 0 where
+  pub startUpTo : start ≤ n
+  pub dropsFirst : count (λ s. eqb (x s) low) start ≡ min dropped (count (λ s. eqb (x s) low) n)
+  pub endUpTo : end ≤ n
+  pub keepsFirst : count (λ s. eqb (x s) high) end ≡ min kept (count (λ s. eqb (x s) high) n)
 
 module _ (x : ℕ → ℕ) (n m : ℕ) (rest : 2 * m < n) (low dropped high kept : ℕ) (lowest : Split x n m low dropped)
     (highest : Split x n (n - m) high kept) where
-  left-kept : (r : ℕ) → r < n → leftAt x low dropped high kept r ≡ kept-nat n m x r
+  pub left-kept : (start end : ℕ) → Places x n low dropped high kept start end → (r : ℕ) → r < n → leftAt x low start high end r ≡ kept-nat n m x r
   unfolding kept-nat
-  left-kept r l =
-      ap₂ (λ (a b : Bool). a && not b) (after-rank x n m low dropped lowest r l)
-      (after-rank x n (n - m) high kept highest r l)
-      ∙ ap (λ (b : Bool). leb m (rank-nat n x r) && b) (not-least (n - m) (rank-nat n x r))
-
-  module _ (no-low : dropped ≡ 0) (no-high : kept ≡ 0) where
-    within-kept : (r : ℕ) → r < n → within low (x r) (high - 1) ≡ kept-nat n m x r
-    unfolding kept-nat
-    within-kept r l =
-        ap₂ (λ (a b : Bool). a && b) (from-rank x n m low dropped lowest no-low r l)
-        (to-rank x n (n - m) high kept highest no-high r l (at-some x n (n - m) high kept highest no-high (omega arith)))
+  left-kept start end p r l =
+      ap₂ (λ (a b : Bool). not a && b)
+      (before-rank x n m low dropped lowest (omega arith) start (p .startUpTo) (p .dropsFirst) r l)
+      (before-rank x n (n - m) high kept highest (omega arith) end (p .endUpTo) (p .keepsFirst) r l)
+      ∙ ap (λ (b : Bool). b && ltb (rank-nat n x r) (n - m)) (not-below m (rank-nat n x r))
 
   ends-are :
       ((j : ℕ) → x j < twoTo32)
@@ -84,20 +85,8 @@ module _ (rule m : ℕ) (marks numbers : List ℕ) (fit : unfitFor (length marks
   to : Split x n (n - m) high kept
   to = rw (← even) highest
 
-  -- the sum of what a test leaves, by the rule for all
-  by-all :
-      (test : ℕ → Bool) → ((r : ℕ) → r < n → test r ≡ kept-nat n m x r) → eqb rule trimmedMidpoint ≡ false
-      → total (λ r. cond (test r) (x r) 0) (length numbers) ≡ droppedSum rule m marks numbers
-  by-all test same e =
-      rw even (sum-left m marks numbers test same)
-      ∙ all
-      ∙ sum-some m marks numbers fit rule
-    where
-      all : kept-total n m x ≡ trimmedSum rule n m x
-      all = rw e
-
-  -- that of the least and the greatest, by the rule for these
-  pub by-ends :
+  -- by the one rule the least and the greatest that are left
+  by-ends :
       ((j : ℕ) → x j < twoTo32) → eqb rule trimmedMidpoint ≡ true → (last : ℕ) → last ≡ cond (eqb kept 0) (high - 1) high
       → leastFrom x low (length numbers) + greatestTo x last (length numbers) ≡ droppedSum rule m marks numbers
   by-ends small e last is =
@@ -108,37 +97,30 @@ module _ (rule m : ℕ) (marks numbers : List ℕ) (fit : unfitFor (length marks
       ends : ranked-nat n x m + ranked-nat n x (n - m - 1) ≡ trimmedSum rule n m x
       ends = rw e
 
-  -- with ties
-  pub tied-sum :
-      eqb rule trimmedMidpoint ≡ false
-      → total (λ r. cond (leftAt x low dropped high kept r) (x r) 0) (length numbers) ≡ droppedSum rule m marks numbers
-  tied-sum = by-all (leftAt x low dropped high kept) (left-kept x n m rest low dropped high kept from to)
+  module _ (start end : ℕ) (found : Places x (length numbers) low dropped high kept start end) where
+    same : (r : ℕ) → r < n → leftAt x low start high end r ≡ kept-nat n m x r
+    same = left-kept x n m rest low dropped high kept from to start end (rw (← even) found)
 
-  pub tied-marks :
-      table (λ r. keptMark (leftAt x low dropped high kept r) (getD marks r 0)) n ≡ droppedMarks m marks numbers
-  tied-marks =
-      marks-left m marks numbers (leftAt x low dropped high kept) (left-kept x n m rest low dropped high kept from to)
-      ∙ marks-some m marks numbers fit
+    -- by the other all
+    by-all :
+        eqb rule trimmedMidpoint ≡ false
+        → total (λ r. cond (leftAt x low start high end r) (x r) 0) (length numbers) ≡ droppedSum rule m marks numbers
+    by-all e =
+        rw even (sum-left m marks numbers (leftAt x low start high end) same)
+        ∙ all
+        ∙ sum-some m marks numbers fit rule
+      where
+        all : kept-total n m x ≡ trimmedSum rule n m x
+        all = rw e
 
-  -- without ties
-  module _ (no-low : dropped ≡ 0) (no-high : kept ≡ 0) (last : ℕ) (is : last ≡ cond (eqb kept 0) (high - 1) high) where
-    plain : last ≡ high - 1
-    plain = is ∙ rw (eq-eqb kept 0 no-high)
-
-    same : (r : ℕ) → r < n → within low (x r) last ≡ kept-nat n m x r
-    same r l =
-        ap (within low (x r)) plain ∙ within-kept x n m rest low dropped high kept from to no-low no-high r l
-
-    pub plain-sum :
-        ((j : ℕ) → x j < twoTo32)
+    pub sum-is :
+        ((j : ℕ) → x j < twoTo32) → (last : ℕ) → last ≡ cond (eqb kept 0) (high - 1) high
         → cond (eqb rule trimmedMidpoint) (leastFrom x low (length numbers) + greatestTo x last (length numbers))
-        (total (λ r. cond (within low (x r) last) (x r) 0) (length numbers))
+        (total (λ r. cond (leftAt x low start high end r) (x r) 0) (length numbers))
         ≡ droppedSum rule m marks numbers
-    plain-sum small =
-        ⊎-elim (λ t. rw t (by-ends small t last is)) (λ f. rw f (by-all (λ r. within low (x r) last) same f))
-        (both-ways (eqb rule trimmedMidpoint))
+    sum-is small last is =
+        ⊎-elim (λ t. rw t (by-ends small t last is)) (λ f. rw f (by-all f)) (both-ways (eqb rule trimmedMidpoint))
 
-    pub plain-marks :
-        table (λ r. keptMark (within low (x r) last) (getD marks r 0)) n ≡ droppedMarks m marks numbers
-    plain-marks =
-        marks-left m marks numbers (λ r. within low (x r) last) same ∙ marks-some m marks numbers fit
+    pub marks-are :
+        table (λ r. keptMark (leftAt x low start high end r) (getD marks r 0)) n ≡ droppedMarks m marks numbers
+    marks-are = marks-left m marks numbers (leftAt x low start high end) same ∙ marks-some m marks numbers fit

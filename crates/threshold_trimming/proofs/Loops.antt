@@ -1,22 +1,120 @@
--- The loops over the numbers and their marks: the least number from low on and the greatest up to high are found; those
--- between two thresholds are left.
+-- The loops over the numbers: their places are listed, the place behind the first that pass a test is found, and so are
+-- the least number from low on and the greatest up to high.
 -- Assumes nothing.
-use mathlib.Core.Bool.{Bool, cond, not, _&&_}
+use borrow.Author.Tests.{ltb-true, ltb-false}
+use mathlib.Core.Bool.{Bool, true, false, cond, _&&_}
 use mathlib.Core.List.{List}
+use mathlib.Core.Logic.{⊎-elim}
 use mathlib.Core.Path.{_≡_, refl, ap, ap₂, _∙_}
-use Prim.Native.Nat.{ℕ, _+_, _-_, min, max, _≤_, _<_}
+use Prim.Native.Nat.{ℕ, zero, suc, _+_, _-_, min, max, _≤_, _<_}
+use native.Mathlib.Nat.{le-refl}
 use native.Mathlib.Numerals.{add-one}
 use native.Mathlib.Omega.{arith}
-use lib.Dec.{ltb, eqb}
+use lib.Dec.{ltb}
 use lib.ListN.{length, getD, set}
 use mir.Val.{boolByte}
-use Rattle.arithmetic.specs.Naturals.{total}
+use Rattle.arithmetic.specs.Counting.{count}
 use Rattle.arithmetic.specs.Words.{twoTo32}
-use Rattle.loop_laws.proofs.Loops.{Counts, count-none, count-one, count-small, flag-small}
-use Rattle.model.specs.Ensemble.{maxCabinets}
-use Rattle.held.specs.Held.{keptMark}
-use Rattle.dropping.proofs.Loops.{Striking, strike-none, strike-one, Summing, summing-none, summing-one, all-summed, sum-fits}
-use Rattle.threshold_trimming.specs.Trimming.{leastFrom, greatestTo, after, leftAt}
+use Rattle.arithmetic.specs.Writing.{table}
+use Rattle.arithmetic.proofs.Bools.{both-ways, and-left, and-right, and-intro, clash}
+use Rattle.arithmetic.proofs.Writing.{length-table, getD-table, overwrite-whole}
+use Rattle.loop_laws.proofs.Loops.{Storing, storing-none, storing-long, storing-next, storing-all}
+use Rattle.loop_laws.proofs.Loops.{flag, flag-small, count-next}
+use Rattle.threshold_trimming.specs.Trimming.{Placed, isLeft, leftAt, leastFrom, greatestTo}
+
+-- ---- listing the places, r of them
+
+pub record Placing (places₀ places : List ℕ) (r : ℕ) : Type 0 where
+  pub long : length places ≡ length places₀
+  pub stores : Storing (λ s. s) (length places₀) places₀ places r
+
+module _ {places₀ : List ℕ} where
+  placing : {places : List ℕ} {r : ℕ} → Storing (λ s. s) (length places₀) places₀ places r → Placing places₀ places r
+  placing {places} {r} k =
+      record { long = storing-long (λ s. s) (length places₀) places₀ places r k; stores = k }
+
+  pub place-none : Placing places₀ places₀ 0
+  place-none = placing (storing-none (λ s. s) (length places₀) places₀ (le-refl (length places₀)))
+
+  module _ {places : List ℕ} {r : ℕ} (so-far : Placing places₀ places r) where
+    pub place-one : r < length places → Placing places₀ (set places r r) (r + 1)
+    place-one here =
+        placing
+        (storing-next (λ s. s) (length places₀) places₀ places r (so-far .stores) (omega (arith, so-far .long)) r refl)
+
+    pub all-placed : length places ≤ r → places ≡ table (λ s. s) (length places₀)
+    all-placed ended =
+        let t = length-table (λ (s : ℕ). s) (length places₀) in
+        storing-all (λ s. s) (length places₀) places₀ places r (so-far .stores) (omega (arith, so-far .long))
+        ∙ overwrite-whole (table (λ (s : ℕ). s) (length places₀)) places₀ (omega arith)
+
+-- a list of places is as long as asked, and has them
+pub table-long : (places : List ℕ) (n : ℕ) → places ≡ table (λ s. s) n → length places ≡ n
+table-long places n e = ap length e ∙ length-table (λ (s : ℕ). s) n
+
+pub table-placed : (places : List ℕ) (n : ℕ) → places ≡ table (λ s. s) n → Placed places
+table-placed places n e r l =
+    ap (λ (l : List ℕ). getD l r 0) e ∙ getD-table (λ (s : ℕ). s) n r 0 (omega (arith, table-long places n e))
+
+-- what is said of a number with its listed place is said of it with its index
+pub left-placed :
+    (x : ℕ → ℕ) (places : List ℕ) (low start high end r : ℕ) (b : Bool) → Placed places → r < length places
+    → b ≡ isLeft (x r) (getD places r 0) low start high end → b ≡ leftAt x low start high end r
+left-placed x places low start high end r b placed here e =
+    e ∙ ap (λ (s : ℕ). isLeft (x r) s low start high end) (placed r here)
+
+-- ---- passing the first `ties` that pass a test: r of n are passed, `left` are to come
+
+-- among more there are not fewer
+pub count-longer : (p : ℕ → Bool) (r n : ℕ) → r ≤ n → count p r ≤ count p n
+unfolding count
+count-longer p r zero l = rw none (le-refl 0)
+  where
+    none : r ≡ 0
+    none = omega arith
+count-longer p r (suc k) l =
+    ⊎-elim (λ t. omega (arith, count-longer p r k (omega (arith, ltb-true r (suc k) t))))
+    (λ f.
+    let all : r ≡ suc k = omega (arith, ltb-false r (suc k) f) in
+    rw all (le-refl (count p (suc k))))
+    (both-ways (ltb r (suc k)))
+
+pub record Finding (p : ℕ → Bool) (ties n left r : ℕ) : Type 0 where
+  pub upTo : r ≤ n
+  pub rest : left + count p r ≡ ties
+
+module _ {p : ℕ → Bool} {ties n : ℕ} where
+  pub finding-none : Finding p ties n ties 0
+  unfolding count
+  finding-none = record { upTo = omega arith; rest = omega arith }
+
+  module _ {left r : ℕ} (so-far : Finding p ties n left r) where
+    module _ (more : (ltb r n && ltb 0 left) ≡ true) where
+      pub finding-here : r < n
+      finding-here = ltb-true r n (and-left (ltb r n) (ltb 0 left) more)
+
+      pub finding-fits : boolByte (p r) ≤ left
+      finding-fits =
+          omega (arith, flag-small (p r), ltb-true 0 left (and-right (ltb r n) (ltb 0 left) more))
+
+      pub finding-one : Finding p ties n (left - boolByte (p r)) (r + 1)
+      finding-one =
+          record {
+            upTo = omega (arith, finding-here);
+            rest = omega (arith, finding-fits, flag (p r), count-next p r, so-far .rest);
+          }
+
+    pub found : (ltb r n && ltb 0 left) ≡ false → count p r ≡ min ties (count p n)
+    found ended =
+        ⊎-elim
+        (λ t.
+        ⊎-elim (λ u. clash (and-intro t u) ended)
+        (λ f. omega (arith, ltb-false 0 left f, so-far .rest, count-longer p r n (so-far .upTo)))
+        (both-ways (ltb 0 left)))
+        (λ f.
+        let all : r ≡ n = omega (arith, ltb-false r n f, so-far .upTo) in
+        omega (arith, ap (count p) all, so-far .rest))
+        (both-ways (ltb r n))
 
 -- ---- the least number from low on and the greatest up to high, of the first r of n
 
@@ -51,76 +149,3 @@ module _ {x : ℕ → ℕ} {low high n : ℕ} where
     all-ends ended =
         let all : r ≡ n = omega arith in
         rw (← all) (ap₂ (λ (i j : ℕ). i + j) (so-far .lowest) (so-far .highest))
-
--- ---- dropping by two thresholds, r of them: striking out, summing what is left, counting those equal to a threshold
-
--- what is left of a number
-abbrev pub leftOf : (ℕ → ℕ) → ℕ → ℕ → ℕ → ℕ → ℕ → ℕ
-leftOf x low dropped high kept r = cond (leftAt x low dropped high kept r) (x r) 0
-
-pub record DroppingTied (x : ℕ → ℕ) (low dropped high kept : ℕ) (marks₀ marks : List ℕ) (lows highs sum r : ℕ) : Type 0
-  where
-    pub strikes : Striking (leftAt x low dropped high kept) marks₀ marks r
-    pub sums : Summing (leftOf x low dropped high kept) (twoTo32 - 1) (length marks₀) sum r
-    pub atLow : Counts (λ s. eqb (x s) low) (length marks₀) lows r
-    pub atHigh : Counts (λ s. eqb (x s) high) (length marks₀) highs r
-
-module _ {x : ℕ → ℕ} {low dropped high kept : ℕ} {marks₀ : List ℕ} where
-  pub tied-none : DroppingTied x low dropped high kept marks₀ marks₀ 0 0 0 0
-  tied-none =
-      record {
-        strikes = strike-none;
-        sums = summing-none (leftOf x low dropped high kept) (twoTo32 - 1) (length marks₀);
-        atLow = count-none (λ s. eqb (x s) low) (length marks₀);
-        atHigh = count-none (λ s. eqb (x s) high) (length marks₀);
-      }
-
-  module _ {marks : List ℕ} {lows highs sum r : ℕ}
-      (k : DroppingTied x low dropped high kept marks₀ marks lows highs sum r)
-    where
-      module _ (here : r < length marks) where
-        below : r < length marks₀
-        below = omega arith
-
-        -- one more
-        pub tied-one :
-            (a b : Bool) → a ≡ after (x r) low lows dropped → b ≡ after (x r) high highs kept
-            → (y z : ℕ) → y ≡ keptMark (a && not b) (getD marks r 0) → (z ≡ cond (a && not b) (x r) 0) × (z < twoTo32)
-            → DroppingTied x low dropped high kept marks₀ (set marks r y) (lows + boolByte (eqb (x r) low))
-            (highs + boolByte (eqb (x r) high)) (sum + z) (r + 1)
-        tied-one a b ea eb y z ey ez =
-            let left : (a && not b) ≡ leftAt x low dropped high kept r =
-            ap₂ (λ (p q : Bool). p && not q)
-            (ea ∙ ap (λ (c : ℕ). after (x r) low c dropped) (k .atLow .exact))
-            (eb ∙ ap (λ (c : ℕ). after (x r) high c kept) (k .atHigh .exact)) in
-            record {
-              strikes = strike-one (k .strikes) here y (ey ∙ ap (λ (l : Bool). keptMark l (getD marks r 0)) left);
-              sums =
-                  summing-one (leftOf x low dropped high kept) (twoTo32 - 1) (length marks₀) sum r z (k .sums) below
-                  (ez .0 ∙ ap (λ (l : Bool). cond l (x r) 0) left) (omega arith);
-              atLow = count-one (λ s. eqb (x s) low) (length marks₀) (k .atLow) below;
-              atHigh = count-one (λ s. eqb (x s) high) (length marks₀) (k .atHigh) below;
-            }
-
-        -- the sum and both counts fit
-        module _ (few : length marks₀ ≤ maxCabinets) where
-          pub tied-sum-fits : (z : ℕ) → z < twoTo32 → sum + z < 18446744073709551616
-          tied-sum-fits z small =
-              sum-fits (leftOf x low dropped high kept) (twoTo32 - 1) (length marks₀) sum r z (k .sums) below few
-              (omega arith) (omega arith)
-
-          pub lows-fit : lows + boolByte (eqb (x r) low) < twoTo32
-          lows-fit =
-              let counted = count-small (λ s. eqb (x s) low) (length marks₀) (k .atLow) in
-              omega (arith, flag-small (eqb (x r) low), below)
-
-          pub highs-fit : highs + boolByte (eqb (x r) high) < twoTo32
-          highs-fit =
-              let counted = count-small (λ s. eqb (x s) high) (length marks₀) (k .atHigh) in
-              omega (arith, flag-small (eqb (x r) high), below)
-
-      -- all of them
-      pub all-left : length marks ≤ r → sum ≡ total (leftOf x low dropped high kept) (length marks₀)
-      all-left ended =
-          all-summed (leftOf x low dropped high kept) (twoTo32 - 1) (length marks₀) sum r (k .sums)
-          (omega arith)

@@ -1,10 +1,9 @@
 -- The k lowest of n numbers, equal ones by index, lie below a threshold; so a number's rank is told by two thresholds,
 -- and the lowest and the highest number that are left are told by them too.
---   after-rank           a number is above the threshold just where its rank is at least k
---   from-rank, to-rank   the same by its value alone, where no ties are among the k
+--   before-rank          a number comes before the threshold just where its rank is below k
 --   least-ranked, greatest-ranked    the number of rank k, and the one before it
 -- Assumes nothing.
-use mathlib.Core.Bool.{Bool, true, false, not, cond, _&&_, _||_}
+use mathlib.Core.Bool.{Bool, true, false, cond, _&&_, _||_}
 use mathlib.Core.Logic.{⊎-elim}
 use mathlib.Core.Path.{_≡_, refl, sym, ap, _∙_}
 use Prim.Native.Nat.{ℕ, zero, suc, _+_, _-_, min, max, _≤_, _<_}
@@ -12,21 +11,51 @@ use native.Mathlib.Omega.{arith}
 use borrow.Author.Tests.{lt-ltb, le-ltb, le-leb, lt-leb, eq-eqb, ne-eqb, ltb-true, ltb-false, leb-true, leb-false}
 use borrow.Author.Tests.{eqb-true, eqb-false}
 use lib.Dec.{leb, ltb, eqb}
-use Rattle.arithmetic.specs.Counting.{count}
+use Rattle.arithmetic.specs.Counting.{bit, count}
 use Rattle.arithmetic.specs.Words.{twoTo32}
-use Rattle.arithmetic.proofs.Bools.{both-ways, and-false, or-false, or-inl, iff-eq}
-use Rattle.arithmetic.proofs.Counting.{initial, last, split-last, count-mono, count-ext}
+use Rattle.arithmetic.proofs.Bools.{both-ways, or-cases, or-false, or-inl, or-inr, iff-eq}
+use Rattle.arithmetic.proofs.Counting.{initial, last, split-last, count-mono, count-ext, count-both}
+use Rattle.loop_laws.proofs.Loops.{count-next}
 use Rattle.round_laws.specs.Naturals.{precedes-nat, rank-nat, ranked-nat}
 use Rattle.value_laws.proofs.Order.{count-more, lower-precedes, precedes-at-most, precedes-self, rank-less, rank-small, below-rank}
 use Rattle.value_laws.proofs.Order.{Ranked, ranked-found}
 use Rattle.ranks.proofs.Seeing.{rank-equal}
 use Rattle.thresholds.specs.Thresholds.{Split}
 use Rattle.thresholds.proofs.Narrowing.{none-counted}
-use Rattle.threshold_trimming.specs.Trimming.{leastFrom, greatestTo, after}
+use Rattle.threshold_trimming.proofs.Loops.{count-longer}
+use Rattle.threshold_trimming.specs.Trimming.{leastFrom, greatestTo, before}
 
 positive : (t : ℕ) → (t ≡ 0 → ⊥) → 0 < t
 positive zero ne = absurd (ne refl)
 positive (suc t) ne = omega arith
+
+-- so many are below a number, and so many equal to it
+up-to-both :
+    (x : ℕ → ℕ) (n v : ℕ)
+    → count (λ t. leb (x t) v) n ≡ count (λ t. ltb (x t) v) n + count (λ t. eqb (x t) v) n
+up-to-both x n v =
+    let both = count-both (λ t. ltb (x t) v) (λ t. eqb (x t) v) n in
+    let none =
+    none-counted (λ t. ltb (x t) v && eqb (x t) v) n (λ t _. not-both (x t)) in
+    let all = count-ext (λ t. leb (x t) v) (λ t. ltb (x t) v || eqb (x t) v) n (λ t _. either (x t)) in
+    omega arith
+  where
+    not-both : (y : ℕ) → (ltb y v && eqb y v) ≡ false
+    not-both y =
+        ⊎-elim (λ t. ap (λ (b : Bool). b && eqb y v) t ∙ ne-eqb y v (λ e. absurd (omega (arith, e, ltb-true y v t))))
+        (λ f. ap (λ (b : Bool). b && eqb y v) f)
+        (both-ways (ltb y v))
+
+    either : (y : ℕ) → leb y v ≡ (ltb y v || eqb y v)
+    either y =
+        iff-eq (leb y v) (ltb y v || eqb y v)
+        (λ p.
+        ⊎-elim (λ t. or-inl (eqb y v) t)
+        (λ f. or-inr (ltb y v) (eq-eqb y v (omega (arith, leb-true y v p, ltb-false y v f))))
+        (both-ways (ltb y v)))
+        (λ p.
+        ⊎-elim (λ t. le-leb y v (omega (arith, ltb-true y v t))) (λ e. le-leb y v (omega (arith, eqb-true y v e)))
+        (or-cases (ltb y v) (eqb y v) p))
 
 -- ---- the least number from low on, and the greatest up to high, of n
 
@@ -121,74 +150,56 @@ module _ (x : ℕ → ℕ) (n : ℕ) where
     rank-here r l e =
         rank-equal x n r l ∙ ap (λ (v : ℕ). count (λ t. ltb (x t) v) n + count (λ s. eqb (x s) v) r) e
 
+    -- how many are equal to the threshold, of the first r and of all
     abbrev passed : ℕ → ℕ
-    passed r = count (λ s. eqb (x s) at) r
+    passed r = count (λ t. eqb (x t) at) r
 
-    pub after-rank : (r : ℕ) → r < n → after (x r) at (passed r) ties ≡ leb k (rk r)
-    after-rank r l =
-        ⊎-elim
-        (λ t.
-        or-inl (eqb (x r) at && leb ties (passed r)) t
-        ∙ sym (le-leb k (rk r) (rank-beyond r l (ltb-true at (x r) t))))
-        (λ f.
-        let most = ltb-false at (x r) f in
-        ⊎-elim
-        (λ t.
-        let here = eqb-true (x r) at t in
-        let own = rank-here r l here in
-        ap (λ (b : Bool). b || (eqb (x r) at && leb ties (passed r))) f
-        ∙ ap (λ (b : Bool). b && leb ties (passed r)) t
-        ∙ iff-eq (leb ties (passed r)) (leb k (rk r))
-        (λ p. le-leb k (rk r) (omega (arith, s .exact, leb-true ties (passed r) p)))
-        (λ p. le-leb ties (passed r) (omega (arith, s .exact, leb-true k (rk r) p))))
-        (λ g.
-        let under : x r < at = apart (x r) at most (eqb-false (x r) at g) in
-        or-false f (ap (λ (b : Bool). b && leb ties (passed r)) g)
-        ∙ sym (lt-leb k (rk r) (omega (arith, s .exact, rank-under r at l under))))
-        (both-ways (eqb (x r) at)))
-        (both-ways (ltb at (x r)))
-      where
-        apart : (a b : ℕ) → a ≤ b → (a ≡ b → ⊥) → a < b
-        apart a b l ne = ⊎-elim (λ t. ltb-true a b t) (λ f. absurd (ne (omega (arith, ltb-false a b f)))) (both-ways (ltb a b))
+    -- no more of these are among the k than there are
+    enough : k ≤ n → ties ≤ passed n
+    enough l =
+        ⊎-elim (λ t. omega (arith, eqb-true ties 0 t))
+        (λ f. omega (arith, s .exact, s .tied (positive ties (eqb-false ties 0 f)), up-to-both x n at))
+        (both-ways (eqb ties 0))
 
-    -- ---- without ties
-
-    module _ (none : ties ≡ 0) where
-      pub from-rank : (r : ℕ) → r < n → leb at (x r) ≡ leb k (rk r)
-      from-rank r l =
-          iff-eq (leb at (x r)) (leb k (rk r))
-          (λ p. le-leb k (rk r) (omega (arith, s .exact, rank-over r at (leb-true at (x r) p))))
+    -- where as many are passed before a place as are among the k, a number comes before the threshold just where its rank
+    -- is below k
+    module _ (most : k ≤ n) (end : ℕ) (up : end ≤ n) (first : passed end ≡ min ties (passed n)) where
+      ends-there : (r : ℕ) → r < n → x r ≡ at → ltb r end ≡ ltb (rk r) k
+      ends-there r l here =
+          let own = rank-here r l here in
+          let one = ap bit (eq-eqb (x r) at here) in
+          iff-eq (ltb r end) (ltb (rk r) k)
           (λ p.
-          ⊎-elim (λ t. t)
-          (λ f. absurd (omega (arith, s .exact, leb-true k (rk r) p, rank-under r at l (leb-false at (x r) f))))
-          (both-ways (leb at (x r))))
-
-      pub to-rank : (r : ℕ) → r < n → 0 < at → leb (x r) (at - 1) ≡ ltb (rk r) k
-      to-rank r l some =
-          iff-eq (leb (x r) (at - 1)) (ltb (rk r) k)
-          (λ p. lt-ltb (rk r) k (omega (arith, s .exact, rank-under r at l (omega (arith, leb-true (x r) (at - 1) p)))))
+          let more = count-longer (λ t. eqb (x t) at) (r + 1) end (omega (arith, ltb-true r end p)) in
+          lt-ltb (rk r) k (omega (arith, s .exact, count-next (λ t. eqb (x t) at) r)))
           (λ p.
           ⊎-elim (λ t. t)
           (λ f.
-          absurd
-          (omega (
-            arith,
-            s .exact,
-            ltb-true (rk r) k p,
-            rank-over r at (omega (arith, leb-false (x r) (at - 1) f)),
-          )))
-          (both-ways (leb (x r) (at - 1))))
+          let fewer = count-longer (λ t. eqb (x t) at) end r (ltb-false r end f) in
+          absurd (omega (arith, s .exact, ltb-true (rk r) k p, enough most)))
+          (both-ways (ltb r end)))
 
-      -- a threshold above some number is no 0
-      pub at-some : 0 < k → 0 < at
-      at-some some =
-          ⊎-elim (λ t. ltb-true 0 at t)
+      pub before-rank : (r : ℕ) → r < n → before (x r) r at end ≡ ltb (rk r) k
+      before-rank r l =
+          ⊎-elim
+          (λ t.
+          or-inl (eqb (x r) at && ltb r end) t
+          ∙ sym (lt-ltb (rk r) k (omega (arith, s .exact, rank-under r at l (ltb-true (x r) at t)))))
           (λ f.
-          let zero-at : at ≡ 0 = omega (arith, ltb-false 0 at f) in
-          let c = count-mono (λ t. ltb (x t) at) (λ t. ltb (x t) 0) n (λ t _ p. rw (← zero-at) p) in
-          let d = none-counted (λ t. ltb (x t) 0) n (λ t _. le-ltb (x t) 0 (omega arith)) in
-          absurd (omega (arith, s .exact)))
-          (both-ways (ltb 0 at))
+          ⊎-elim
+          (λ t.
+          ap (λ (b : Bool). b || (eqb (x r) at && ltb r end)) f
+          ∙ ap (λ (b : Bool). b && ltb r end) t
+          ∙ ends-there r l (eqb-true (x r) at t))
+          (λ g.
+          let over : at < x r = apart at (x r) (ltb-false (x r) at f) (eqb-false (x r) at g) in
+          or-false f (ap (λ (b : Bool). b && ltb r end) g) ∙ sym (le-ltb (rk r) k (rank-beyond r l over)))
+          (both-ways (eqb (x r) at)))
+          (both-ways (ltb (x r) at))
+        where
+          apart : (a b : ℕ) → a ≤ b → (b ≡ a → ⊥) → a < b
+          apart a b l ne =
+              ⊎-elim (λ t. ltb-true a b t) (λ f. absurd (ne (omega (arith, ltb-false a b f)))) (both-ways (ltb a b))
 
     -- ---- the number of rank k, and the one before it
 

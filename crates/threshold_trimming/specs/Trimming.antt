@@ -1,17 +1,28 @@
 -- INNER: no reader needs this page to believe a public promise. What the functions give that drop the m lowest and the
 -- m highest readings by thresholds (Rattle.thresholds.specs.Thresholds), x being the numbers.
---   within                    a number lies from low to high
+--   Placed                    a list has the place of each number
+--   before                    a number comes before a threshold: it is below `at`, or equal to it and its place before `end`
+--   isLeft, leftAt            it comes behind the one threshold and before the other; the same of the number of an index
 --   leastFrom, greatestTo     the least of the first n numbers that is at least low, and the greatest that is at most high
---   after                     a number is above a threshold, where so many equal to it have passed
---   leftAt                    the number of an index is between two thresholds
 use mathlib.Core.Bool.{Bool, cond, not, _&&_, _||_}
-use Prim.Native.Nat.{ℕ, zero, suc, _-_, min, max}
-use lib.Dec.{leb, ltb, eqb}
-use Rattle.arithmetic.specs.Counting.{count}
+use mathlib.Core.List.{List}
+use mathlib.Core.Path.{_≡_}
+use Prim.Native.Nat.{ℕ, zero, suc, _-_, min, max, _<_}
+use lib.Dec.{ltb, eqb}
+use lib.ListN.{length, getD}
 use Rattle.arithmetic.specs.Words.{twoTo32}
 
-abbrev pub within : ℕ → ℕ → ℕ → Bool
-within low v high = leb low v && leb v high
+abbrev pub Placed : List ℕ → Type 0
+Placed places = (r : ℕ) → r < length places → getD places r 0 ≡ r
+
+abbrev pub before : ℕ → ℕ → ℕ → ℕ → Bool
+before v r at end = ltb v at || (eqb v at && ltb r end)
+
+abbrev pub isLeft : ℕ → ℕ → ℕ → ℕ → ℕ → ℕ → Bool
+isLeft v r low start high end = not (before v r low start) && before v r high end
+
+abbrev pub leftAt : (ℕ → ℕ) → ℕ → ℕ → ℕ → ℕ → ℕ → Bool
+leftAt x low start high end r = isLeft (x r) r low start high end
 
 unfoldable pub leastFrom : (ℕ → ℕ) → ℕ → ℕ → ℕ
 leastFrom x low zero = twoTo32 - 1
@@ -20,11 +31,3 @@ leastFrom x low (suc n) = min (cond (ltb (x n) low) (twoTo32 - 1) (x n)) (leastF
 unfoldable pub greatestTo : (ℕ → ℕ) → ℕ → ℕ → ℕ
 greatestTo x high zero = 0
 greatestTo x high (suc n) = max (greatestTo x high n) (cond (ltb high (x n)) 0 (x n))
-
-abbrev pub after : ℕ → ℕ → ℕ → ℕ → Bool
-after v at passed ties = ltb at v || (eqb v at && leb ties passed)
-
--- those passed are the ones of a lower index
-abbrev pub leftAt : (ℕ → ℕ) → ℕ → ℕ → ℕ → ℕ → ℕ → Bool
-leftAt x low dropped high kept r =
-    after (x r) low (count (λ s. eqb (x s) low) r) dropped && not (after (x r) high (count (λ s. eqb (x s) high) r) kept)

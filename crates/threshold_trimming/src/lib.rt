@@ -1,57 +1,108 @@
-// Drops the m lowest and the m highest of more readings than are ranked one by one: by the numbers between which those
-// that are left lie. Where none of the dropped ones is equal to one that is left, these numbers alone say which are
-// dropped.
+// Drops the m lowest and the m highest of more readings than are ranked one by one: by the thresholds between which those
+// that are left lie. A number at a threshold is dropped or left by its place.
 ghost use mathlib.Core.Path.{_≡_};
-ghost use mathlib.Core.Bool.{cond, not, _&&_};
-ghost use Prim.Native.Nat.{_+_, _-_, _≤_, _<_};
-ghost use lib.Dec.{leb, ltb, eqb};
+ghost use mathlib.Core.Bool.{cond};
+ghost use Prim.Native.Nat.{_+_, _-_, min, _≤_, _<_};
+ghost use lib.Dec.{ltb, eqb};
 ghost use lib.ListN.{length, getD};
+ghost use Rattle.arithmetic.specs.Counting.{count};
 ghost use Rattle.arithmetic.specs.Naturals.{total};
 ghost use Rattle.arithmetic.specs.Words.{twoTo32};
 ghost use Rattle.arithmetic.specs.Writing.{table};
 ghost use Rattle.model.specs.Ensemble.{maxCabinets};
-ghost use Rattle.held.specs.Held.{valueAt, keptMark};
 ghost use Rattle.model.specs.RoundSheet.{trimmedMidpoint};
+ghost use Rattle.held.specs.Held.{valueAt, keptMark};
 ghost use Rattle.dropping.specs.Dropping.{droppedSum, droppedMarks};
-ghost use Rattle.threshold_trimming.specs.Trimming.{within, leastFrom, greatestTo, after, leftAt};
+ghost use Rattle.threshold_trimming.specs.Trimming.{Placed, before, isLeft, leftAt, leastFrom, greatestTo};
 use model::TRIMMED_MIDPOINT;
 
-fn within(low: u32, number: u32, high: u32) -> bool
-    ensures { λ r. ⌜ r ≡ within low number high ⌝ }
-{
-    (low <= number) & (number <= high)
-}
-
-// Strikes out the readings whose numbers are not from low to high.
-fn strike(marks: &mut [u8], numbers: &[u32], low: u32, high: u32)
-    requires { ⌜ length (now numbers) ≡ length (now marks) ⌝ }
-    ensures { λ _. ⌜
-        now (marks .exit)
-        ≡ table
-        (λ r. keptMark (within low (valueAt (now (numbers .entry)) r) high) (getD (now (marks .entry)) r 0))
-        (length (now (marks .entry))) ⌝ }
+// The place of each number, in a lent list. Compared with these the places take no longer than the numbers.
+fn fill_places(places: &mut [u32])
+    requires { ⌜ length (now places) ≤ maxCabinets ⌝ }
+    ensures { λ _. ⌜ now (places .exit) ≡ table (λ r. r) (length (now (places .entry))) ⌝ }
 {
     let mut r = 0;
-    'readings: while r < marks.len() {
-        marks[r] = held::kept_mark(within(low, numbers[r], high), marks[r]);
+    'places: while r < places.len() {
+        places[r] = r as u32;
         r += 1;
     }
 }
 
-// The sum of the numbers from low to high.
-fn sum_between(numbers: &[u32], low: u32, high: u32) -> u64
+// The place behind the first `ties` numbers equal to one, or behind all where there are fewer.
+fn find_place(numbers: &[u32], at: u32, ties: u32) -> u32
     requires { ⌜ length (now numbers) ≤ maxCabinets ⌝ }
+    ensures { λ p. ⌜
+        count (λ s. eqb (valueAt (now (numbers .entry)) s) at) p
+        ≡ min ties (count (λ s. eqb (valueAt (now (numbers .entry)) s) at) (length (now (numbers .entry)))) ⌝ }
+    ensures { λ p. ⌜ p ≤ length (now (numbers .entry)) ⌝ }
+{
+    let mut left = ties;
+    let mut r = 0;
+    'numbers: while (r < numbers.len()) & (0 < left) {
+        left -= (numbers[r] == at) as u32;
+        r += 1;
+    }
+    r as u32
+}
+
+// Whether a number comes before a threshold: it is below, or equal and its place is before the end.
+fn before(number: u32, place: u32, at: u32, end: u32) -> bool
+    ensures { λ r. ⌜ r ≡ before number place at end ⌝ }
+{
+    (number < at) | ((number == at) & (place < end))
+}
+
+// Whether a number comes behind the one threshold and before the other.
+fn is_left(number: u32, place: u32, low: u32, start: u32, high: u32, end: u32) -> bool
+    ensures { λ r. ⌜ r ≡ isLeft number place low start high end ⌝ }
+{
+    !before(number, place, low, start) & before(number, place, high, end)
+}
+
+// Strikes out the readings that are not left.
+fn strike(
+    marks: &mut [u8],
+    numbers: &[u32],
+    places: &[u32],
+    low: u32,
+    start: u32,
+    high: u32,
+    end: u32,
+)
+    requires { ⌜
+        (length (now numbers) ≡ length (now marks)) × (length (now places) ≡ length (now marks)) ⌝ }
+    requires { ⌜ Placed (now places) ⌝ }
+    ensures { λ _. ⌜
+        now (marks .exit)
+        ≡ table
+        (λ r. keptMark (leftAt (valueAt (now (numbers .entry))) low start high end r) (getD (now (marks .entry)) r 0))
+        (length (now (marks .entry))) ⌝ }
+{
+    let mut r = 0;
+    'readings: while r < marks.len() {
+        marks[r] = held::kept_mark(
+            is_left(numbers[r], places[r], low, start, high, end),
+            marks[r],
+        );
+        r += 1;
+    }
+}
+
+// The sum of the numbers that are left.
+fn sum_left(numbers: &[u32], places: &[u32], low: u32, start: u32, high: u32, end: u32) -> u64
+    requires { ⌜ (length (now numbers) ≤ maxCabinets) × (length (now places) ≡ length (now numbers)) ⌝ }
+    requires { ⌜ Placed (now places) ⌝ }
     ensures { λ s. ⌜
         s
         ≡ total
-        (λ r. cond (within low (valueAt (now (numbers .entry)) r) high) (valueAt (now (numbers .entry)) r) 0)
+        (λ r. cond (leftAt (valueAt (now (numbers .entry))) low start high end r) (valueAt (now (numbers .entry)) r) 0)
         (length (now (numbers .entry))) ⌝ }
 {
     let mut sum: u64 = 0;
     let mut r = 0;
     'numbers: while r < numbers.len() {
         let number = numbers[r];
-        sum += dropping::part(number, within(low, number, high));
+        sum += dropping::part(number, is_left(number, places[r], low, start, high, end));
         r += 1;
     }
     sum
@@ -90,72 +141,47 @@ fn sum_ends(numbers: &[u32], low: u32, high: u32) -> u64
     (least as u64) + (most as u64)
 }
 
-// Whether a number is above a threshold, where so many equal to it have passed.
-fn after(number: u32, at: u32, passed: u32, ties: u32) -> bool
-    ensures { λ r. ⌜ r ≡ after number at passed ties ⌝ }
-{
-    (at < number) | ((number == at) & (ties <= passed))
-}
-
-// Strikes out the readings that are not between two thresholds, and sums the numbers that are left.
-fn drop_tied(marks: &mut [u8], numbers: &[u32], low: u32, dropped: u32, high: u32, kept: u32) -> u64
-    requires { ⌜ (length (now marks) ≤ maxCabinets) × (length (now numbers) ≡ length (now marks)) ⌝ }
-    ensures { λ s. ⌜
-        s
-        ≡ total
-        (λ r.
-        cond (leftAt (valueAt (now (numbers .entry))) low dropped high kept r) (valueAt (now (numbers .entry)) r) 0)
-        (length (now (numbers .entry))) ⌝ }
-    ensures { λ _. ⌜
-        now (marks .exit)
-        ≡ table
-        (λ r.
-        keptMark (leftAt (valueAt (now (numbers .entry))) low dropped high kept r) (getD (now (marks .entry)) r 0))
-        (length (now (marks .entry))) ⌝ }
-{
-    let mut lows: u32 = 0;
-    let mut highs: u32 = 0;
-    let mut sum: u64 = 0;
-    let mut r = 0;
-    'readings: while r < marks.len() {
-        let number = numbers[r];
-        let left = after(number, low, lows, dropped) & !after(number, high, highs, kept);
-        marks[r] = held::kept_mark(left, marks[r]);
-        sum += dropping::part(number, left);
-        lows += (number == low) as u32;
-        highs += (number == high) as u32;
-        r += 1;
-    }
-    sum
-}
-
-// Drops the readings whose numbers are not from low to high: strikes them out, and gives the sum that the rule asks for,
-// of the least and the greatest that are left, or of all.
-fn drop_between(marks: &mut [u8], numbers: &[u32], low: u32, high: u32, rule: u8) -> u64
-    requires { ⌜ (length (now marks) ≤ maxCabinets) × (length (now numbers) ≡ length (now marks)) ⌝ }
+// Drops the readings that are not left, with lent room for places: strikes them out, and gives the sum that the rule asks
+// for, of the least and the greatest that are left, or of all.
+fn drop_between(
+    marks: &mut [u8],
+    numbers: &[u32],
+    places: &mut [u32],
+    low: u32,
+    start: u32,
+    high: u32,
+    end: u32,
+    last: u32,
+    rule: u8,
+) -> u64
+    requires { ⌜
+        (length (now marks) ≤ maxCabinets)
+        × (length (now numbers) ≡ length (now marks))
+        × (length (now places) ≡ length (now marks)) ⌝ }
     ensures { λ s. ⌜
         s
         ≡ cond (eqb rule trimmedMidpoint)
         (leastFrom (valueAt (now (numbers .entry))) low (length (now (numbers .entry)))
-        + greatestTo (valueAt (now (numbers .entry))) high (length (now (numbers .entry))))
+        + greatestTo (valueAt (now (numbers .entry))) last (length (now (numbers .entry))))
         (total
-        (λ r. cond (within low (valueAt (now (numbers .entry)) r) high) (valueAt (now (numbers .entry)) r) 0)
+        (λ r. cond (leftAt (valueAt (now (numbers .entry))) low start high end r) (valueAt (now (numbers .entry)) r) 0)
         (length (now (numbers .entry)))) ⌝ }
     ensures { λ _. ⌜
         now (marks .exit)
         ≡ table
-        (λ r. keptMark (within low (valueAt (now (numbers .entry)) r) high) (getD (now (marks .entry)) r 0))
+        (λ r. keptMark (leftAt (valueAt (now (numbers .entry))) low start high end r) (getD (now (marks .entry)) r 0))
         (length (now (marks .entry))) ⌝ }
 {
-    strike(marks, numbers, low, high);
+    fill_places(&mut *places);
+    strike(marks, numbers, &*places, low, start, high, end);
     if rule == TRIMMED_MIDPOINT {
-        sum_ends(numbers, low, high)
+        sum_ends(numbers, low, last)
     } else {
-        sum_between(numbers, low, high)
+        sum_left(numbers, &*places, low, start, high, end)
     }
 }
 
-// The highest number that is left up to a threshold: one below it, where none equal to it is kept.
+// The highest number that is left up to a threshold: one below it, where none equal to it is left.
 fn last_kept(high: u32, kept: u32) -> u32
     ensures { λ r. ⌜ r ≡ cond (eqb kept 0) (high - 1) high ⌝ }
 {
@@ -172,25 +198,24 @@ pub fn drop_ends(marks: &mut [u8], numbers: &[u32], m: u8, rule: u8) -> u64
     ensures { λ s. ⌜ s ≡ droppedSum rule m (now (marks .entry)) (now (numbers .entry)) ⌝ }
     ensures { λ _. ⌜ now (marks .exit) ≡ droppedMarks m (now (marks .entry)) (now (numbers .entry)) ⌝ }
 {
-    if dropping::unfit(marks.len(), numbers.len(), m) {
+    let n = marks.len();
+    if dropping::unfit(n, numbers.len(), m) {
         return 0;
     }
     let found = thresholds::find_both(numbers, m);
+    let start = find_place(numbers, found.low, found.dropped);
+    let end = find_place(numbers, found.high, found.kept);
     let last = last_kept(found.high, found.kept);
-    if (found.dropped == 0) & (found.kept == 0) {
-        return drop_between(marks, numbers, found.low, last, rule);
-    }
-    let sum = drop_tied(
+    let mut places = [0u32; 64];
+    drop_between(
         marks,
         numbers,
+        &mut places[..n],
         found.low,
-        found.dropped,
+        start,
         found.high,
-        found.kept,
-    );
-    if rule == TRIMMED_MIDPOINT {
-        sum_ends(numbers, found.low, last)
-    } else {
-        sum
-    }
+        end,
+        last,
+        rule,
+    )
 }

@@ -4,31 +4,40 @@
 use borrow.Author.Needs.{needs}
 use mathlib.Core.Bool.{Bool}
 use mathlib.Core.Path.{ap, _∙_}
+use native.Mathlib.Omega.{arith}
 use Prim.Native.Nat.{_-_}
 use lib.ListN.{length, getD}
 use Rattle.held.specs.Held.{valueAt, keptMark}
-use Rattle.threshold_trimming.specs.Trimming.{within}
+use Rattle.threshold_trimming.specs.Trimming.{leftAt}
 use Rattle.dropping.proofs.Loops.{Striking, strike-none, strike-one, all-struck}
+use Rattle.threshold_trimming.proofs.Loops.{left-placed}
 use Rattle.threshold_trimming.proofs.strike.Statement.{statement}
 use Rattle.threshold_trimming.proofs.strike.Tie as tie
 
 abbrev Inv-readings : tie.InvT-readings
-Inv-readings marks₀ numbers low high r₀ marks r = Striking (λ r. within low (valueAt numbers r) high) marks₀ marks r
+Inv-readings marks₀ numbers places low start high end r₀ marks r =
+    Striking (leftAt (valueAt numbers) low start high end) marks₀ marks r
 
 abbrev μ-readings : tie.MeasureT-readings
-μ-readings marks₀ numbers low high r₀ marks r = length marks₀ - r
+μ-readings marks₀ numbers places low start high end r₀ marks r = length marks₀ - r
 
 readings-holds : tie.Need-readings-holds Inv-readings μ-readings
 readings-holds c = strike-none
 
-mul-within : tie.Need-mul-within Inv-readings μ-readings
-mul-within c = search needs
+mul-is-left : tie.Need-mul-is-left Inv-readings μ-readings
+mul-is-left c = search needs
 
-shared-slice-read-within : tie.Need-shared-slice-read-within Inv-readings μ-readings
-shared-slice-read-within c = search needs
+shared-slice-read-is-left : tie.Need-shared-slice-read-is-left Inv-readings μ-readings
+shared-slice-read-is-left c = search needs
 
-within-requires : tie.Need-within-requires Inv-readings μ-readings
-within-requires c κs = search needs
+mul-is-left-2 : tie.Need-mul-is-left-2 Inv-readings μ-readings
+mul-is-left-2 c = search needs
+
+shared-slice-read-is-left-2 : tie.Need-shared-slice-read-is-left-2 Inv-readings μ-readings
+shared-slice-read-is-left-2 c = search needs
+
+is-left-requires : tie.Need-is-left-requires Inv-readings μ-readings
+is-left-requires c κs = search needs
 
 slice-read-kept-mark : tie.Need-slice-read-kept-mark Inv-readings μ-readings
 slice-read-kept-mark c = search needs
@@ -47,11 +56,18 @@ readings-less c = search needs
 
 readings-again : tie.Need-readings-again Inv-readings μ-readings
 readings-again c =
-    let test = c .before .before .before .before in
+    let left = c .before .before in
+    let test = left .before .before .before in
     let k = test .before .readings in
+    let start = test .before .before .before .before .before in
+    let a = start .args in
     strike-one (k .inv) (test .readings-test .taken) (c .kept-mark .result)
     (c .kept-mark .ensures
-    ∙ ap (λ (b : Bool). keptMark b (getD (k .marks) (k .r) 0)) (c .before .before .within .ensures))
+    ∙ ap (λ (b : Bool). keptMark b (getD (k .marks) (k .r) 0))
+    (left-placed (valueAt (a .numbers .now)) (a .places .now) (a .low) (a .start) (a .high) (a .end) (k .r)
+    (left .is-left .result) (start .pre .1)
+    (omega (arith, k .inv .long, test .readings-test .taken, start .pre .0 .1))
+    (left .is-left .ensures)))
 
 same-length : tie.Need-same-length Inv-readings μ-readings
 same-length c = c .before .readings .inv .long
@@ -66,9 +82,11 @@ strike-spec =
     Inv-readings
     μ-readings
     readings-holds
-    mul-within
-    shared-slice-read-within
-    within-requires
+    mul-is-left
+    shared-slice-read-is-left
+    mul-is-left-2
+    shared-slice-read-is-left-2
+    is-left-requires
     slice-read-kept-mark
     kept-mark-requires
     slice-write-marks

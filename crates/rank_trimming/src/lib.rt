@@ -9,8 +9,8 @@ ghost use Rattle.dropping.specs.Dropping.{trimmedSum, droppedSum, droppedMark, 
 ghost use Rattle.rank_trimming.specs.Trimming.{between, Ranked};
 use model::TRIMMED_MIDPOINT;
 
-// Strikes out the readings that have one of the m lowest ranks, or one of the m highest, and gives the sum that the rule
-// asks for: of the lowest and the highest number left, or of all.
+// Strikes out the readings that have one of the m lowest ranks, or one of the m highest, and gives the sum that the
+// rule asks for: of the lowest and the highest number left, or of all.
 fn sum_kept(marks: &mut [u8], numbers: &[u32], ranks: &[u8], m: u8, rule: u8) -> u64
     requires { ⌜ (length (now marks) ≤ maxCabinets) × (2 * m < length (now marks)) ⌝ }
     requires { ⌜

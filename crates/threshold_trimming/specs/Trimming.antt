@@ -1,9 +1,9 @@
 -- INNER: no reader needs this page to believe a public promise. What the functions give that drop the m lowest and the
 -- m highest readings by thresholds (Rattle.thresholds.specs.Thresholds), x being the numbers.
 --   Placed                    a list has the place of each number
---   before                    a number comes before a threshold: it is below `at`, or equal to it and its place before `end`
---   isLeft, leftAt            it comes behind the one threshold and before the other; the same of the number of an index
---   leastFrom, greatestTo     the least of the first n numbers that is at least low, and the greatest that is at most high
+--   before                    a number comes before a threshold: it is below `at`, or equal and its place before `end`
+--   isLeft, leftAt            it comes behind the one threshold and before the other; the same of an index
+--   leastFrom, greatestTo     the least of the first n numbers from low on, and the greatest up to high
 use mathlib.Core.Bool.{Bool, cond, not, _&&_, _||_}
 use mathlib.Core.List.{List}
 use mathlib.Core.Path.{_≡_}

@@ -1,5 +1,5 @@
-// Drops the m lowest and the m highest of more readings than are ranked one by one: by the thresholds between which those
-// that are left lie. A number at a threshold is dropped or left by its place.
+// Drops the m lowest and the m highest of more readings than are ranked one by one: by the thresholds between which
+// those that are left lie. A number at a threshold is dropped or left by its place.
 ghost use mathlib.Core.Path.{_≡_};
 ghost use mathlib.Core.Bool.{cond};
 ghost use Prim.Native.Nat.{_+_, _-_, min, _≤_, _<_};
@@ -141,8 +141,8 @@ fn sum_ends(numbers: &[u32], low: u32, high: u32) -> u64
     (least as u64) + (most as u64)
 }
 
-// Drops the readings that are not left, with lent room for places: strikes them out, and gives the sum that the rule asks
-// for, of the least and the greatest that are left, or of all.
+// Drops the readings that are not left, with lent room for places: strikes them out, and gives the sum that the rule
+// asks for, of the least and the greatest that are left, or of all.
 fn drop_between(
     marks: &mut [u8],
     numbers: &[u32],

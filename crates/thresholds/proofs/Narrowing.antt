@@ -5,7 +5,7 @@
 -- Assumes nothing.
 use mathlib.Core.Bool.{Bool, true, false, not, cond, _&&_}
 use mathlib.Core.List.{List}
-use mathlib.Core.Logic.{⊎-elim}
+use mathlib.Core.Logic.{_⊎_, inl, inr, ⊎-elim}
 use mathlib.Core.Path.{_≡_, refl, sym, ap, _∙_}
 use Prim.Native.Nat.{ℕ, zero, suc, _+_, _*_, _-_, _/_, min, max, _≤_, _<_}
 use native.Mathlib.Nat.{mul-le-mul}
@@ -17,11 +17,12 @@ use lib.ListN.{length}
 use Rattle.arithmetic.proofs.Bools.{both-ways, clash, and-intro, or-left, or-right, iff-eq}
 use Rattle.arithmetic.proofs.Counting.{initial, last, count-ext, count-le, count-not}
 use Rattle.arithmetic.specs.Counting.{bit, count}
+use Rattle.arithmetic.specs.Words.{twoTo32}
 use Rattle.model.specs.Ensemble.{maxCabinets}
 use Rattle.held.specs.Held.{valueAt}
 use Rattle.ranks.specs.Ranks.{belowNumber, belowOf}
 use Rattle.ranks.proofs.Seeing.{below-of}
-use Rattle.thresholds.specs.Thresholds.{upToNumber, Bounds, Splits, misfit, maxUnit, guessed}
+use Rattle.thresholds.specs.Thresholds.{upToNumber, Taken, Bounds, Splits, misfit, maxUnit, guessed}
 
 -- where all fail, none is counted
 pub none-counted : (p : ℕ → Bool) (n : ℕ) → ((i : ℕ) → i < n → p i ≡ false) → count p n ≡ 0
@@ -36,13 +37,17 @@ module _ (values : List ℕ) where
     pub upTo : t ≤ length values
     pub least : (j : ℕ) → j < t → low ≤ valueAt values j
     pub greatest : (j : ℕ) → j < t → valueAt values j ≤ high
+    pub lowFrom : (low ≡ twoTo32 - 1) ⊎ Taken values low
+    pub highFrom : (high ≡ 0) ⊎ Taken values high
 
-  pub bound-none : (low high : ℕ) → Bounding low high 0
-  bound-none low high =
+  pub bound-none : Bounding (twoTo32 - 1) 0 0
+  bound-none =
       record {
         upTo = omega arith;
-        least = below-none (λ (j : ℕ). low ≤ valueAt values j);
-        greatest = below-none (λ (j : ℕ). valueAt values j ≤ high);
+        least = below-none (λ (j : ℕ). twoTo32 - 1 ≤ valueAt values j);
+        greatest = below-none (λ (j : ℕ). valueAt values j ≤ 0);
+        lowFrom = inl refl;
+        highFrom = inl refl;
       }
 
   module _ (low high t : ℕ) (so-far : Bounding low high t) where
@@ -56,15 +61,36 @@ module _ (values : List ℕ) where
               below-more (λ (j : ℕ). x ≤ valueAt values j) t (λ j l. omega (arith, so-far .least j l)) (omega arith);
           greatest =
               below-more (λ (j : ℕ). valueAt values j ≤ y) t (λ j l. omega (arith, so-far .greatest j l)) (omega arith);
+          lowFrom =
+              ⊎-elim (λ p. inr (t, room, omega (arith, leb-true (valueAt values t) low p)))
+              (λ p. rw (kept-low p) (so-far .lowFrom))
+              (both-ways (leb (valueAt values t) low));
+          highFrom =
+              ⊎-elim (λ p. inr (t, room, omega (arith, leb-true high (valueAt values t) p)))
+              (λ p. rw (kept-high p) (so-far .highFrom))
+              (both-ways (leb high (valueAt values t)));
         }
+      where
+        kept-low : leb (valueAt values t) low ≡ false → x ≡ low
+        kept-low p = omega (arith, d, leb-false (valueAt values t) low p)
 
-    pub bound-all : 0 < length values → length values ≤ t → Bounds values low high
-    bound-all some ended =
+        kept-high : leb high (valueAt values t) ≡ false → y ≡ high
+        kept-high p = omega (arith, e, leb-false high (valueAt values t) p)
+
+    pub bound-all : valueAt values 0 < twoTo32 → 0 < length values → length values ≤ t → Bounds values low high
+    bound-all small some ended =
         record {
-          ordered = omega (arith, so-far .least 0 (omega arith), so-far .greatest 0 (omega arith));
           least = λ j l. so-far .least j (omega arith);
           greatest = λ j l. so-far .greatest j (omega arith);
+          lowTaken =
+              ⊎-elim (λ e. (0, some, omega (arith, so-far .least 0 (omega arith)))) (λ taken. taken) (so-far .lowFrom);
+          highTaken =
+              ⊎-elim (λ e. (0, some, omega (arith, so-far .greatest 0 (omega arith)))) (λ taken. taken) (so-far .highFrom);
         }
+
+  pub bounds-ordered : (low high : ℕ) → Bounds values low high → low ≤ high
+  bounds-ordered low high b =
+      let taken = b .lowTaken in omega (arith, taken .2, b .greatest (taken .0) (taken .1))
 
   -- ---- the threshold
 
@@ -95,7 +121,7 @@ module _ (values : List ℕ) where
       (λ t l. ap not (le-leb (valueAt values t) high (b .greatest t l))) in
       let all = count-not (λ t. leb (valueAt values t) high) n in
       record {
-        ordered = b .ordered;
+        ordered = bounds-ordered low high b;
         counted = omega arith;
         most = omega arith;
         reached = omega arith;

@@ -1,11 +1,11 @@
 -- INNER: no reader needs this page to believe a public promise. Between which of a list's numbers those lie that are
 -- left when the m lowest and the m highest are dropped, equal ones by index.
 --   upToNumber         how many numbers are at most a number
---   Split, Splits      the k lowest numbers are those below `at`, and the first `ties` of those equal to it. Where more than
---                      one `at` fits, which is given is free
+--   Split, Splits      the k lowest numbers are those below `at`, and the first `ties` of those equal to it. Where more
+--                      than one `at` fits, which is given is free
 --   misfit, Found      what `find_both` gives: at most 64 numbers are asked, of which some are left
 -- What the functions below it give:
---   Bounds             no number is below the one, or above the other
+--   Taken, Bounds      a number of the list; the lowest and the highest of them
 --   maxUnit, guessed   the most that even numbers lie apart; where to look next in a range
 use mathlib.Core.Bool.{Bool, true, false, cond, _||_}
 use mathlib.Core.List.{List}
@@ -40,10 +40,14 @@ pub record Found (values : List ℕ) (m : ℕ) (r : Thresholds) : Type 0 where
 
 -- ---- the functions below it
 
+abbrev pub Taken : List ℕ → ℕ → Type 0
+Taken values v = (i : ℕ) × (i < length values) × (valueAt values i ≡ v)
+
 pub record Bounds (values : List ℕ) (low high : ℕ) : Type 0 where
-  pub ordered : low ≤ high
   pub least : (j : ℕ) → j < length values → low ≤ valueAt values j
   pub greatest : (j : ℕ) → j < length values → valueAt values j ≤ high
+  pub lowTaken : Taken values low
+  pub highTaken : Taken values high
 
 abbrev pub maxUnit : ℕ
 maxUnit = twoTo32 / 64

@@ -1,6 +1,6 @@
 // Where the numbers that are left start and end when the m lowest and the m highest of a list are dropped, equal ones
-// by index. Nothing is sorted: a range of numbers is narrowed, and those below a number in it are counted, until as many
-// are below its start as are dropped.
+// by index. Nothing is sorted: a range of numbers is narrowed, and those below a number in it are counted, until as
+// many are below its start as are dropped.
 ghost use mathlib.Core.Path.{_≡_};
 ghost use Prim.Native.Nat.{_+_, _≤_, _<_};
 ghost use lib.ListN.{length};
@@ -51,9 +51,9 @@ fn bound(values: &[u32]) -> Range
     Range { low, high }
 }
 
-// Where to look next in a range, of whose numbers `left` are to be below and `right` are not. Numbers that lie evenly are
-// `unit` apart, so it looks as far from the nearer end; but no farther than the middle, so that a range of any numbers
-// is soon narrowed.
+// Where to look next in a range, of whose numbers `left` are to be below and `right` are not. Numbers that lie evenly
+// are `unit` apart, so it looks as far from the nearer end; but no farther than the middle, so that a range of any
+// numbers is soon narrowed.
 fn guess(low: u32, high: u32, unit: u32, left: u32, right: u32) -> u32
     requires { ⌜ (low < high) × (unit ≤ maxUnit) × (left + right ≤ maxCabinets) ⌝ }
     ensures { λ r. ⌜ r ≡ guessed low high unit left right ⌝ }
@@ -67,8 +67,8 @@ fn guess(low: u32, high: u32, unit: u32, left: u32, right: u32) -> u32
     }
 }
 
-// The threshold of the k lowest numbers. The range from `low` to `high` holds one; `below` are below `low`, and `within`
-// are at most `high`.
+// The threshold of the k lowest numbers. The range from `low` to `high` holds one; `below` are below `low`, and
+// `within` are at most `high`.
 fn find(values: &[u32], k: u32, from: u32, to: u32) -> Threshold
     requires { ⌜ (length (now values) ≤ maxCabinets) × (k ≤ length (now values)) ⌝ }
     requires { ⌜ Bounds (now values) from to ⌝ }

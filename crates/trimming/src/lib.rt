@@ -12,7 +12,8 @@ ghost use Rattle.arithmetic.specs.Writing.{table, overwrite};
 ghost use Rattle.model.specs.Ensemble.{maxCabinets};
 ghost use Rattle.round_laws.specs.Naturals.{mean-nat};
 ghost use Rattle.dropping.specs.Dropping.{droppedSum, droppedMarks};
-ghost use Rattle.trimming.specs.Values.{trimmedIn, trimmedOf, markAt, trimmedMarks, numberIn, summedBy, fewReadings};
+ghost use Rattle.trimming.specs.Values.{trimmedIn, trimmedOf, markAt, trimmedMarks};
+ghost use Rattle.trimming.specs.Values.{numberIn, summedBy, fewReadings};
 use estimates::Estimated;
 use held::PRESENT;
 use model::TRIMMED_MIDPOINT;
@@ -70,8 +71,8 @@ fn settle_value(rule: u8, sum: u64, left: u64) -> u32
     }
 }
 
-// Drops the m lowest and the m highest readings: few by their ranks, more by the numbers between which those that are left
-// lie. Both ways leave the same.
+// Drops the m lowest and the m highest readings: few by their ranks, more by the thresholds between which those that
+// are left lie. Both ways leave the same.
 fn drop_ends(marks: &mut [u8], numbers: &[u32], m: u8, rule: u8) -> u64
     ensures { λ s. ⌜ s ≡ droppedSum rule m (now (marks .entry)) (now (numbers .entry)) ⌝ }
     ensures { λ _. ⌜ now (marks .exit) ≡ droppedMarks m (now (marks .entry)) (now (numbers .entry)) ⌝ }
@@ -83,8 +84,8 @@ fn drop_ends(marks: &mut [u8], numbers: &[u32], m: u8, rule: u8) -> u64
     }
 }
 
-// Drops the m lowest and the m highest of readings, with lent places for their numbers: the new value, moved up by 2^31,
-// and the marks of the answer sheet.
+// Drops the m lowest and the m highest of readings, with lent places for their numbers: the new value, moved up by
+// 2^31, and the marks of the answer sheet.
 fn trim_in(marks: &mut [u8], values: &[u32], m: u8, rule: u8, numbers: &mut [u32]) -> u32
     requires { ⌜ (length (now marks) ≤ maxCabinets) × (2 * m < length (now marks)) ⌝ }
     requires { ⌜ (length (now values) ≡ length (now marks)) × (length (now numbers) ≡ length (now marks)) ⌝ }

@@ -14,7 +14,7 @@ abbrev μ-values : tie.MeasureT-values
 μ-values values low₀ high₀ t₀ low high t = length values - t
 
 values-holds : tie.Need-values-holds Inv-values μ-values
-values-holds c = bound-none (c .before .args .values .now) _ _
+values-holds c = bound-none (c .before .args .values .now)
 
 mul-v : tie.Need-mul-v Inv-values μ-values
 mul-v c = search needs
@@ -49,7 +49,10 @@ returns : tie.Need-returns Inv-values μ-values
 returns c =
     let r = c .before .values in
     let start = c .before .before .before in
-    bound-all (start .args .values .now) (r .low) (r .high) (r .t) (r .inv) (start .pre) (c .values-test .left)
+    bound-all (start .args .values .now) (r .low) (r .high) (r .t) (r .inv)
+    (c .before .before .shared-slice-known .given 0 .fits)
+    (start .pre)
+    (c .values-test .left)
 
 pub bound-spec : {M : Type 1} → statement M
 bound-spec =

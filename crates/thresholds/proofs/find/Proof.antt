@@ -9,7 +9,7 @@ use Prim.Native.Nat.{_+_, _-_, _/_, _≤_, _<_}
 use lib.Dec.{ltb, eqb}
 use Rattle.arithmetic.proofs.Bools.{and-left}
 use Rattle.thresholds.proofs.Narrowing.{Narrowing, narrowing-start, within-most, within-least, narrowing-up}
-use Rattle.thresholds.proofs.Narrowing.{narrowing-down, narrowing-done, guessed-within}
+use Rattle.thresholds.proofs.Narrowing.{bounds-ordered, narrowing-down, narrowing-done, guessed-within}
 use Rattle.thresholds.proofs.find.Statement.{statement}
 use Rattle.thresholds.proofs.find.Tie as tie
 
@@ -28,7 +28,8 @@ wide c =
     ltb-true (r .low) (r .high) (and-left (ltb (r .low) (r .high)) (not (eqb (r .below) k)) (c .narrowing-test .taken))
 
 sub-unit : tie.Need-sub-unit Inv-narrowing μ-narrowing
-sub-unit c = c .before .pre .1 .ordered
+sub-unit c =
+    let a = c .before .args in bounds-ordered (a .values .now) (a .from) (a .to) (c .before .pre .1)
 
 add-unit : tie.Need-add-unit Inv-narrowing μ-narrowing
 add-unit c = search needs

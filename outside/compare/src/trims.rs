@@ -183,6 +183,11 @@ impl<'a> Round<'a> {
         let cuts = self.cuts();
         let (low, high) = (cuts[2], cuts[3]);
         let none = self.settings.m == 0;
-        vec![many && none, many && !none && !low && !high, many && low && !high, many && !low && high]
+        vec![
+            many && none,
+            many && !none && !low && !high,
+            many && low && !high,
+            many && !low && high,
+        ]
     }
 }

@@ -4,6 +4,7 @@
 
 mod plain;
 mod replay;
+mod thresholds;
 mod trimming;
 mod tuned;
 

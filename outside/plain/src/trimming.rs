@@ -1,8 +1,12 @@
 //! The trimming rules, in the form that the proved library has: local arrays of 64 entries, and no sort. The rank of a
-//! reading is how many are less, and how many equal ones came before it.
+//! reading is how many are less, and how many equal ones came before it. More than 32 are dropped by thresholds.
 #![allow(clippy::needless_range_loop)]
 
+use crate::thresholds::Between;
 use crate::{reading, Opened, Rule, Sizes, MOST};
+
+/// So many readings are dropped by their ranks.
+const FEW: usize = 32;
 
 /// A tick as a number without a sign, 2^31 higher. An even one stays even.
 pub fn moved(tick: i32) -> u32 {
@@ -43,9 +47,14 @@ pub fn trim(sheet: &Opened, marks: &mut [u8], used: &mut [u8]) -> i32 {
         // The bytes of a missing reading are zero.
         values[r] = moved(reading(sheet.readings, r));
     }
-    let mut ranks = [0u8; MOST];
-    rank(&values[..n], &mut ranks);
-    let new = mark(sheet, &values, &ranks, marks).new_value(&sheet.sizes);
+    let sums = if n <= FEW {
+        let mut ranks = [0u8; MOST];
+        rank(&values[..n], &mut ranks);
+        mark(sheet, &values, &ranks, marks)
+    } else {
+        mark_between(sheet, &values[..n], marks)
+    };
+    let new = sums.new_value(&sheet.sizes);
     for r in 0..n {
         let value = if marks[r] == 1 { unmoved(values[r]) } else { new };
         used[4 * r..4 * r + 4].copy_from_slice(&value.to_le_bytes());
@@ -75,16 +84,41 @@ fn mark(sheet: &Opened, values: &[u32; MOST], ranks: &[u8; MOST], marks: &mut [u
     for r in 0..n {
         let (rank, value) = (ranks[r] as usize, values[r] as u64);
         let kept = m <= rank && rank < n - m;
-        marks[r] = if sheet.marks[r] == 0 {
-            0
-        } else if kept {
-            1
-        } else {
-            2
-        };
+        marks[r] = mark_of(sheet.marks[r], kept);
         sums.kept += if kept { value } else { 0 };
         sums.extremes += if rank == m { value } else { 0 };
         sums.extremes += if rank == n - m - 1 { value } else { 0 };
+    }
+    sums
+}
+
+/// The mark of a reading on the answer sheet.
+fn mark_of(mark: u8, kept: bool) -> u8 {
+    match (mark, kept) {
+        (0, _) => 0,
+        (_, true) => 1,
+        (_, false) => 2,
+    }
+}
+
+/// The same by thresholds; it adds up what the rule asks for.
+fn mark_between(sheet: &Opened, values: &[u32], marks: &mut [u8]) -> Sums {
+    let between = Between::new(values, sheet.sizes.m);
+    for r in 0..values.len() {
+        marks[r] = mark_of(sheet.marks[r], between.holds(values[r], r));
+    }
+    let mut sums = Sums { kept: 0, extremes: 0 };
+    if let Rule::TrimmedMidpoint = sheet.sizes.rule {
+        let (mut least, mut most) = (u32::MAX, 0);
+        for r in 0..values.len() {
+            least = if values[r] < between.low { least } else { least.min(values[r]) };
+            most = if values[r] > between.last { most } else { most.max(values[r]) };
+        }
+        sums.extremes = least as u64 + most as u64;
+    } else {
+        for r in 0..values.len() {
+            sums.kept += if between.holds(values[r], r) { values[r] as u64 } else { 0 };
+        }
     }
     sums
 }

@@ -6,7 +6,6 @@
 -- What the functions below it give:
 --   numberIn                 the number by which a reading is ordered
 --   summedBy                 how many numbers the sum of a rule is of
---   fewReadings              so many readings are dropped by their ranks
 use mathlib.Core.Bool.{cond}
 use mathlib.Core.List.{List}
 use Prim.Native.Nat.{ℕ}
@@ -53,6 +52,3 @@ numberIn marks values r = cond (presentIn marks r) (valueAt values r) twoTo31
 -- by the one rule the lowest and the highest, by the other all that are left
 abbrev pub summedBy : ℕ → ℕ → ℕ
 summedBy rule left = cond (eqb rule trimmedMidpoint) 2 left
-
-abbrev pub fewReadings : ℕ
-fewReadings = 32

@@ -13,7 +13,7 @@ ghost use Rattle.model.specs.Ensemble.{maxCabinets};
 ghost use Rattle.round_laws.specs.Naturals.{mean-nat};
 ghost use Rattle.dropping.specs.Dropping.{droppedSum, droppedMarks};
 ghost use Rattle.trimming.specs.Values.{trimmedIn, trimmedOf, markAt, trimmedMarks};
-ghost use Rattle.trimming.specs.Values.{numberIn, summedBy, fewReadings};
+ghost use Rattle.trimming.specs.Values.{numberIn, summedBy};
 use estimates::Estimated;
 use held::PRESENT;
 use model::TRIMMED_MIDPOINT;
@@ -101,37 +101,7 @@ fn trim_in(marks: &mut [u8], values: &[u32], m: u8, rule: u8, numbers: &mut [u32
     settle_value(rule, sum, left)
 }
 
-// The same of few readings, with places of its own.
-fn trim_few(marks: &mut [u8], values: &[u32], m: u8, rule: u8) -> u32
-    requires { ⌜ (length (now marks) ≤ fewReadings) × (2 * m < length (now marks)) ⌝ }
-    requires { ⌜ length (now values) ≡ length (now marks) ⌝ }
-    ensures { λ r. ⌜
-        r ≡ up twoTo31 (trimmedIn rule m (now (marks .entry)) (now (values .entry)) .value) ⌝ }
-    ensures { λ _. ⌜
-        now (marks .exit)
-        ≡ table (markAt m (now (marks .entry)) (now (values .entry))) (length (now (marks .entry))) ⌝ }
-{
-    let n = marks.len();
-    let mut numbers = [0u32; 32];
-    trim_in(marks, values, m, rule, &mut numbers[..n])
-}
-
-// The same of more.
-fn trim_many(marks: &mut [u8], values: &[u32], m: u8, rule: u8) -> u32
-    requires { ⌜ (length (now marks) ≤ maxCabinets) × (2 * m < length (now marks)) ⌝ }
-    requires { ⌜ length (now values) ≡ length (now marks) ⌝ }
-    ensures { λ r. ⌜
-        r ≡ up twoTo31 (trimmedIn rule m (now (marks .entry)) (now (values .entry)) .value) ⌝ }
-    ensures { λ _. ⌜
-        now (marks .exit)
-        ≡ table (markAt m (now (marks .entry)) (now (values .entry))) (length (now (marks .entry))) ⌝ }
-{
-    let n = marks.len();
-    let mut numbers = [0u32; 64];
-    trim_in(marks, values, m, rule, &mut numbers[..n])
-}
-
-// The same of few readings or of more.
+// The same with places of its own, as many as few readings take or as all.
 fn trim_fitting(marks: &mut [u8], values: &[u32], m: u8, rule: u8) -> u32
     requires { ⌜ (length (now marks) ≤ maxCabinets) × (2 * m < length (now marks)) ⌝ }
     requires { ⌜ length (now values) ≡ length (now marks) ⌝ }
@@ -141,11 +111,13 @@ fn trim_fitting(marks: &mut [u8], values: &[u32], m: u8, rule: u8) -> u32
         now (marks .exit)
         ≡ table (markAt m (now (marks .entry)) (now (values .entry))) (length (now (marks .entry))) ⌝ }
 {
-    if marks.len() <= FEW {
-        trim_few(marks, values, m, rule)
-    } else {
-        trim_many(marks, values, m, rule)
+    let n = marks.len();
+    if n <= FEW {
+        let mut few = [0u32; 32];
+        return trim_in(marks, values, m, rule, &mut few[..n]);
     }
+    let mut all = [0u32; 64];
+    trim_in(marks, values, m, rule, &mut all[..n])
 }
 
 // The round of at most 64 readings by rule 2, or else by rule 3: the marks say which readings are kept. Where the lists

@@ -11,7 +11,7 @@ use model::MAX_CABINETS;
 // The most numbers.
 const MOST: usize = MAX_CABINETS as usize;
 
-// Into so many parts a range is taken to be parted by its numbers.
+// Into so many parts numbers that lie evenly are taken to part their range.
 const UNITS: u32 = 64;
 
 // The lowest and the highest of a list's numbers.
@@ -26,7 +26,8 @@ struct Threshold {
     ties: u32,
 }
 
-// The threshold of the m lowest numbers, and that of all but the m highest.
+// The threshold of the m lowest numbers, of which `dropped` are equal to `low`; and that of all but the m highest, of
+// which `kept` are equal to `high`.
 pub struct Thresholds {
     pub low: u32,
     pub dropped: u32,

@@ -36,7 +36,7 @@ fn trims_are_met() {
         .lines()
         .filter_map(|line| line.split_once(" times ")?.0.trim().parse().ok())
         .collect();
-    assert!(times.len() == 18 && times.iter().all(|&times| times > 5), "{text}");
+    assert!(times.len() == 22 && times.iter().all(|&times| times > 5), "{text}");
 }
 
 #[test]

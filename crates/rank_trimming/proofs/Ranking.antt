@@ -3,7 +3,7 @@
 -- Assumes nothing.
 use mathlib.Core.Bool.{Bool, true, false, cond, _&&_}
 use mathlib.Core.List.{List}
-use mathlib.Core.Path.{_≡_, refl, sym, ap, ap₂, _∙_}
+use mathlib.Core.Path.{_≡_, ap, ap₂, _∙_}
 use Prim.Native.Nat.{ℕ, _+_, _*_, _-_, _≤_, _<_}
 use native.Mathlib.Omega.{arith}
 use borrow.Author.Tests.{le-ltb}
@@ -20,7 +20,7 @@ use Rattle.round_laws.specs.Naturals.{rank-nat, kept-nat, ranked-nat, kept-tota
 use Rattle.held.specs.Held.{valueAt, keptMark}
 use Rattle.ranks.specs.Ranks.{rankAt, ranksOf}
 use Rattle.dropping.specs.Dropping.{trimmedSum}
-use Rattle.dropping.proofs.Loops.{Striking, strike-none, strike-one, Summing, summing-none, summing-one, all-summed, sum-fits}
+use Rattle.dropping.proofs.Loops.{Striking, strike-none, strike-one, Summing, summing-none, summing-one, sum-fits}
 use Rattle.rank_trimming.specs.Trimming.{between, Ranked}
 
 -- ---- the loop, r of n passed

@@ -3,12 +3,12 @@
 --   before-rank          a number comes before the threshold just where its rank is below k
 --   least-ranked, greatest-ranked    the number of rank k, and the one before it
 -- Assumes nothing.
-use mathlib.Core.Bool.{Bool, true, false, cond, _&&_, _||_}
+use mathlib.Core.Bool.{Bool, false, cond, _&&_, _||_}
 use mathlib.Core.Logic.{⊎-elim}
 use mathlib.Core.Path.{_≡_, refl, sym, ap, _∙_}
-use Prim.Native.Nat.{ℕ, zero, suc, _+_, _-_, min, max, _≤_, _<_}
+use Prim.Native.Nat.{ℕ, zero, suc, _+_, _-_, min, _≤_, _<_}
 use native.Mathlib.Omega.{arith}
-use borrow.Author.Tests.{lt-ltb, le-ltb, le-leb, lt-leb, eq-eqb, ne-eqb, ltb-true, ltb-false, leb-true, leb-false}
+use borrow.Author.Tests.{lt-ltb, le-ltb, le-leb, eq-eqb, ne-eqb, ltb-true, ltb-false, leb-true, leb-false}
 use borrow.Author.Tests.{eqb-true, eqb-false}
 use lib.Dec.{leb, ltb, eqb}
 use Rattle.arithmetic.specs.Counting.{bit, count}
@@ -18,7 +18,7 @@ use Rattle.arithmetic.proofs.Counting.{initial, last, split-last, count-mono, c
 use Rattle.loop_laws.proofs.Loops.{count-next}
 use Rattle.round_laws.specs.Naturals.{precedes-nat, rank-nat, ranked-nat}
 use Rattle.value_laws.proofs.Order.{count-more, lower-precedes, precedes-at-most, precedes-self, rank-less, rank-small, below-rank}
-use Rattle.value_laws.proofs.Order.{Ranked, ranked-found}
+use Rattle.value_laws.proofs.Order.{ranked-found}
 use Rattle.ranks.proofs.Seeing.{rank-equal}
 use Rattle.thresholds.specs.Thresholds.{Split}
 use Rattle.thresholds.proofs.Narrowing.{none-counted}

@@ -1,18 +1,16 @@
 -- What is dropped of the readings that two lists hold, by whether the lists fit, and by a test that says which are left.
 -- Assumes nothing.
-use mathlib.Core.Bool.{Bool, true, false, cond}
+use mathlib.Core.Bool.{Bool, true, false}
 use mathlib.Core.List.{List}
 use mathlib.Core.Path.{_≡_, ap}
 use Prim.Native.Nat.{ℕ, _*_, _≤_, _<_}
 use borrow.Author.Tests.{leb-false}
 use lib.ListN.{length, getD}
-use Rattle.arithmetic.specs.Naturals.{total}
 use Rattle.arithmetic.specs.Writing.{table}
 use Rattle.arithmetic.proofs.Bools.{or-left, or-right}
-use Rattle.arithmetic.proofs.Sums.{total-ext}
 use Rattle.arithmetic.proofs.Writing.{table-ext}
 use Rattle.model.specs.Ensemble.{maxCabinets}
-use Rattle.round_laws.specs.Naturals.{kept-nat, kept-total}
+use Rattle.round_laws.specs.Naturals.{kept-nat}
 use Rattle.held.specs.Held.{valueAt, keptMark, unfit}
 use Rattle.held.proofs.Held.{fit-few, fit-even}
 use Rattle.dropping.specs.Dropping.{unfitFor, trimmedSum, droppedSum, droppedMark, droppedMarks}
@@ -48,14 +46,6 @@ module _ (m : ℕ) (marks numbers : List ℕ) where
   -- a test says which are left
   module _ (test : ℕ → Bool) (same : (r : ℕ) → r < length marks → test r ≡ kept-nat (length marks) m (valueAt numbers) r)
     where
-      pub sum-left :
-          total (λ r. cond (test r) (valueAt numbers r) 0) (length marks) ≡ kept-total (length marks) m (valueAt numbers)
-      unfolding kept-total
-      sum-left =
-          total-ext (λ r. cond (test r) (valueAt numbers r) 0)
-          (λ r. cond (kept-nat (length marks) m (valueAt numbers) r) (valueAt numbers r) 0) (length marks)
-          (λ r l. ap (λ (b : Bool). cond b (valueAt numbers r) 0) (same r l))
-
       pub marks-left :
           table (λ r. keptMark (test r) (getD marks r 0)) (length marks) ≡ table (droppedMark m marks numbers) (length marks)
       marks-left =

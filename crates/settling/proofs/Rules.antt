@@ -4,7 +4,7 @@
 -- Assumes nothing.
 use mathlib.Core.Bool.{false, cond}
 use mathlib.Core.List.{List}
-use mathlib.Core.Path.{_≡_, ap₂, _∙_}
+use mathlib.Core.Path.{_≡_, sym, ap, ap₂, _∙_}
 use Prim.Native.Nat.{ℕ, _≤_, _<_}
 use native.Mathlib.Omega.{arith}
 use borrow.Author.Tests.{lt-ltb, le-ltb, ne-eqb}
@@ -20,20 +20,24 @@ use Rattle.settling.specs.Rounds.{numbersBy, marksBy, numbersOf, marksOf
 
 module _ (s : List ℕ) (c : Settings) (marks₀ values₀ marks values kept : List ℕ) (a : Estimated) where
   pub by-trimming :
-      cca < c .rule
+      (rule : ℕ)
+      → c .rule ≡ rule
+      → cca < c .rule
       → marks ≡ cond (eqb (c .rule) cca) marks₀ (marksReceived s c marks₀ values₀)
       → values ≡ cond (eqb (c .rule) cca) values₀ (valuesReceived s c marks₀ values₀)
-      → a ≡ trimmedOf (c .rule) (c .m) marks values
+      → a ≡ trimmedOf rule (c .m) marks values
       → kept ≡ trimmedMarks (c .m) marks values
       → ((w : ℕ) → a ≡ numbersOf s c w marks₀ values₀)
       × (((w : ℕ) → kept ≡ marksOf s c w marks₀ values₀) × (values ≡ valuesReceived s c marks₀ values₀))
   unfolding numbersBy marksBy
-  by-trimming above marked valued agrees keeps =
+  by-trimming rule is-rule above marked valued agrees keeps =
       let direct : eqb (c .rule) cca ≡ false = ne-eqb (c .rule) cca (λ e. omega arith) in
       let m : marks ≡ marksReceived s c marks₀ values₀ = marked ∙ rw direct in
       let v : values ≡ valuesReceived s c marks₀ values₀ = valued ∙ rw direct in
+      let by-rule : a ≡ trimmedOf (c .rule) (c .m) marks values =
+      agrees ∙ ap (λ (k : ℕ). trimmedOf k (c .m) marks values) (sym is-rule) in
       let e = lt-ltb cca (c .rule) above in (
-        (λ w. agrees ∙ ap₂ (trimmedOf (c .rule) (c .m)) m v ∙ rw e),
+        (λ w. by-rule ∙ ap₂ (trimmedOf (c .rule) (c .m)) m v ∙ rw e),
         ((λ w. keeps ∙ ap₂ (trimmedMarks (c .m)) m v ∙ rw e), v),
       )
 

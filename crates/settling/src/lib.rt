@@ -16,6 +16,7 @@ use model::CCA;
 use model::NO_ROOM;
 use model::Refusal;
 use model::Settings;
+use model::TRIMMED_MIDPOINT;
 use refusals::Screened;
 use sheet_checks::Opened;
 
@@ -34,7 +35,7 @@ fn span_width(settings: Settings, spread: u32) -> u32
 }
 
 // Receives a sheet by rule 2 or 3 into lent lists, and drops the lowest and the highest of its readings; there are no
-// spans.
+// spans. Trimming is called in two places, so that the compiler keeps it out of the way of FCA and CCA.
 fn settle_trimmed(
     sheet: &[u8],
     settings: Settings,
@@ -53,7 +54,11 @@ fn settle_trimmed(
     ensures { λ r. ⌜ r .count ≤ maxCabinets ⌝ }
 {
     reception::receive_direct(sheet, settings, &mut *marks, &mut *values);
-    trimming::trim(marks, &*values, settings.m, settings.rule)
+    if settings.rule == TRIMMED_MIDPOINT {
+        trimming::trim(marks, &*values, settings.m, TRIMMED_MIDPOINT)
+    } else {
+        trimming::trim(marks, &*values, settings.m, settings.rule)
+    }
 }
 
 // Receives a sheet by FCA or CCA into lent lists, and agrees by spans of a width.

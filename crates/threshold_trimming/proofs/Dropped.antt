@@ -10,7 +10,6 @@ use borrow.Author.Tests.{le-ltb, le-leb, lt-leb, ltb-true, ltb-false}
 use lib.Dec.{leb, ltb, eqb}
 use lib.ListN.{length, getD}
 use Rattle.arithmetic.specs.Counting.{count}
-use Rattle.arithmetic.specs.Naturals.{total}
 use Rattle.arithmetic.specs.Words.{twoTo32}
 use Rattle.arithmetic.specs.Writing.{table}
 use Rattle.arithmetic.proofs.Bools.{both-ways, or-false}
@@ -20,9 +19,10 @@ use Rattle.round_laws.specs.Naturals.{rank-nat, kept-nat, ranked-nat, kept-tota
 use Rattle.held.specs.Held.{valueAt, keptMark}
 use Rattle.thresholds.specs.Thresholds.{Split, Splits, misfit}
 use Rattle.dropping.specs.Dropping.{unfitFor, trimmedSum, droppedSum, droppedMarks}
-use Rattle.dropping.proofs.Dropped.{fits-few, fits-even, some-left, sum-some, marks-some, sum-left, marks-left}
-use Rattle.threshold_trimming.specs.Trimming.{leastFrom, greatestTo, leftAt}
+use Rattle.dropping.proofs.Dropped.{fits-few, fits-even, some-left, sum-some, marks-some, marks-left}
+use Rattle.threshold_trimming.specs.Trimming.{leastFrom, greatestTo, leftAt, betweenTotal}
 use Rattle.threshold_trimming.proofs.Splitting.{before-rank, least-ranked, greatest-ranked}
+use Rattle.threshold_trimming.proofs.Totals.{kept-between}
 
 -- ---- n numbers, of which some are left, between thresholds
 
@@ -86,7 +86,7 @@ module _ (rule m : ℕ) (marks numbers : List ℕ) (fit : unfitFor (length marks
   to = rw (← even) highest
 
   -- by the one rule the least and the greatest that are left
-  by-ends :
+  pub by-ends :
       ((j : ℕ) → x j < twoTo32) → eqb rule trimmedMidpoint ≡ true → (last : ℕ) → last ≡ cond (eqb kept 0) (high - 1) high
       → leastFrom x low (length numbers) + greatestTo x last (length numbers) ≡ droppedSum rule m marks numbers
   by-ends small e last is =
@@ -97,30 +97,29 @@ module _ (rule m : ℕ) (marks numbers : List ℕ) (fit : unfitFor (length marks
       ends : ranked-nat n x m + ranked-nat n x (n - m - 1) ≡ trimmedSum rule n m x
       ends = rw e
 
+  -- by the other all: the sum between the thresholds is what is left and what is dropped at the lower one
+  abbrev between : ℕ
+  between = betweenTotal x low high (length numbers)
+
+  all-sums : kept-total n m x + dropped * low ≡ between + kept * high
+  all-sums = rw even (kept-between x n m rest low dropped high kept from to)
+
+  pub dropped-fits : dropped * low ≤ between + kept * high
+  dropped-fits = omega (arith, all-sums)
+
+  pub kept-few : kept ≤ maxCabinets
+  kept-few = omega (arith, to .exact, fits-few m marks numbers fit)
+
+  pub by-all : eqb rule trimmedMidpoint ≡ false → between + kept * high - dropped * low ≡ droppedSum rule m marks numbers
+  by-all e = omega (arith, all-sums) ∙ all ∙ sum-some m marks numbers fit rule
+    where
+      all : kept-total n m x ≡ trimmedSum rule n m x
+      all = rw e
+
   module _ (start end : ℕ) (found : Places x (length numbers) low dropped high kept start end) where
-    same : (r : ℕ) → r < n → leftAt x low start high end r ≡ kept-nat n m x r
-    same = left-kept x n m rest low dropped high kept from to start end (rw (← even) found)
-
-    -- by the other all
-    by-all :
-        eqb rule trimmedMidpoint ≡ false
-        → total (λ r. cond (leftAt x low start high end r) (x r) 0) (length numbers) ≡ droppedSum rule m marks numbers
-    by-all e =
-        rw even (sum-left m marks numbers (leftAt x low start high end) same)
-        ∙ all
-        ∙ sum-some m marks numbers fit rule
-      where
-        all : kept-total n m x ≡ trimmedSum rule n m x
-        all = rw e
-
-    pub sum-is :
-        ((j : ℕ) → x j < twoTo32) → (last : ℕ) → last ≡ cond (eqb kept 0) (high - 1) high
-        → cond (eqb rule trimmedMidpoint) (leastFrom x low (length numbers) + greatestTo x last (length numbers))
-        (total (λ r. cond (leftAt x low start high end r) (x r) 0) (length numbers))
-        ≡ droppedSum rule m marks numbers
-    sum-is small last is =
-        ⊎-elim (λ t. rw t (by-ends small t last is)) (λ f. rw f (by-all f)) (both-ways (eqb rule trimmedMidpoint))
-
     pub marks-are :
         table (λ r. keptMark (leftAt x low start high end r) (getD marks r 0)) n ≡ droppedMarks m marks numbers
-    marks-are = marks-left m marks numbers (leftAt x low start high end) same ∙ marks-some m marks numbers fit
+    marks-are =
+        marks-left m marks numbers (leftAt x low start high end)
+        (left-kept x n m rest low dropped high kept from to start end (rw (← even) found))
+        ∙ marks-some m marks numbers fit

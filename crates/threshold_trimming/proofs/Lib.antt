@@ -1,3 +1,4 @@
 pub mod Splitting
+pub mod Totals
 pub mod Loops
 pub mod Dropped

@@ -1,9 +1,8 @@
--- The loops over the numbers: their places are listed, the place behind the first that pass a test is found, and so are
--- the least number from low on and the greatest up to high.
+-- The loops over the numbers: the place behind the first that pass a test is found, and so are the least number from
+-- low on and the greatest up to high.
 -- Assumes nothing.
 use borrow.Author.Tests.{ltb-true, ltb-false}
 use mathlib.Core.Bool.{Bool, true, false, cond, _&&_}
-use mathlib.Core.List.{List}
 use mathlib.Core.Logic.{⊎-elim}
 use mathlib.Core.Path.{_≡_, refl, ap, ap₂, _∙_}
 use Prim.Native.Nat.{ℕ, zero, suc, _+_, _-_, min, max, _≤_, _<_}
@@ -11,57 +10,12 @@ use native.Mathlib.Nat.{le-refl}
 use native.Mathlib.Numerals.{add-one}
 use native.Mathlib.Omega.{arith}
 use lib.Dec.{ltb}
-use lib.ListN.{length, getD, set}
 use mir.Val.{boolByte}
 use Rattle.arithmetic.specs.Counting.{count}
 use Rattle.arithmetic.specs.Words.{twoTo32}
-use Rattle.arithmetic.specs.Writing.{table}
 use Rattle.arithmetic.proofs.Bools.{both-ways, and-left, and-right, and-intro, clash}
-use Rattle.arithmetic.proofs.Writing.{length-table, getD-table, overwrite-whole}
-use Rattle.loop_laws.proofs.Loops.{Storing, storing-none, storing-long, storing-next, storing-all}
 use Rattle.loop_laws.proofs.Loops.{flag, flag-small, count-next}
-use Rattle.threshold_trimming.specs.Trimming.{Placed, isLeft, leftAt, leastFrom, greatestTo}
-
--- ---- listing the places, r of them
-
-pub record Placing (places₀ places : List ℕ) (r : ℕ) : Type 0 where
-  pub long : length places ≡ length places₀
-  pub stores : Storing (λ s. s) (length places₀) places₀ places r
-
-module _ {places₀ : List ℕ} where
-  placing : {places : List ℕ} {r : ℕ} → Storing (λ s. s) (length places₀) places₀ places r → Placing places₀ places r
-  placing {places} {r} k =
-      record { long = storing-long (λ s. s) (length places₀) places₀ places r k; stores = k }
-
-  pub place-none : Placing places₀ places₀ 0
-  place-none = placing (storing-none (λ s. s) (length places₀) places₀ (le-refl (length places₀)))
-
-  module _ {places : List ℕ} {r : ℕ} (so-far : Placing places₀ places r) where
-    pub place-one : r < length places → Placing places₀ (set places r r) (r + 1)
-    place-one here =
-        placing
-        (storing-next (λ s. s) (length places₀) places₀ places r (so-far .stores) (omega (arith, so-far .long)) r refl)
-
-    pub all-placed : length places ≤ r → places ≡ table (λ s. s) (length places₀)
-    all-placed ended =
-        let t = length-table (λ (s : ℕ). s) (length places₀) in
-        storing-all (λ s. s) (length places₀) places₀ places r (so-far .stores) (omega (arith, so-far .long))
-        ∙ overwrite-whole (table (λ (s : ℕ). s) (length places₀)) places₀ (omega arith)
-
--- a list of places is as long as asked, and has them
-pub table-long : (places : List ℕ) (n : ℕ) → places ≡ table (λ s. s) n → length places ≡ n
-table-long places n e = ap length e ∙ length-table (λ (s : ℕ). s) n
-
-pub table-placed : (places : List ℕ) (n : ℕ) → places ≡ table (λ s. s) n → Placed places
-table-placed places n e r l =
-    ap (λ (l : List ℕ). getD l r 0) e ∙ getD-table (λ (s : ℕ). s) n r 0 (omega (arith, table-long places n e))
-
--- what is said of a number with its listed place is said of it with its index
-pub left-placed :
-    (x : ℕ → ℕ) (places : List ℕ) (low start high end r : ℕ) (b : Bool) → Placed places → r < length places
-    → b ≡ isLeft (x r) (getD places r 0) low start high end → b ≡ leftAt x low start high end r
-left-placed x places low start high end r b placed here e =
-    e ∙ ap (λ (s : ℕ). isLeft (x r) s low start high end) (placed r here)
+use Rattle.threshold_trimming.specs.Trimming.{leastFrom, greatestTo}
 
 -- ---- passing the first `ties` that pass a test: r of n are passed, `left` are to come
 

@@ -25,7 +25,7 @@ use Rattle.thresholds.proofs.Narrowing.{none-counted}
 use Rattle.threshold_trimming.proofs.Loops.{count-longer}
 use Rattle.threshold_trimming.specs.Trimming.{leastFrom, greatestTo, before}
 
-positive : (t : ℕ) → (t ≡ 0 → ⊥) → 0 < t
+pub positive : (t : ℕ) → (t ≡ 0 → ⊥) → 0 < t
 positive zero ne = absurd (ne refl)
 positive (suc t) ne = omega arith
 
@@ -120,7 +120,7 @@ module _ (x : ℕ → ℕ) (n : ℕ) where
   rk r = rank-nat n x r
 
   -- how many are below a number, and a rank
-  rank-under : (r at : ℕ) → r < n → x r < at → rk r < below at
+  pub rank-under : (r at : ℕ) → r < n → x r < at → rk r < below at
   unfolding rank-nat
   rank-under r at l h =
       count-more (λ t. precedes-nat x t r) (λ t. ltb (x t) at) n r l
@@ -136,7 +136,7 @@ module _ (x : ℕ → ℕ) (n : ℕ) where
 
   module _ (k at ties : ℕ) (s : Split x n k at ties) where
     -- a number above the threshold comes behind the k
-    rank-beyond : (r : ℕ) → r < n → at < x r → k ≤ rk r
+    pub rank-beyond : (r : ℕ) → r < n → at < x r → k ≤ rk r
     rank-beyond r l h =
         ⊎-elim
         (λ t. omega (arith, s .exact, eqb-true ties 0 t, rank-over r at (omega arith)))

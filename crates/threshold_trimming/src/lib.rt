@@ -2,31 +2,19 @@
 // those that are left lie. A number at a threshold is dropped or left by its place.
 ghost use mathlib.Core.Path.{_≡_};
 ghost use mathlib.Core.Bool.{cond};
-ghost use Prim.Native.Nat.{_+_, _-_, min, _≤_, _<_};
+ghost use Prim.Native.Nat.{_+_, _*_, _-_, min, _≤_};
 ghost use lib.Dec.{ltb, eqb};
 ghost use lib.ListN.{length, getD};
 ghost use Rattle.arithmetic.specs.Counting.{count};
-ghost use Rattle.arithmetic.specs.Naturals.{total};
 ghost use Rattle.arithmetic.specs.Words.{twoTo32};
 ghost use Rattle.arithmetic.specs.Writing.{table};
 ghost use Rattle.model.specs.Ensemble.{maxCabinets};
-ghost use Rattle.model.specs.RoundSheet.{trimmedMidpoint};
 ghost use Rattle.held.specs.Held.{valueAt, keptMark};
 ghost use Rattle.dropping.specs.Dropping.{droppedSum, droppedMarks};
-ghost use Rattle.threshold_trimming.specs.Trimming.{Placed, before, isLeft, leftAt, leastFrom, greatestTo};
+ghost use Rattle.threshold_trimming.specs.Trimming.{before, isLeft, leftAt, between, betweenTotal};
+ghost use Rattle.threshold_trimming.specs.Trimming.{leastFrom, greatestTo};
 use model::TRIMMED_MIDPOINT;
-
-// The place of each number, in a lent list. Compared with these the places take no longer than the numbers.
-fn fill_places(places: &mut [u32])
-    requires { ⌜ length (now places) ≤ maxCabinets ⌝ }
-    ensures { λ _. ⌜ now (places .exit) ≡ table (λ r. r) (length (now (places .entry))) ⌝ }
-{
-    let mut r = 0;
-    'places: while r < places.len() {
-        places[r] = r as u32;
-        r += 1;
-    }
-}
+use thresholds::Thresholds;
 
 // The place behind the first `ties` numbers equal to one, or behind all where there are fewer.
 fn find_place(numbers: &[u32], at: u32, ties: u32) -> u32
@@ -60,18 +48,8 @@ fn is_left(number: u32, place: u32, low: u32, start: u32, high: u32, end: u32) -
 }
 
 // Strikes out the readings that are not left.
-fn strike(
-    marks: &mut [u8],
-    numbers: &[u32],
-    places: &[u32],
-    low: u32,
-    start: u32,
-    high: u32,
-    end: u32,
-)
-    requires { ⌜
-        (length (now numbers) ≡ length (now marks)) × (length (now places) ≡ length (now marks)) ⌝ }
-    requires { ⌜ Placed (now places) ⌝ }
+fn strike(marks: &mut [u8], numbers: &[u32], low: u32, start: u32, high: u32, end: u32)
+    requires { ⌜ (length (now marks) ≤ maxCabinets) × (length (now numbers) ≡ length (now marks)) ⌝ }
     ensures { λ _. ⌜
         now (marks .exit)
         ≡ table
@@ -81,31 +59,50 @@ fn strike(
     let mut r = 0;
     'readings: while r < marks.len() {
         marks[r] = held::kept_mark(
-            is_left(numbers[r], places[r], low, start, high, end),
+            is_left(numbers[r], r as u32, low, start, high, end),
             marks[r],
         );
         r += 1;
     }
 }
 
-// The sum of the numbers that are left.
-fn sum_left(numbers: &[u32], places: &[u32], low: u32, start: u32, high: u32, end: u32) -> u64
-    requires { ⌜ (length (now numbers) ≤ maxCabinets) × (length (now places) ≡ length (now numbers)) ⌝ }
-    requires { ⌜ Placed (now places) ⌝ }
-    ensures { λ s. ⌜
-        s
-        ≡ total
-        (λ r. cond (leftAt (valueAt (now (numbers .entry))) low start high end r) (valueAt (now (numbers .entry)) r) 0)
-        (length (now (numbers .entry))) ⌝ }
+// Whether a number is at least low and below high.
+fn between(number: u32, low: u32, high: u32) -> bool
+    ensures { λ r. ⌜ r ≡ between low high number ⌝ }
+{
+    (low <= number) & (number < high)
+}
+
+// The sum of the numbers from low on and below high.
+fn sum_between(numbers: &[u32], low: u32, high: u32) -> u64
+    requires { ⌜ length (now numbers) ≤ maxCabinets ⌝ }
+    ensures { λ s. ⌜ s ≡ betweenTotal (valueAt (now (numbers .entry))) low high (length (now (numbers .entry))) ⌝ }
 {
     let mut sum: u64 = 0;
     let mut r = 0;
     'numbers: while r < numbers.len() {
         let number = numbers[r];
-        sum += dropping::part(number, is_left(number, places[r], low, start, high, end));
+        sum += dropping::part(number, between(number, low, high));
         r += 1;
     }
     sum
+}
+
+// The sum of the numbers that are left: of those from the lower threshold on and below the upper one, without those
+// dropped at the lower one, and with those kept at the upper one.
+fn sum_left(numbers: &[u32], at: Thresholds) -> u64
+    requires { ⌜ (length (now numbers) ≤ maxCabinets) × (at .kept ≤ maxCabinets) ⌝ }
+    requires { ⌜
+        at .dropped * at .low
+        ≤ betweenTotal (valueAt (now numbers)) (at .low) (at .high) (length (now numbers)) + at .kept * at .high ⌝ }
+    ensures { λ s. ⌜
+        s
+        ≡ betweenTotal (valueAt (now (numbers .entry))) (at .low) (at .high) (length (now (numbers .entry)))
+        + at .kept * at .high
+        - at .dropped * at .low ⌝ }
+{
+    sum_between(numbers, at.low, at.high) + (at.kept as u64) * (at.high as u64)
+        - (at.dropped as u64) * (at.low as u64)
 }
 
 // A number that is at least low; the highest of 32 bits for any other.
@@ -141,46 +138,6 @@ fn sum_ends(numbers: &[u32], low: u32, high: u32) -> u64
     (least as u64) + (most as u64)
 }
 
-// Drops the readings that are not left, with lent room for places: strikes them out, and gives the sum that the rule
-// asks for, of the least and the greatest that are left, or of all.
-fn drop_between(
-    marks: &mut [u8],
-    numbers: &[u32],
-    places: &mut [u32],
-    low: u32,
-    start: u32,
-    high: u32,
-    end: u32,
-    last: u32,
-    rule: u8,
-) -> u64
-    requires { ⌜
-        (length (now marks) ≤ maxCabinets)
-        × (length (now numbers) ≡ length (now marks))
-        × (length (now places) ≡ length (now marks)) ⌝ }
-    ensures { λ s. ⌜
-        s
-        ≡ cond (eqb rule trimmedMidpoint)
-        (leastFrom (valueAt (now (numbers .entry))) low (length (now (numbers .entry)))
-        + greatestTo (valueAt (now (numbers .entry))) last (length (now (numbers .entry))))
-        (total
-        (λ r. cond (leftAt (valueAt (now (numbers .entry))) low start high end r) (valueAt (now (numbers .entry)) r) 0)
-        (length (now (numbers .entry)))) ⌝ }
-    ensures { λ _. ⌜
-        now (marks .exit)
-        ≡ table
-        (λ r. keptMark (leftAt (valueAt (now (numbers .entry))) low start high end r) (getD (now (marks .entry)) r 0))
-        (length (now (marks .entry))) ⌝ }
-{
-    fill_places(&mut *places);
-    strike(marks, numbers, &*places, low, start, high, end);
-    if rule == TRIMMED_MIDPOINT {
-        sum_ends(numbers, low, last)
-    } else {
-        sum_left(numbers, &*places, low, start, high, end)
-    }
-}
-
 // The highest number that is left up to a threshold: one below it, where none equal to it is left.
 fn last_kept(high: u32, kept: u32) -> u32
     ensures { λ r. ⌜ r ≡ cond (eqb kept 0) (high - 1) high ⌝ }
@@ -198,24 +155,16 @@ pub fn drop_ends(marks: &mut [u8], numbers: &[u32], m: u8, rule: u8) -> u64
     ensures { λ s. ⌜ s ≡ droppedSum rule m (now (marks .entry)) (now (numbers .entry)) ⌝ }
     ensures { λ _. ⌜ now (marks .exit) ≡ droppedMarks m (now (marks .entry)) (now (numbers .entry)) ⌝ }
 {
-    let n = marks.len();
-    if dropping::unfit(n, numbers.len(), m) {
+    if dropping::unfit(marks.len(), numbers.len(), m) {
         return 0;
     }
-    let found = thresholds::find_both(numbers, m);
-    let start = find_place(numbers, found.low, found.dropped);
-    let end = find_place(numbers, found.high, found.kept);
-    let last = last_kept(found.high, found.kept);
-    let mut places = [0u32; 64];
-    drop_between(
-        marks,
-        numbers,
-        &mut places[..n],
-        found.low,
-        start,
-        found.high,
-        end,
-        last,
-        rule,
-    )
+    let at = thresholds::find_both(numbers, m);
+    let start = find_place(numbers, at.low, at.dropped);
+    let end = find_place(numbers, at.high, at.kept);
+    strike(marks, numbers, at.low, start, at.high, end);
+    if rule == TRIMMED_MIDPOINT {
+        sum_ends(numbers, at.low, last_kept(at.high, at.kept))
+    } else {
+        sum_left(numbers, at)
+    }
 }

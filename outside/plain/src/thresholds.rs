@@ -5,8 +5,10 @@
 /// The values that come before `high` and not before `low`: of those equal to one of these the first so many places do.
 pub struct Between {
     pub low: u32,
+    dropped: u32,
     start: usize,
     high: u32,
+    kept: u32,
     end: usize,
     /// The highest value that can be left.
     pub last: u32,
@@ -24,12 +26,23 @@ impl Between {
         let (high, kept) = find(values, (values.len() - m) as u32, least, most);
         let start = place_behind(values, low, dropped);
         let end = place_behind(values, high, kept);
-        Between { low, start, high, end, last: if kept == 0 { high - 1 } else { high } }
+        let last = if kept == 0 { high - 1 } else { high };
+        Between { low, dropped, start, high, kept, end, last }
     }
 
     pub fn holds(&self, value: u32, place: usize) -> bool {
         let before = |at: u32, end: usize| (value < at) | ((value == at) & (place < end));
         !before(self.low, self.start) & before(self.high, self.end)
+    }
+
+    /// The sum of those that are left: of equal ones it does not matter which.
+    pub fn sum(&self, values: &[u32]) -> u64 {
+        let mut sum = 0;
+        for r in 0..values.len() {
+            let inside = (self.low <= values[r]) & (values[r] < self.high);
+            sum += if inside { values[r] as u64 } else { 0 };
+        }
+        sum + self.kept as u64 * self.high as u64 - self.dropped as u64 * self.low as u64
     }
 }
 

@@ -116,9 +116,7 @@ fn mark_between(sheet: &Opened, values: &[u32], marks: &mut [u8]) -> Sums {
         }
         sums.extremes = least as u64 + most as u64;
     } else {
-        for r in 0..values.len() {
-            sums.kept += if between.holds(values[r], r) { values[r] as u64 } else { 0 };
-        }
+        sums.kept = between.sum(values);
     }
     sums
 }

@@ -1,19 +1,19 @@
 -- `threshold_trimming::drop_ends` meets its contract: what is between the thresholds is left.
 -- Assumes nothing.
 use borrow.Author.Needs.{needs}
-use native.Mathlib.Omega.{arith}
+use borrow.Author.Tests.{eq-eqb, ne-eqb}
 use mathlib.Core.Bool.{false}
 use mathlib.Core.Path.{_≡_, sym, _∙_}
 use Prim.Native.Nat.{ℕ, _-_, _≤_, _<_}
-use lib.ListN.{length, take, replicate}
+use lib.ListN.{length}
 use Rattle.arithmetic.specs.Words.{twoTo32}
 use Rattle.model.specs.Ensemble.{maxCabinets}
+use Rattle.model.specs.RoundSheet.{trimmedMidpoint}
 use Rattle.held.specs.Held.{valueAt}
-use Rattle.held.proofs.Held.{first-places}
-use Rattle.dropping.specs.Dropping.{unfitFor}
+use Rattle.dropping.specs.Dropping.{unfitFor, droppedMarks}
 use Rattle.dropping.proofs.Dropped.{fits-few, fits-even, sum-none, marks-none}
 use Rattle.thresholds.specs.Thresholds.{Splits}
-use Rattle.threshold_trimming.proofs.Dropped.{fits-both, Places, sum-is, marks-are}
+use Rattle.threshold_trimming.proofs.Dropped.{fits-both, Places, by-ends, by-all, dropped-fits, kept-few, marks-are}
 use Rattle.threshold_trimming.proofs.drop_ends.Statement.{statement}
 use Rattle.threshold_trimming.proofs.drop_ends.Tie as tie
 
@@ -31,12 +31,6 @@ few e = let a = call e .args in fits-few (a .m) (a .marks .now) (a .numbers .now
 
 even : (e : tie.Else1) → length (call e .args .numbers .now) ≡ length (call e .args .marks .now)
 even e = let a = call e .args in fits-even (a .m) (a .marks .now) (a .numbers .now) (fit e)
-
--- as many places are lent as there are readings
-places-long :
-    (e : tie.Else1)
-    → length {A = ℕ} (take (length (call e .args .marks .now)) (replicate 64 0)) ≡ length (call e .args .marks .now)
-places-long e = first-places (length (call e .args .marks .now)) (few e)
 
 -- the thresholds are found
 lowest :
@@ -97,38 +91,80 @@ find-place-requires c κs = rw (even (c .before)) (few (c .before))
 find-place-requires-2 : tie.Need-find-place-requires-2
 find-place-requires-2 c κs = rw (even (c .before .before)) (few (c .before .before))
 
+strike-requires : tie.Need-strike-requires
+strike-requires c κs = let e = c .before .before .before .before in (few e, even e)
+
 last-kept-requires : tie.Need-last-kept-requires
 last-kept-requires c κs = search needs
 
-array-borrow-prefix-places : tie.Need-array-borrow-prefix-places
-array-borrow-prefix-places c = omega (arith, few (c .before .before .before .before .before))
+sum-ends-requires : tie.Need-sum-ends-requires
+sum-ends-requires c κs = search needs
 
-slice-aggregate-drop-between : tie.Need-slice-aggregate-drop-between
-slice-aggregate-drop-between c = sym (places-long (c .before .before .before .before .before .before))
+-- the marks are those of what is left
+abbrev found : tie.After-strike → tie.After-find-both
+found k = k .before .before .before .before
 
-drop-between-requires : tie.Need-drop-between-requires
-drop-between-requires c κs =
-    let e = c .before .before .before .before .before .before in (few e, even e, places-long e)
+marked :
+    (k : tie.After-strike)
+    → let a = call (found k .before) .args in
+    k .strike .last .0 ≡ droppedMarks (a .m) (a .marks .now) (a .numbers .now)
+marked k =
+    let p = k .before .before in
+    let f = found k in
+    let a = call (f .before) .args in
+    let r = f .find-both .result in
+    k .strike .ensures
+    ∙ marks-are (a .rule) (a .m) (a .marks .now) (a .numbers .now) (fit (f .before)) (r .low) (r .dropped) (r .high)
+    (r .kept) (lowest f) (highest f) (p .before .find-place .result) (p .find-place2 .result) (places p)
+
+sum-left-requires : tie.Need-sum-left-requires
+sum-left-requires c κs =
+    let f = found (c .before .before .before) in
+    let e = f .before in
+    let a = call e .args in
+    let r = f .find-both .result in (
+      (
+        rw (even e) (few e),
+        kept-few (a .rule) (a .m) (a .marks .now) (a .numbers .now) (fit e) (r .low) (r .dropped) (r .high) (r .kept)
+            (lowest f) (highest f),
+      ),
+      dropped-fits (a .rule) (a .m) (a .marks .now) (a .numbers .now) (fit e) (r .low) (r .dropped) (r .high) (r .kept)
+          (lowest f) (highest f),
+    )
 
 same-length : tie.Need-same-length
 same-length c = search needs
 
 returns-2 : tie.Need-returns-2
 returns-2 c =
-    let dropped = c .before .before .before in
-    let last = dropped .before .before .before in
-    let p = last .before in
-    let f = p .before .before in
+    let chosen = c .before .before in
+    let k = chosen .before .before .before in
+    let f = found k in
     let e = f .before in
     let a = call e .args in
     let r = f .find-both .result in (
-      dropped .drop-between .ensures .0
-          ∙ sum-is (a .rule) (a .m) (a .marks .now) (a .numbers .now) (fit e) (r .low) (r .dropped) (r .high) (r .kept)
-          (lowest f) (highest f) (p .before .find-place .result) (p .find-place2 .result) (places p) (small e)
-          (last .last-kept .result) (last .last-kept .ensures),
-      dropped .drop-between .ensures .1
-          ∙ marks-are (a .rule) (a .m) (a .marks .now) (a .numbers .now) (fit e) (r .low) (r .dropped) (r .high) (r .kept)
-          (lowest f) (highest f) (p .before .find-place .result) (p .find-place2 .result) (places p),
+      c .sum-ends .ensures
+          ∙ by-ends (a .rule) (a .m) (a .marks .now) (a .numbers .now) (fit e) (r .low) (r .dropped) (r .high) (r .kept)
+          (lowest f) (highest f) (small e) (eq-eqb (a .rule) trimmedMidpoint (chosen .if2 .taken))
+          (c .before .last-kept .result) (c .before .last-kept .ensures),
+      marked k,
+    )
+
+same-length-2 : tie.Need-same-length-2
+same-length-2 c = search needs
+
+returns-3 : tie.Need-returns-3
+returns-3 c =
+    let chosen = c .before in
+    let k = chosen .before .before .before in
+    let f = found k in
+    let e = f .before in
+    let a = call e .args in
+    let r = f .find-both .result in (
+      c .sum-left .ensures
+          ∙ by-all (a .rule) (a .m) (a .marks .now) (a .numbers .now) (fit e) (r .low) (r .dropped) (r .high) (r .kept)
+          (lowest f) (highest f) (ne-eqb (a .rule) trimmedMidpoint (chosen .if2 .left)),
+      marked k,
     )
 
 pub drop-ends-spec : {M : Type 1} → statement M
@@ -140,9 +176,11 @@ drop-ends-spec =
     find-both-requires
     find-place-requires
     find-place-requires-2
+    strike-requires
     last-kept-requires
-    array-borrow-prefix-places
-    slice-aggregate-drop-between
-    drop-between-requires
+    sum-ends-requires
+    sum-left-requires
     same-length
-    returns-2)
+    returns-2
+    same-length-2
+    returns-3)

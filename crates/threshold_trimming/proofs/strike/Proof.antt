@@ -10,16 +10,15 @@ use lib.ListN.{length, getD}
 use Rattle.held.specs.Held.{valueAt, keptMark}
 use Rattle.threshold_trimming.specs.Trimming.{leftAt}
 use Rattle.dropping.proofs.Loops.{Striking, strike-none, strike-one, all-struck}
-use Rattle.threshold_trimming.proofs.Loops.{left-placed}
 use Rattle.threshold_trimming.proofs.strike.Statement.{statement}
 use Rattle.threshold_trimming.proofs.strike.Tie as tie
 
 abbrev Inv-readings : tie.InvT-readings
-Inv-readings marks₀ numbers places low start high end r₀ marks r =
+Inv-readings marks₀ numbers low start high end r₀ marks r =
     Striking (leftAt (valueAt numbers) low start high end) marks₀ marks r
 
 abbrev μ-readings : tie.MeasureT-readings
-μ-readings marks₀ numbers places low start high end r₀ marks r = length marks₀ - r
+μ-readings marks₀ numbers low start high end r₀ marks r = length marks₀ - r
 
 readings-holds : tie.Need-readings-holds Inv-readings μ-readings
 readings-holds c = strike-none
@@ -30,11 +29,8 @@ mul-is-left c = search needs
 shared-slice-read-is-left : tie.Need-shared-slice-read-is-left Inv-readings μ-readings
 shared-slice-read-is-left c = search needs
 
-mul-is-left-2 : tie.Need-mul-is-left-2 Inv-readings μ-readings
-mul-is-left-2 c = search needs
-
-shared-slice-read-is-left-2 : tie.Need-shared-slice-read-is-left-2 Inv-readings μ-readings
-shared-slice-read-is-left-2 c = search needs
+cast-is-left : tie.Need-cast-is-left Inv-readings μ-readings
+cast-is-left c = omega (arith, c .before .before .readings .inv .long, c .before .readings-test .taken, c .before .before .before .before .before .pre .0)
 
 is-left-requires : tie.Need-is-left-requires Inv-readings μ-readings
 is-left-requires c κs = search needs
@@ -57,17 +53,14 @@ readings-less c = search needs
 readings-again : tie.Need-readings-again Inv-readings μ-readings
 readings-again c =
     let left = c .before .before in
-    let test = left .before .before .before in
+    let test = left .before .before in
     let k = test .before .readings in
-    let start = test .before .before .before .before .before in
+    let start = test .before .before .before .before in
     let a = start .args in
     strike-one (k .inv) (test .readings-test .taken) (c .kept-mark .result)
     (c .kept-mark .ensures
     ∙ ap (λ (b : Bool). keptMark b (getD (k .marks) (k .r) 0))
-    (left-placed (valueAt (a .numbers .now)) (a .places .now) (a .low) (a .start) (a .high) (a .end) (k .r)
-    (left .is-left .result) (start .pre .1)
-    (omega (arith, k .inv .long, test .readings-test .taken, start .pre .0 .1))
-    (left .is-left .ensures)))
+    (left .is-left .ensures))
 
 same-length : tie.Need-same-length Inv-readings μ-readings
 same-length c = c .before .readings .inv .long
@@ -84,8 +77,7 @@ strike-spec =
     readings-holds
     mul-is-left
     shared-slice-read-is-left
-    mul-is-left-2
-    shared-slice-read-is-left-2
+    cast-is-left
     is-left-requires
     slice-read-kept-mark
     kept-mark-requires

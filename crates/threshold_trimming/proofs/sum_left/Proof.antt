@@ -1,110 +1,71 @@
--- `threshold_trimming::sum_left` meets its contract: the numbers passed are summed; the measure is the numbers left.
+-- `threshold_trimming::sum_left` meets its contract: what it adds up fits 64 bits.
 -- Assumes nothing.
 use borrow.Author.Needs.{needs}
-use mathlib.Core.Bool.{Bool, cond}
-use mathlib.Core.List.{List}
-use mathlib.Core.Path.{ap, _∙_}
 use native.Mathlib.Omega.{arith}
-use Prim.Native.Nat.{ℕ, _-_}
+use Prim.Native.Nat.{_+_, _*_, _<_}
 use lib.ListN.{length}
 use Rattle.arithmetic.specs.Words.{twoTo32}
 use Rattle.held.specs.Held.{valueAt}
-use Rattle.threshold_trimming.specs.Trimming.{leftAt}
-use Rattle.dropping.proofs.Loops.{Summing, summing-none, summing-one, all-summed, sum-fits}
-use Rattle.threshold_trimming.proofs.Loops.{left-placed}
+use Rattle.threshold_trimming.specs.Trimming.{betweenTotal}
+use Rattle.threshold_trimming.proofs.Totals.{left-fits}
 use Rattle.threshold_trimming.proofs.sum_left.Statement.{statement}
 use Rattle.threshold_trimming.proofs.sum_left.Tie as tie
 
-abbrev takenOf : List ℕ → ℕ → ℕ → ℕ → ℕ → ℕ → ℕ
-takenOf numbers low start high end r = cond (leftAt (valueAt numbers) low start high end r) (valueAt numbers r) 0
+fits :
+    (s : tie.After-shared-slice-known)
+    → let a = s .before .args in
+    a .at .high < twoTo32
+    → betweenTotal (valueAt (a .numbers .now)) (a .at .low) (a .at .high) (length (a .numbers .now))
+    + a .at .kept * a .at .high
+    < 18446744073709551616
+fits s l =
+    let a = s .before .args in
+    let p = s .before .pre in
+    left-fits (valueAt (a .numbers .now)) (length (a .numbers .now)) (a .at .low) (a .at .high) (a .at .kept)
+    (λ j. s .shared-slice-known .given j .fits) (p .0 .0) (p .0 .1) l
 
-abbrev Inv-numbers : tie.InvT-numbers
-Inv-numbers numbers places low start high end sum₀ r₀ sum r =
-    Summing (takenOf numbers low start high end) (twoTo32 - 1) (length numbers) sum r
+sum-between-requires : tie.Need-sum-between-requires
+sum-between-requires c κs = search needs
 
-abbrev μ-numbers : tie.MeasureT-numbers
-μ-numbers numbers places low start high end sum₀ r₀ sum r = length numbers - r
+cast-result : tie.Need-cast-result
+cast-result c = search needs
 
-numbers-holds : tie.Need-numbers-holds Inv-numbers μ-numbers
-numbers-holds c =
-    let a = c .before .before .args in
-    summing-none (takenOf (a .numbers .now) (a .low) (a .start) (a .high) (a .end)) (twoTo32 - 1)
-    (length (a .numbers .now))
+cast-result-2 : tie.Need-cast-result-2
+cast-result-2 c = search needs
 
-mul-number : tie.Need-mul-number Inv-numbers μ-numbers
-mul-number c = search needs
+mul-result : tie.Need-mul-result
+mul-result c = omega (arith, fits (c .before .before .before) (omega arith))
 
-shared-slice-read-number : tie.Need-shared-slice-read-number Inv-numbers μ-numbers
-shared-slice-read-number c = search needs
+add-result : tie.Need-add-result
+add-result c = omega (arith, fits (c .before .before .before) (omega arith), c .before .before .sum-between .ensures)
 
-mul-is-left : tie.Need-mul-is-left Inv-numbers μ-numbers
-mul-is-left c = search needs
+cast-result-3 : tie.Need-cast-result-3
+cast-result-3 c = search needs
 
-shared-slice-read-is-left : tie.Need-shared-slice-read-is-left Inv-numbers μ-numbers
-shared-slice-read-is-left c = search needs
+cast-result-4 : tie.Need-cast-result-4
+cast-result-4 c = search needs
 
-is-left-requires : tie.Need-is-left-requires Inv-numbers μ-numbers
-is-left-requires c κs = search needs
+mul-result-2 : tie.Need-mul-result-2
+mul-result-2 c =
+    let s = c .before .before .before .before .before in omega (arith, fits s (omega arith), s .before .pre .1)
 
-part-requires : tie.Need-part-requires Inv-numbers μ-numbers
-part-requires c κs = search needs
+sub-result : tie.Need-sub-result
+sub-result c = search needs
 
-add-sum : tie.Need-add-sum Inv-numbers μ-numbers
-add-sum c =
-    let test = c .before .before .before .before in
-    let k = test .before .numbers in
-    let start = test .before .before .before .before in
-    let a = start .args in
-    omega (
-      arith,
-      sum-fits (takenOf (a .numbers .now) (a .low) (a .start) (a .high) (a .end)) (twoTo32 - 1)
-          (length (a .numbers .now)) (k .sum) (k .r) (c .part .result) (k .inv) (test .numbers-test .taken)
-          (start .pre .0 .0) (omega arith) (omega arith),
-    )
-
-add-r : tie.Need-add-r Inv-numbers μ-numbers
-add-r c = search needs
-
-numbers-less : tie.Need-numbers-less Inv-numbers μ-numbers
-numbers-less c = search needs
-
-numbers-again : tie.Need-numbers-again Inv-numbers μ-numbers
-numbers-again c =
-    let test = c .before .before .before .before in
-    let k = test .before .numbers in
-    let start = test .before .before .before .before in
-    let a = start .args in
-    summing-one (takenOf (a .numbers .now) (a .low) (a .start) (a .high) (a .end)) (twoTo32 - 1)
-    (length (a .numbers .now)) (k .sum) (k .r) (c .part .result) (k .inv) (test .numbers-test .taken)
-    (c .part .ensures .0
-    ∙ ap (λ (b : Bool). cond b (valueAt (a .numbers .now) (k .r)) 0)
-    (left-placed (valueAt (a .numbers .now)) (a .places .now) (a .low) (a .start) (a .high) (a .end) (k .r)
-    (c .before .is-left .result) (start .pre .1) (omega (arith, test .numbers-test .taken, start .pre .0 .1))
-    (c .before .is-left .ensures)))
-    (omega arith)
-
-returns : tie.Need-returns Inv-numbers μ-numbers
-returns c =
-    let k = c .before .numbers in
-    let a = c .before .before .before .before .args in
-    all-summed (takenOf (a .numbers .now) (a .low) (a .start) (a .high) (a .end)) (twoTo32 - 1)
-    (length (a .numbers .now)) (k .sum) (k .r) (k .inv) (c .numbers-test .left)
+returns : tie.Need-returns
+returns c = search needs
 
 pub sum-left-spec : {M : Type 1} → statement M
 sum-left-spec =
     tie.close
     (tie.spec
-    Inv-numbers
-    μ-numbers
-    numbers-holds
-    mul-number
-    shared-slice-read-number
-    mul-is-left
-    shared-slice-read-is-left
-    is-left-requires
-    part-requires
-    add-sum
-    add-r
-    numbers-less
-    numbers-again
+    sum-between-requires
+    cast-result
+    cast-result-2
+    mul-result
+    add-result
+    cast-result-3
+    cast-result-4
+    mul-result-2
+    sub-result
     returns)

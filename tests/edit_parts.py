@@ -66,10 +66,14 @@ def changes_code(change, code):
 
 
 def wrongs(edit):
-    """What is wrong in an edit: by the name of each function or constant that it changes, and under '-' for one of definitions alone, its changes."""
+    """What is wrong in an edit, with its changes: by the name of each function or constant that it changes. Of an edit of definitions alone each remark
+    is one wrong definition, '-1', '-2' and so on; '-' where there is only one."""
     found = parts(edit)
     common = found.pop(None, [])
-    return {name: common + own for name, own in found.items()} or {"-": common}
+    if found:
+        return {name: common + own for name, own in found.items()}
+    below = [own for own in changes_below(edit) if own]
+    return {f"-{i + 1}": own for i, own in enumerate(below)} if len(below) > 1 else {"-": common}
 
 
 def total(changes):
@@ -86,6 +90,46 @@ def evidence(page):
     """The lines of tests/edits.txt: what was found of each edit and function, with the sum of the changes that were tried."""
     rows = [line.split(" ", 3) for line in page.read_text(encoding="utf-8").splitlines() if line and not line.startswith("#")] if page.is_file() else []
     return {(edit, name): (tried, found) for edit, name, tried, found in rows}
+
+
+def changes_below(edit):
+    """The replacements below each remark of an edit."""
+    found, left = [], changes(edit)
+    for line in edit.read_text(encoding="utf-8").split("\n"):
+        if line.startswith("#"):
+            found.append([])
+        elif line.startswith("new:"):
+            found[-1].append(next(left))
+    return found
+
+
+def errors(log):
+    """Each error and each fact that is not proved, in the order in which the prover says them: the file, from the crate's folder on, the line, what."""
+    folder = str(log.parent) + "/"
+    for line in log.read_text(encoding="utf-8", errors="replace").split("\n"):
+        match = re.match(r"(?:note: )?(\S+?):(\d+):\d+: (error.*|it is not proved that.*)", line.replace(folder, ""))
+        if match:
+            yield match[1], int(match[2]), match[3]
+        elif line.startswith("error"):
+            yield "", 0, line
+
+
+def reasons(log):
+    """The errors but for those that only say that an earlier one stands in their way, which are no reason."""
+    return [(place, line, what) for place, line, what in errors(log) if not re.search(r"was not admitted \(", what)]
+
+
+def facts(log, crate):
+    """Where the proofs of a crate are refused: each place as its file, the declaration and how many lines below its head."""
+    found = set()
+    for place, line, what in reasons(log):
+        name = re.match(r"error: `(\S+?)`:", what)
+        if name and place.startswith("proofs/"):
+            text = (crate / place).read_text(encoding="utf-8").split("\n")
+            head = re.compile(rf" *(?:(?:pub|abbrev|unfoldable) )*{re.escape(name[1])} ")
+            start = max((at for at in range(line) if head.match(text[at])), default=0)
+            found.add(f"{place}:{name[1]}+{line - 1 - start}")
+    return found
 
 
 def remarks(edit):

@@ -175,6 +175,10 @@ edited() { # TEXT
 sabotage "edits: a correct rewrite" 'edited "$rewrite"' tests/check_must_fail_reasons "words/sabotage, byte_at: no program tells it from the engine"
 sabotage "edits: an ill-typed contract" 'edited "$ill_typed"' tests/check_must_fail_reasons "words/sabotage: what is edited is not well-formed"
 sabotage "edits: one not tried" "sed -i 's/^new: /new: 0 + /' crates/words/must-fail/base_255.edit" tests/check_must_fail_reasons "words/base_255, word_at: not tried as it is"
+sabotage "edits: a wrong definition that is refused elsewhere" "sed -i 's/^\(demand_1_2.last_refusal_that_applies -2 .*+\)9$/\10/' tests/edits.txt" \
+    tests/check_must_fail_reasons "last_refusal_that_applies: its wrong definition 2 is not refused for itself"
+sabotage "edits: a definition that nothing refuses" "printf '# nothing\nfile: specs/Demand2.antt\nold: {length, getD, take}\nnew: {length, take, getD}\n' >>crates/demand_1_2/must-fail/midpoint_rounded_up.edit
+    tests/edits_differ demand_1_2/midpoint_rounded_up || true" tests/check_must_fail_reasons "midpoint_rounded_up, -3: alone it is not refused"
 sabotage "edits: one not in the table" "sed -i '/words.base_255/d' docs/MUST-FAIL.md" tests/check_must_fail_table "words/base_255"
 
 # ---- sheets and plans

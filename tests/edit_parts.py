@@ -105,9 +105,10 @@ def changes_below(edit):
 
 def errors(log):
     """Each error and each fact that is not proved, in the order in which the prover says them: the file, from the crate's folder on, the line, what."""
-    folder = str(log.parent) + "/"
+    # the edited crate's folder, wherever the log was written
+    folder = rf"\S*/must-fail/{log.parent.parent.name}/{log.parent.name}/"
     for line in log.read_text(encoding="utf-8", errors="replace").split("\n"):
-        match = re.match(r"(?:note: )?(\S+?):(\d+):\d+: (error.*|it is not proved that.*)", line.replace(folder, ""))
+        match = re.match(rf"(?:note: )?(?:{folder})?(\S+?):(\d+):\d+: (error.*|it is not proved that.*)", line)
         if match:
             yield match[1], int(match[2]), match[3]
         elif line.startswith("error"):

@@ -29,6 +29,10 @@ pub positive : (t : ℕ) → (t ≡ 0 → ⊥) → 0 < t
 positive zero ne = absurd (ne refl)
 positive (suc t) ne = omega arith
 
+pub apart : (a b : ℕ) → a ≤ b → (b ≡ a → ⊥) → a < b
+apart a b l ne =
+    ⊎-elim (λ t. ltb-true a b t) (λ f. absurd (ne (omega (arith, ltb-false a b f)))) (both-ways (ltb a b))
+
 -- so many are below a number, and so many equal to it
 up-to-both :
     (x : ℕ → ℕ) (n v : ℕ)
@@ -196,10 +200,6 @@ module _ (x : ℕ → ℕ) (n : ℕ) where
           or-false f (ap (λ (b : Bool). b && ltb r end) g) ∙ sym (le-ltb (rk r) k (rank-beyond r l over)))
           (both-ways (eqb (x r) at)))
           (both-ways (ltb (x r) at))
-        where
-          apart : (a b : ℕ) → a ≤ b → (b ≡ a → ⊥) → a < b
-          apart a b l ne =
-              ⊎-elim (λ t. ltb-true a b t) (λ f. absurd (ne (omega (arith, ltb-false a b f)))) (both-ways (ltb a b))
 
     -- ---- the number of rank k, and the one before it
 

@@ -22,7 +22,7 @@ use Rattle.round_laws.specs.Naturals.{rank-nat, kept-nat, kept-total}
 use Rattle.value_laws.proofs.Order as order
 use Rattle.thresholds.specs.Thresholds.{Split}
 use Rattle.threshold_trimming.specs.Trimming.{between, betweenTotal}
-use Rattle.threshold_trimming.proofs.Splitting.{positive, rank-under, rank-beyond}
+use Rattle.threshold_trimming.proofs.Splitting.{positive, apart, rank-under, rank-beyond}
 
 -- ---- what is below b is below a, or between them
 
@@ -84,17 +84,13 @@ module _ (x : ℕ → ℕ) (n k at ties : ℕ) (s : Split x n k at ties) (most :
       ⊎-elim
       (λ e. rw (f, eqb-true (x r) at e) (tie (ltb (rk r) k)))
       (λ g.
-      let over : at < x r = apart (x r) (ltb-false (x r) at f) (eqb-false (x r) at g) in
+      let over : at < x r = apart at (x r) (ltb-false (x r) at f) (eqb-false (x r) at g) in
       rw (f, le-ltb (rk r) k (rank-beyond x n k at ties s r l over)) (omega arith))
       (both-ways (eqb (x r) at)))
       (both-ways (ltb (x r) at))
     where
       tie : (b : Bool) → cond b at 0 + 0 * at ≡ 0 + bit b * at
       tie b = ⊎-elim (λ t. rw t (omega arith)) (λ f. rw f (omega arith)) (both-ways b)
-
-      apart : (v : ℕ) → at ≤ v → (v ≡ at → ⊥) → at < v
-      apart v l ne =
-          ⊎-elim (λ t. ltb-true at v t) (λ f. absurd (ne (omega (arith, ltb-false at v f)))) (both-ways (ltb at v))
 
   counted : (p : ℕ → Bool) → total (λ r. bit (p r) * at) n ≡ count p n * at
   counted p = total-scale (λ r. bit (p r)) at n ∙ ap (λ (c : ℕ). c * at) (sym (count-total p n))

@@ -7,7 +7,7 @@ use mathlib.Core.Path.{_≡_, refl, sym, ap, ap₂, _∙_}
 use Prim.Native.Nat.{ℕ, zero, suc, _+_, _≤_, _<_, zero-le}
 use native.Mathlib.Nat.{le-refl, add-le-add, lt-suc-self, le-step, not-suc-le-zero}
 use native.Mathlib.Omega.{arith}
-use Rattle.arithmetic.specs.Counting.{bit, count, anyBelow, lowest, orIndex}
+use Rattle.arithmetic.specs.Counting.{bit, count, anyBelow, lowest, highest, orIndex}
 use Rattle.arithmetic.proofs.Bools.{both-ways, clash, and-left, and-right, or-cases, or-inl, or-inr, or-false}
 
 -- ---- the last index and those before it
@@ -208,3 +208,14 @@ lowest-missed p n e =
   where
     impossible : _≡_ {A = ℕ} 0 1 → ⊥
     impossible z = omega arith
+
+-- ---- highest
+
+pub highest-some : (p : ℕ → Bool) (n i : ℕ) → i < n → p i ≡ true → ((j : ℕ) → i < j → j < n → p j ≡ false) → highest p n ≡ some i
+unfolding highest
+highest-some p zero i h e f = absurd (not-suc-le-zero h)
+highest-some p (suc n) i h e f =
+    ⊎-elim
+    (λ l. rw (f n l (lt-suc-self n)) (highest-some p n i l e (λ j k m. f j k (le-step m))))
+    (λ (s : i ≡ n). rw (ap p (sym s) ∙ e) (ap {B = Option ℕ} some (sym s)))
+    (split-last i n h)

@@ -4,10 +4,11 @@
 use mathlib.Core.Bool.{Bool, true, false}
 use mathlib.Core.Path.{_≡_, refl, sym, ap, _∙_, subst⁻¹}
 use Prim.Native.Nat.{ℕ, zero, suc, _+_, _*_, _-_, _/_, _≤_, _<_}
+use native.Mathlib.Nat.{add-mul}
 use native.Mathlib.Omega.{arith}
 use borrow.Author.Tests.{lt-ltb, le-ltb, le-leb, lt-leb, ltb-true, ltb-false, leb-true}
 use lib.Dec.{leb, ltb}
-use lib.IntN.{ℤ, pos, negsuc, negℤ, natAbs, subℕ, _+ℤ_, _-ℤ_}
+use lib.IntN.{ℤ, pos, negsuc, negℤ, natAbs, subℕ, _+ℤ_, _-ℤ_, _*ℤ_}
 use lib.Signed.{leZ, ltZ, shrZ, mag}
 use Rattle.arithmetic.specs.Naturals.{down, up}
 use Rattle.arithmetic.proofs.Bools.{iff-eq}
@@ -165,3 +166,38 @@ dist-down k a b =
     ap (λ z. natAbs (down k a +ℤ z)) (neg-down k b)
     ∙ ap natAbs (add-down k a b k ∙ down-cong (k + b) (a + k) b a (omega arith))
     ∙ natAbs-down b a
+
+-- ---- differences and products with naturals
+
+pub sub-pos-down : (k a b : ℕ) → down k a -ℤ pos b ≡ down (k + b) a
+sub-pos-down k a b =
+    ap (λ z. down k a +ℤ z) (ap negℤ (pos-down b) ∙ neg-down 0 b)
+    ∙ add-down k a b 0
+    ∙ down-cong (k + b) (a + 0) (k + b) a (omega arith)
+
+pub sub-pos : (a b : ℕ) → pos a -ℤ pos b ≡ down b a
+sub-pos a b = ap (λ z. z -ℤ pos b) (pos-down a) ∙ sub-pos-down 0 a b ∙ down-cong (0 + b) a b a (omega arith)
+
+pub mul-down : (k a n : ℕ) → down k a *ℤ pos n ≡ down (k * n) (a * n)
+mul-down k a n =
+    down-ind k a (λ z. z *ℤ pos n ≡ down (k * n) (a * n))
+    (λ h.
+    let split = add-mul (a - k) k n in
+    let same : a - k + k ≡ a = omega arith in
+    let whole = ap (λ (x : ℕ). x * n) same in
+    pos-down ((a - k) * n) ∙ down-cong 0 ((a - k) * n) (k * n) (a * n) (omega arith))
+    (λ h.
+    let split = add-mul (suc (k - suc a)) a n in
+    let same : suc (k - suc a) + a ≡ k = omega arith in
+    let whole = ap (λ (x : ℕ). x * n) same in
+    ap negℤ (pos-down (suc (k - suc a) * n))
+    ∙ neg-down 0 (suc (k - suc a) * n)
+    ∙ down-cong (suc (k - suc a) * n) 0 (k * n) (a * n) (omega arith))
+
+pub pos-le-down : (x k a : ℕ) → leZ (pos x) (down k a) ≡ leb (x + k) a
+pos-le-down x k a =
+    ap (λ z. leZ z (down k a)) (pos-down x ∙ down-cong 0 x k (x + k) (omega arith)) ∙ le-down k (x + k) a
+
+pub down-le-pos : (k a x : ℕ) → leZ (down k a) (pos x) ≡ leb a (x + k)
+down-le-pos k a x =
+    ap (λ z. leZ (down k a) z) (pos-down x ∙ down-cong 0 x k (x + k) (omega arith)) ∙ le-down k a (x + k)

@@ -2,6 +2,7 @@
 --   count p n    how many of the indices pass the test p
 --   anyBelow p n whether one of them does
 --   lowest p n   the lowest that does
+--   highest p n  the highest that does
 --   sum f n      the sum of f over them
 --   eqZ a b      whether two whole numbers are equal
 --   floorDiv a n the whole part of a / n, rounded down below zero too
@@ -33,6 +34,10 @@ orIndex none b n = cond b (some n) none
 unfoldable pub lowest : (ℕ → Bool) → ℕ → Option ℕ
 lowest p zero = none
 lowest p (suc n) = orIndex (lowest p n) (p n) n
+
+unfoldable pub highest : (ℕ → Bool) → ℕ → Option ℕ
+highest p zero = none
+highest p (suc n) = cond (p n) (some n) (highest p n)
 
 unfoldable pub sum : (ℕ → ℤ) → ℕ → ℤ
 sum f zero = pos 0

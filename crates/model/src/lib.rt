@@ -1,12 +1,17 @@
 // The records and the numbers that document 01's definitions and the functions share. It has no function: a number that
 // is not the definitions' own is refused where it is used.
 
-// Limits of N, of the window, of a caller's spread, of an accuracy to start from and to step from, and of the rounds.
+// Limits of N, of the window, of a caller's spread, of the precision and the drift that an interval is for, of an
+// accuracy to start from and to step from, and of the rounds.
 pub const MAX_CABINETS: u8 = 64;
 
 pub const MAX_WINDOW: u32 = 1_000_000;
 
 pub const MAX_SPREAD: u32 = 100_000;
+
+pub const MAX_PRECISION: u32 = 1_000_000;
+
+pub const MAX_DRIFT: u32 = 1_000;
 
 pub const MAX_ACCURACY: u32 = 1_000_000_000;
 
@@ -70,6 +75,10 @@ pub const BAD_ROLES: u8 = 14;
 pub const RUN_STOPPED: u8 = 15;
 
 pub const BAD_SPREAD: u8 = 16;
+
+pub const BAD_INTERVAL: u8 = 17;
+
+pub const NO_INTERVAL: u8 = 18;
 
 // What a round sheet's sizes say. Nothing is presumed checked: any bytes may stand here.
 #[repr(C)]

@@ -1,0 +1,4 @@
+pub mod Formula
+pub mod Guarantee
+pub mod Fractions
+pub mod Cases

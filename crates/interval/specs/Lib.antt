@@ -1,0 +1,5 @@
+pub mod Interval
+pub mod Fractions
+pub mod Guarantee
+pub mod Cases
+pub mod Formula

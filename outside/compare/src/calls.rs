@@ -525,6 +525,10 @@ impl<'a> Comparison<'a> {
                 _ => (given.least, given.greatest) == (0, 0),
             };
             self.demand(right, "interval", || format!("{}: {given:?}; {asked:?}", who.name()));
+            let in_c = who.interval_in_c(window, precision, drift).unwrap_or(given);
+            self.demand(in_c == given, "interval", || {
+                format!("{}: {given:?}, and in C {in_c:?}; {asked:?}", who.name())
+            });
         }
         self.intervals.count(&asked, faults, &b);
     }

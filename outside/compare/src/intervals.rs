@@ -193,7 +193,7 @@ impl Asked {
     }
 
     fn out_of_range(&self) -> [bool; 3] {
-        let drift = 1 <= self.drift && self.drift <= MOST_DRIFT;
+        let drift = (1..=MOST_DRIFT).contains(&self.drift);
         [self.window > MOST, self.precision > MOST, !drift]
     }
 
@@ -260,7 +260,7 @@ fn of_ranges(asked: &Asked, given: &Spacing) -> Vec<bool> {
 fn of_faults(asked: &Asked) -> Vec<bool> {
     let Asked { window, precision, drift } = *asked;
     let faults = asked.out_of_range().into_iter().filter(|&out| out).count();
-    let near = 1 <= drift && drift <= 2 * MOST_DRIFT && window <= 2 * MOST && precision < window;
+    let near = (1..=2 * MOST_DRIFT).contains(&drift) && precision < window && window <= 2 * MOST;
     let eaten = || greatest(window - precision, drift) < least(precision, drift, 1);
     vec![
         faults == 2,

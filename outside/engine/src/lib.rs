@@ -93,6 +93,11 @@ pub trait Engine {
     /// The least and the greatest interval between rounds.
     fn interval(&self, window: u32, precision: u32, drift: u32) -> Spacing;
 
+    /// The same as C hands it back, where the engine goes through a wrapper, which hands on nothing beside a refusal.
+    fn interval_in_c(&self, _window: u32, _precision: u32, _drift: u32) -> Option<Spacing> {
+        None
+    }
+
     /// The length of the final values of a recorded run, 4N.
     fn replay(&self, trace: &[u8], values: &mut [u8]) -> u64;
 
@@ -127,8 +132,8 @@ impl Spacing {
         Spacing { answer: 0, least, greatest }
     }
 
-    pub fn refused(number: u8) -> Spacing {
-        Spacing { answer: packed(Refusal::new(number)), least: 0, greatest: 0 }
+    pub fn refused(answer: u64) -> Spacing {
+        Spacing { answer, least: 0, greatest: 0 }
     }
 }
 
@@ -205,7 +210,7 @@ impl Engine for Reference {
     fn interval(&self, window: u32, precision: u32, drift: u32) -> Spacing {
         match reference::interval(window, precision, drift) {
             Ok(given) => Spacing::granted(given.least, given.greatest),
-            Err(refusal) => Spacing { answer: packed(refusal), least: 0, greatest: 0 },
+            Err(refusal) => Spacing::refused(packed(refusal)),
         }
     }
 
@@ -262,8 +267,10 @@ impl<S: Steps> Engine for Own<S> {
     }
 
     fn interval(&self, window: u32, precision: u32, drift: u32) -> Spacing {
-        let (answer, least, greatest) = plain::interval(window, precision, drift);
-        Spacing { answer, least, greatest }
+        match plain::interval(window, precision, drift) {
+            Ok((least, greatest)) => Spacing::granted(least, greatest),
+            Err(answer) => Spacing::refused(answer),
+        }
     }
 
     fn replay(&self, trace: &[u8], values: &mut [u8]) -> u64 {

@@ -84,15 +84,15 @@ impl Engine for Linked {
         packed(settings_to(settings).rounds_for(accuracy, target), |rounds| rounds as u64)
     }
 
-    /// What stands beside a refusal the wrapper does not hand on.
     fn interval(&self, window: u32, precision: u32, drift: u32) -> Spacing {
         match tohiranga::interval(window, precision, drift) {
             Ok(given) => Spacing::granted(given.least, given.greatest),
-            Err(refusal) => Spacing {
-                answer: packed(Err(refusal), |()| 0),
-                ..whole::interval(window, precision, drift)
-            },
+            Err(refusal) => Spacing::refused(packed(Err(refusal), |()| 0)),
         }
+    }
+
+    fn interval_in_c(&self, window: u32, precision: u32, drift: u32) -> Option<Spacing> {
+        Some(whole::interval(window, precision, drift))
     }
 
     fn replay(&self, trace: &[u8], values: &mut [u8]) -> u64 {

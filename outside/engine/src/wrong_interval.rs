@@ -6,6 +6,10 @@ const MOST: u32 = 1_000_000;
 const MOST_DRIFT: u32 = 1000;
 const MILLION: i128 = 1_000_000;
 
+fn refused(number: u8) -> Spacing {
+    Spacing::refused(packed(Refusal::new(number)))
+}
+
 /// The answer that is wrong in that way; None where it is the engine's own.
 pub fn wrong_interval(
     engine: &dyn Engine,
@@ -36,7 +40,7 @@ impl Call<'_> {
     fn wrong_17(&self, engine: &dyn Engine) -> Option<Spacing> {
         let Call { window, precision, drift, .. } = *self;
         match self.how {
-            "late" if self.is_empty() => Some(Spacing::refused(18)),
+            "late" if self.is_empty() => Some(refused(18)),
             "drift-0" if drift == 0 => Some(engine.interval(window, precision, 1)),
             "drift-1001" if drift == 1001 && self.others_in_range() => Some(self.by_formula()),
             "drift-bits" => Some(engine.interval(window, precision, drift as u16 as u32)),
@@ -52,9 +56,9 @@ impl Call<'_> {
                 let first = [window > MOST, precision > MOST].into_iter().position(|fault| fault);
                 let place = first.unwrap_or(2) as u32;
                 let answer = packed(Refusal { number: 17, place });
-                Some(Spacing { answer, ..Spacing::refused(17) })
+                Some(Spacing { answer, ..refused(17) })
             }
-            "shown-17" => Some(Spacing { least: 1, greatest: 1, ..Spacing::refused(17) }),
+            "shown-17" => Some(Spacing { least: 1, greatest: 1, ..refused(17) }),
             _ => None,
         }
     }
@@ -71,7 +75,7 @@ impl Call<'_> {
 
     /// Inputs at an end of their range that are refused.
     fn too_strict(&self) -> Option<Spacing> {
-        let refused = match self.how {
+        let refuses = match self.how {
             "window-end" => self.window == MOST,
             "precision-end" => self.precision == MOST,
             "drift-1" => self.drift == 1,
@@ -79,7 +83,7 @@ impl Call<'_> {
             "below-17" => self.window < self.precision,
             _ => false,
         };
-        refused.then(|| Spacing::refused(17))
+        refuses.then(|| refused(17))
     }
 
     /// Of inputs that check 17 lets through, and the right answer to them.
@@ -90,7 +94,7 @@ impl Call<'_> {
             ("window-bits", _) => engine.interval(window as u16 as u32, precision, drift),
             ("precision-bits", _) => engine.interval(window, precision as u16 as u32, drift),
             ("low", 0) => Spacing { greatest: given.greatest as u32 as u64, ..given },
-            ("alone", 0) if given.least == given.greatest => Spacing::refused(18),
+            ("alone", 0) if given.least == given.greatest => refused(18),
             ("empty", 18) => self.shown(0),
             ("shown-18", 18) => self.shown(given.answer),
             ("place-18", 18) => Spacing { answer: given.answer + precision as u64, ..given },
@@ -107,7 +111,7 @@ impl Call<'_> {
     fn by_formula(&self) -> Spacing {
         let (least, greatest) = (self.least(), self.greatest());
         match greatest < least {
-            true => Spacing::refused(18),
+            true => refused(18),
             false => Spacing::granted(least as u64, greatest as u64),
         }
     }

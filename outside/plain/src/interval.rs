@@ -8,19 +8,34 @@ const MOST_DRIFT: u32 = 1000;
 /// Parts of a million.
 const MILLION: u64 = 1_000_000;
 
-/// The answer, and beside a 0 the least and the greatest interval. Beside number × 2^32 both are 0. It is called and not
-/// taken into its caller, as a library's function is.
+/// An answer of 0, and the least and the greatest interval; or number × 2^32, and two times 0.
+struct Answer {
+    answer: u64,
+    least: u64,
+    greatest: u64,
+}
+
+/// The least and the greatest interval, or number × 2^32. It hands on the answer of a function that is not compiled into
+/// it, as the wrapper of the proved library does.
+pub fn interval(window: u32, precision: u32, drift: u32) -> Result<(u64, u64), u64> {
+    let Answer { answer, least, greatest } = answer(window, precision, drift);
+    match answer {
+        0 => Ok((least, greatest)),
+        refusal => Err(refusal),
+    }
+}
+
 #[inline(never)]
-pub fn interval(window: u32, precision: u32, drift: u32) -> (u64, u64, u64) {
+fn answer(window: u32, precision: u32, drift: u32) -> Answer {
     if window > MOST_WINDOW || precision > MOST_PRECISION || drift == 0 || drift > MOST_DRIFT {
-        return (refusal(17, 0), 0, 0);
+        return Answer { answer: refusal(17, 0), least: 0, greatest: 0 };
     }
     let least = least(precision as u64, drift as u64);
     let greatest = greatest(window as u64, precision as u64, drift as u64);
     if greatest < least {
-        return (refusal(18, 0), 0, 0);
+        return Answer { answer: refusal(18, 0), least: 0, greatest: 0 };
     }
-    (0, least, greatest)
+    Answer { answer: 0, least, greatest }
 }
 
 /// R(4·10^12 - 4·10^6·r - r²) ≥ 2c(2·10^6 + r)·10^6.

@@ -49,6 +49,9 @@ impl Add for Fraction {
     type Output = Fraction;
 
     fn add(self, other: Fraction) -> Fraction {
+        if self.bottom == other.bottom {
+            return Fraction { top: plus(self.top, other.top), ..self };
+        }
         let top = plus(times(self.top, other.bottom), times(other.top, self.bottom));
         Fraction { top, bottom: times(self.bottom, other.bottom) }
     }

@@ -179,6 +179,7 @@ fn fractions() {
     let half = Fraction::new(1, 2);
     assert_eq!(half, Fraction::new(-3, -6));
     assert_eq!(half + Fraction::new(1, 3), Fraction::new(5, 6));
+    assert_eq!(half + half, Fraction::whole(1));
     assert_eq!(half - Fraction::new(1, 3), Fraction::new(1, 6));
     assert_eq!(half * Fraction::new(-2, 3), Fraction::new(-1, 3));
     assert_eq!(half / Fraction::new(-2, 3), Fraction::new(3, -4));

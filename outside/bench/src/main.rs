@@ -1,7 +1,8 @@
-//! The time that engines take to settle and to read the same sheets, and to replay the same traces, side
-//! by side: the first beside each of the others.
+//! The time that engines take to settle and to read the same sheets, to replay the same traces, and to give the same
+//! intervals between rounds, side by side: the first beside each of the others.
 #![forbid(unsafe_code)]
 
+mod intervals;
 mod picture;
 mod replays;
 mod sheets;
@@ -43,11 +44,16 @@ impl Cell {
     fn start_of_line(&self, what: &str) -> String {
         let mut rules = RULES.iter().chain(&TRIMMING);
         let (_, rule) = rules.find(|(rule, _)| *rule == self.rule).expect("a rule");
-        let mut line = format!("{rule:4} {what:14} {:>3}", self.n);
-        self.ns.iter().for_each(|ns| line += &format!(" {ns:>11.1}"));
-        self.ratios().for_each(|ratio| line += &format!(" {ratio:>7.2}"));
-        line
+        of_engines(&self.ns, &format!("{rule:4} {what:14} {:>3}", self.n))
     }
+}
+
+/// A line with the time of each engine, and how many times as long as each other the first takes.
+fn of_engines(ns: &[f64], start: &str) -> String {
+    let mut line = start.to_string();
+    ns.iter().for_each(|ns| line += &format!(" {ns:>11.1}"));
+    ns[1..].iter().for_each(|other| line += &format!(" {:>7.2}", ns[0] / other));
+    line
 }
 
 type Engines = [Box<dyn Engine>];
@@ -126,10 +132,10 @@ fn time(engine: &dyn Engine, call: Call, sheets: &[Vec<u8>], times: u32) -> Dura
     start.elapsed()
 }
 
-/// How often the sheets are settled in one slice.
-fn times_in_a_slice(engine: &dyn Engine, call: Call, sheets: &[Vec<u8>]) -> u32 {
+/// How often all inputs are gone through in one slice.
+fn times_in_a_slice(engine: &dyn Engine, time: impl Fn(&dyn Engine, u32) -> Duration) -> u32 {
     let mut times = 1;
-    while time(engine, call, sheets, times) < SLICE {
+    while time(engine, times) < SLICE {
         times *= 2;
     }
     times
@@ -137,12 +143,22 @@ fn times_in_a_slice(engine: &dyn Engine, call: Call, sheets: &[Vec<u8>]) -> u32 
 
 /// In ns per sheet, over slices that alternate between the engines: a quarter of them were faster.
 fn side_by_side(engines: &Engines, call: Call, sheets: &[Vec<u8>], slices: usize) -> Vec<f64> {
-    let times: Vec<u32> = engines.iter().map(|e| times_in_a_slice(&**e, call, sheets)).collect();
+    in_turn(engines, sheets.len(), slices, |engine, times| time(engine, call, sheets, times))
+}
+
+/// The same of anything that an engine does with so many inputs, so many times over.
+fn in_turn(
+    engines: &Engines,
+    inputs: usize,
+    slices: usize,
+    time: impl Fn(&dyn Engine, u32) -> Duration,
+) -> Vec<f64> {
+    let times: Vec<u32> = engines.iter().map(|e| times_in_a_slice(&**e, &time)).collect();
     let mut ns = vec![Vec::new(); engines.len()];
     for _ in 0..slices {
         for (i, engine) in engines.iter().enumerate() {
-            let settled = times[i] as f64 * sheets.len() as f64;
-            ns[i].push(time(&**engine, call, sheets, times[i]).as_nanos() as f64 / settled);
+            let settled = times[i] as f64 * inputs as f64;
+            ns[i].push(time(&**engine, times[i]).as_nanos() as f64 / settled);
         }
     }
     let quarter = |mut slices: Vec<f64>| {
@@ -372,6 +388,24 @@ fn replays_agree(engines: &Engines, traces: &[Vec<u8>]) -> bool {
     })
 }
 
+/// Intervals between rounds; false where the engines do not agree.
+fn show_intervals(engines: &Engines, slices: usize) -> bool {
+    println!();
+    println!("The least and the greatest interval between rounds, in ns per call:");
+    for (granted, name) in [(true, "granted"), (false, "none is left")] {
+        let inputs = intervals::inputs(granted);
+        if !intervals::agree(engines, &inputs, granted) {
+            println!("FAILED: intervals, {name}: the answers are not as they should be");
+            return false;
+        }
+        let ns = in_turn(engines, inputs.len(), slices, |engine, times| {
+            intervals::time(engine, &inputs, times)
+        });
+        println!("{}", of_engines(&ns, &format!("{:23}", format!("interval, {name}"))));
+    }
+    true
+}
+
 fn main() -> ExitCode {
     let Some(options) = options() else {
         eprintln!("{USAGE}");
@@ -398,7 +432,7 @@ fn main() -> ExitCode {
     if options.sheets {
         return ExitCode::SUCCESS;
     }
-    if !show_replays(&engines, options.slices) {
+    if !show_replays(&engines, options.slices) || !show_intervals(&engines, options.slices) {
         return ExitCode::FAILURE;
     }
     let names: Vec<String> = engines.iter().map(|engine| engine.name()).collect();

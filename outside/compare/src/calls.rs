@@ -1,6 +1,7 @@
 //! Each call to both engines: answers and every lent byte are compared with each other, and
 //! each with what the documents say of bytes that must survive.
 
+use crate::intervals::{Asked, Intervals};
 use crate::trims::Trims;
 use crate::{draw, traces};
 use engine::traces::redraw_for_faulty;
@@ -8,8 +9,11 @@ use engine::{number, replay_by_hand, words, Engine, Plan, Settings};
 use random::Random;
 use reference::{next_window, sums_apart, Distances, Trace, CCA, FCA, MEDIAN};
 
-pub const CALLS: [&str; 9] =
-    ["settle", "read", "write", "row", "plan", "step", "target", "replay", "spread"];
+pub const CALLS: [&str; 10] =
+    ["settle", "read", "write", "row", "plan", "step", "target", "replay", "spread", "interval"];
+
+/// The highest number of a refusal.
+pub const LAST: usize = 18;
 
 /// A trace is replayed for every so many sheets. For the others a sheet is settled with a spread.
 pub const SHEETS_FOR_A_TRACE: u64 = 2;
@@ -76,7 +80,7 @@ pub struct Comparison<'a> {
     pub a: &'a dyn Engine,
     pub b: &'a dyn Engine,
     /// How often each call was granted, or refused under each number.
-    pub outcomes: [[u64; 17]; 9],
+    pub outcomes: [[u64; LAST + 1]; CALLS.len()],
     /// How often a sheet settled by FCA or CCA, for each rule, estimator and N.
     pub settled: [[[u64; 65]; 3]; 2],
     pub all_accepted: u64,
@@ -86,6 +90,7 @@ pub struct Comparison<'a> {
     pub replays: Replays,
     pub spreads: Spreads,
     pub trims: Trims,
+    pub intervals: Intervals,
     /// How often each of `SUMS` was met.
     pub sums: [u64; SUMS.len()],
     /// How often each of `NEXT` was met, at each of `PLANNING`.
@@ -100,7 +105,7 @@ impl<'a> Comparison<'a> {
         Comparison {
             a,
             b,
-            outcomes: [[0; 17]; 9],
+            outcomes: [[0; LAST + 1]; CALLS.len()],
             settled: [[[0; 65]; 3]; 2],
             all_accepted: 0,
             several_faults: 0,
@@ -122,6 +127,7 @@ impl<'a> Comparison<'a> {
                 tick_more: 0,
             },
             trims: Trims::new(),
+            intervals: Intervals::new(),
             sums: [0; SUMS.len()],
             next: [[0; NEXT.len()]; PLANNING.len()],
             differences: 0,
@@ -149,6 +155,7 @@ impl<'a> Comparison<'a> {
         } else {
             self.settle_spread(random);
         }
+        self.interval(random);
     }
 
     /// Counts and shows a difference when something demanded does not hold.
@@ -160,7 +167,7 @@ impl<'a> Comparison<'a> {
     }
 
     fn answers(&mut self, call: usize, a: u64, b: u64, input: impl FnOnce() -> String) {
-        self.outcomes[call][number(a).min(16)] += 1;
+        self.outcomes[call][number(a).min(LAST)] += 1;
         self.demand(a == b, CALLS[call], || format!("{} / {}; {}", words(a), words(b), input()));
     }
 
@@ -501,6 +508,29 @@ impl<'a> Comparison<'a> {
             }
         }
         self.demand(a.1 == b.1, call, || format!("{:?} / {:?}; {}", a.1, b.1, input()));
+    }
+
+    /// Where an interval is granted, the inequalities hold at both ends and not a tick outside.
+    fn interval(&mut self, random: &Random) {
+        let (asked, faults) = Asked::draw(random);
+        let Asked { window, precision, drift } = asked;
+        let ask = |who: &dyn Engine| who.interval(window, precision, drift);
+        let (a, b) = (ask(self.a), ask(self.b));
+        self.answers(9, a.answer, b.answer, || format!("{asked:?}"));
+        let same = a == b || a.answer != b.answer;
+        self.demand(same, "interval", || format!("{a:?} / {b:?}; {asked:?}"));
+        for (who, given) in [(self.a, a), (self.b, b)] {
+            let right = match number(given.answer) {
+                0 => asked.holds(&given),
+                _ => (given.least, given.greatest) == (0, 0),
+            };
+            self.demand(right, "interval", || format!("{}: {given:?}; {asked:?}", who.name()));
+            let in_c = who.interval_in_c(window, precision, drift).unwrap_or(given);
+            self.demand(in_c == given, "interval", || {
+                format!("{}: {given:?}, and in C {in_c:?}; {asked:?}", who.name())
+            });
+        }
+        self.intervals.count(&asked, faults, &b);
     }
 
     /// The counts need not be equal; each must be one that fits.

@@ -3,11 +3,12 @@
 
 mod calls;
 mod draw;
+mod intervals;
 mod program;
 mod traces;
 mod trims;
 
-use calls::{Comparison, CALLS, ENDS, NEXT, PLANNING, SHEETS_FOR_A_TRACE, SUMS};
+use calls::{Comparison, CALLS, ENDS, LAST, NEXT, PLANNING, SHEETS_FOR_A_TRACE, SUMS};
 use engine::sabotage::{Sabotaged, SABOTAGES};
 use engine::Engine;
 use random::Random;
@@ -27,7 +28,7 @@ compare --sabotages
   --replay       the same for a program `replay`, on so many traces";
 
 /// The numbers under which each call can refuse. Rows refuse nothing.
-const REFUSALS: [&[usize]; 9] = [
+const REFUSALS: [&[usize]; CALLS.len()] = [
     &[1, 2, 3, 4, 5, 6, 7, 8, 9, 10],
     &[1, 2, 3, 4, 5, 6, 7, 8, 9],
     &[2, 3, 4, 5, 6, 7, 8, 9],
@@ -37,6 +38,7 @@ const REFUSALS: [&[usize]; 9] = [
     &[2, 3, 4, 5, 11, 12],
     &[1, 2, 3, 4, 5, 7, 8, 9, 13, 14, 15],
     &[1, 2, 3, 4, 5, 6, 7, 8, 9, 10, 16],
+    &[17, 18],
 ];
 
 struct Options {
@@ -113,7 +115,7 @@ fn main() -> ExitCode {
     let sheets = options.sheets.unwrap_or(200_000);
     println!("{} / {}: {sheets} sheets, seed {}", a.name(), b.name(), options.seed);
     if options.engines.contains("plain") || options.engines.contains("tuned") {
-        println!("plain and tuned settle, read and replay; their other calls are the reference's.");
+        println!("plain and tuned settle, read, replay and have the interval; their other calls are the reference's.");
     }
     let start = Instant::now();
     let mut comparison = Comparison::new(&*a, &*b);
@@ -146,7 +148,7 @@ fn main() -> ExitCode {
 fn report(comparison: &Comparison, sheets: u64) -> usize {
     let mut unmet = 0;
     print!("call     granted");
-    for number in 1..=16 {
+    for number in 1..=LAST {
         print!("{:>8}", format!("no. {number}"));
     }
     println!();
@@ -187,11 +189,12 @@ fn report(comparison: &Comparison, sheets: u64) -> usize {
     }
     let next = report_next(comparison);
     let trims = report_trims(comparison);
+    let intervals = report_intervals(comparison, sheets);
     if sheets < 100_000 {
         println!("Each of these is asked of 100,000 sheets and more.");
     } else {
         let demanded = by_kind.chain(replayed).chain(spreads).chain(&comparison.sums).chain(next);
-        unmet += demanded.chain(trims).filter(|&&count| count == 0).count();
+        unmet += demanded.chain(trims).chain(intervals).filter(|&&count| count == 0).count();
     }
     unmet
 }
@@ -215,8 +218,7 @@ fn report_trims<'a>(comparison: &'a Comparison) -> impl Iterator<Item = &'a u64>
         trims.sheets, trims.several_faults
     );
     let mut demanded = Vec::new();
-    for (call, name) in CALLS.iter().enumerate() {
-        let (granted, refused) = trims::REFUSALS[call];
+    for (call, (name, (granted, refused))) in CALLS.iter().zip(trims::REFUSALS).enumerate() {
         let numbers = granted.then_some(0).into_iter().chain(refused.iter().copied());
         let times = |number: usize| &trims.outcomes[call][number];
         let listed = numbers.clone().map(|number| match number {
@@ -232,6 +234,19 @@ fn report_trims<'a>(comparison: &'a Comparison) -> impl Iterator<Item = &'a u64>
         println!("{times:>8} times {what}");
     }
     demanded.into_iter().chain(settled).chain(&trims.rounds)
+}
+
+/// Prints what was met of the interval between rounds; answers the counts that must not be 0.
+fn report_intervals<'a>(
+    comparison: &'a Comparison,
+    sheets: u64,
+) -> impl Iterator<Item = &'a u64> + 'a {
+    let intervals = &comparison.intervals;
+    println!("{sheets} intervals, {} with several faults at once:", intervals.several_faults);
+    for (what, times) in intervals::MET.iter().zip(&intervals.met) {
+        println!("{times:>8} times {what}");
+    }
+    intervals.met.iter()
 }
 
 /// Prints what was replayed; answers the counts that must not be 0.

@@ -32,11 +32,24 @@ fn sums_are_met() {
 fn trims_are_met() {
     let (_, text) = compare(&["--engines", "reference,reference", "--sheets", "20000"]);
     let listed = text.split_once(" sheets by a trimming rule").expect("they are listed").1;
+    let listed = listed.split_once(" intervals, ").expect("the intervals are listed below").0;
     let times: Vec<u64> = listed
         .lines()
         .filter_map(|line| line.split_once(" times ")?.0.trim().parse().ok())
         .collect();
     assert!(times.len() == 22 && times.iter().all(|&times| times > 5), "{text}");
+}
+
+/// The same of the interval between rounds.
+#[test]
+fn intervals_are_met() {
+    let (_, text) = compare(&["--engines", "reference,reference", "--sheets", "6000"]);
+    let listed = text.split_once(" intervals, ").expect("they are listed").1;
+    let times: Vec<u64> = listed
+        .lines()
+        .filter_map(|line| line.split_once(" times ")?.0.trim().parse().ok())
+        .collect();
+    assert!(times.len() == 32 && times.iter().all(|&times| times > 15), "{text}");
 }
 
 #[test]
@@ -57,8 +70,8 @@ fn call(line: &str) -> Option<&str> {
         .map(|(call, _)| call)
 }
 
-/// Those of replay or of a planner's call at that call, those of the spread at settling with one and nowhere else, the
-/// others at another call than a replay too.
+/// Those of replay or of a planner's call at that call, those of the spread at settling with one and those of the interval
+/// at it and nowhere else, the others at another call than a replay too.
 #[test]
 fn sabotages_are_found() {
     for (name, _) in SABOTAGES {
@@ -67,6 +80,7 @@ fn sabotages_are_found() {
         let calls: Vec<&str> = text.lines().filter_map(call).collect();
         let found = match name.split('-').next() {
             Some(call @ ("replay" | "plan" | "step" | "target")) => calls.contains(&call),
+            Some("interval") => !calls.is_empty() && calls.iter().all(|call| *call == "interval"),
             Some("spread") => !calls.is_empty() && calls.iter().all(|call| *call == "spread"),
             _ => calls.iter().any(|call| *call != "replay"),
         };
@@ -88,6 +102,19 @@ fn replays_are_compared_with_a_loop_over_the_other_calls() {
 fn a_spread_of_0_is_compared_with_settling() {
     let (_, text) = compare(&["--sheets", "3000", "--sabotage", "spread-one"]);
     assert!(text.contains("a spread of 0 is not none"), "{text}");
+}
+
+/// An answer is held to the inequalities, and what stands beside a refusal to 0, apart from the other engine's.
+#[test]
+fn intervals_are_held_to_the_inequalities() {
+    for name in
+        ["low", "greatest-up", "least-down", "zero", "square", "empty", "shown-17", "shown-18"]
+    {
+        let name = format!("interval-{name}");
+        let (_, text) = compare(&["--sheets", "3000", "--sabotage", &name]);
+        let held = format!("with sabotage {name}: Spacing {{");
+        assert!(text.contains(&held), "{name}\n{text}");
+    }
 }
 
 #[test]

@@ -4,7 +4,7 @@
 //! `tohiranga`, and exports no other; tests/bench_before builds both.
 
 use crate::whole::{tohiranga_read, Opening};
-use crate::{Engine, Plan, Settings};
+use crate::{Engine, Plan, Settings, Spacing};
 
 type Settle = unsafe extern "C" fn(*const u8, usize, *mut u8, usize) -> u64;
 type SettleSpread = unsafe extern "C" fn(*const u8, usize, u32, *mut u8, usize) -> u64;
@@ -90,6 +90,10 @@ impl Engine for Direct {
             unsafe { (self.read)(sheet.as_ptr(), len, marks, marks_len, readings, readings_len) };
         *settings = crate::linked::settings_from(given.settings);
         given.answer
+    }
+
+    fn interval(&self, window: u32, precision: u32, drift: u32) -> Spacing {
+        crate::Reference.interval(window, precision, drift)
     }
 
     fn replay(&self, trace: &[u8], values: &mut [u8]) -> u64 {

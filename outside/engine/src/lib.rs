@@ -46,6 +46,7 @@ pub mod traces;
 #[cfg(feature = "linked")]
 #[allow(unsafe_code)]
 mod whole;
+mod wrong_interval;
 mod wrong_plan;
 mod wrong_replay;
 mod wrong_spread;
@@ -89,6 +90,14 @@ pub trait Engine {
     /// A count of rounds that fits.
     fn target(&self, settings: &Settings, accuracy: u32, target: u32) -> u64;
 
+    /// The least and the greatest interval between rounds.
+    fn interval(&self, window: u32, precision: u32, drift: u32) -> Spacing;
+
+    /// The same as C hands it back, where the engine goes through a wrapper, which hands on nothing beside a refusal.
+    fn interval_in_c(&self, _window: u32, _precision: u32, _drift: u32) -> Option<Spacing> {
+        None
+    }
+
     /// The length of the final values of a recorded run, 4N.
     fn replay(&self, trace: &[u8], values: &mut [u8]) -> u64;
 
@@ -107,6 +116,24 @@ pub trait Engine {
     /// A digest of all answers so far, where the engine keeps one.
     fn digest(&self) -> Option<u64> {
         None
+    }
+}
+
+/// An answer of 0, and the least and the greatest interval; or a refusal, and beside it two times 0.
+#[derive(Clone, Copy, Debug, PartialEq, Eq)]
+pub struct Spacing {
+    pub answer: u64,
+    pub least: u64,
+    pub greatest: u64,
+}
+
+impl Spacing {
+    pub fn granted(least: u64, greatest: u64) -> Spacing {
+        Spacing { answer: 0, least, greatest }
+    }
+
+    pub fn refused(answer: u64) -> Spacing {
+        Spacing { answer, least: 0, greatest: 0 }
     }
 }
 
@@ -180,6 +207,13 @@ impl Engine for Reference {
         reference::target(settings, accuracy, target).map_or_else(packed, |fit| fit[0] as u64)
     }
 
+    fn interval(&self, window: u32, precision: u32, drift: u32) -> Spacing {
+        match reference::interval(window, precision, drift) {
+            Ok(given) => Spacing::granted(given.least, given.greatest),
+            Err(refusal) => Spacing::refused(packed(refusal)),
+        }
+    }
+
     fn replay(&self, trace: &[u8], values: &mut [u8]) -> u64 {
         reference::replay(trace, values).map_or_else(packed, |length| length as u64)
     }
@@ -195,7 +229,8 @@ fn hand_back(given: Result<Plan, Refusal>, plan: &mut Plan) -> u64 {
     }
 }
 
-/// Settles, reads and replays by the steps of outside/plain; its other calls are the reference's.
+/// Settles, reads and replays by the steps of outside/plain, which has the interval too; its other calls are the
+/// reference's.
 pub struct Own<S>(pub S);
 
 impl<S: Steps> Engine for Own<S> {
@@ -229,6 +264,13 @@ impl<S: Steps> Engine for Own<S> {
             };
         }
         answer
+    }
+
+    fn interval(&self, window: u32, precision: u32, drift: u32) -> Spacing {
+        match plain::interval(window, precision, drift) {
+            Ok((least, greatest)) => Spacing::granted(least, greatest),
+            Err(answer) => Spacing::refused(answer),
+        }
     }
 
     fn replay(&self, trace: &[u8], values: &mut [u8]) -> u64 {

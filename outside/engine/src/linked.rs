@@ -1,7 +1,7 @@
 //! The proved library behind its C interface, through the wrapper of bindings/rust, compiled with
 //! the feature `linked`. So the checks hold the wrapper to the documents too.
 
-use crate::{Engine, Plan, Settings};
+use crate::{whole, Engine, Plan, Settings, Spacing};
 
 fn packed<A>(given: Result<A, tohiranga::Refusal>, granted: impl FnOnce(A) -> u64) -> u64 {
     given.map_or_else(|refusal| ((refusal.number as u64) << 32) + refusal.place as u64, granted)
@@ -82,6 +82,17 @@ impl Engine for Linked {
 
     fn target(&self, settings: &Settings, accuracy: u32, target: u32) -> u64 {
         packed(settings_to(settings).rounds_for(accuracy, target), |rounds| rounds as u64)
+    }
+
+    fn interval(&self, window: u32, precision: u32, drift: u32) -> Spacing {
+        match tohiranga::interval(window, precision, drift) {
+            Ok(given) => Spacing::granted(given.least, given.greatest),
+            Err(refusal) => Spacing::refused(packed(Err(refusal), |()| 0)),
+        }
+    }
+
+    fn interval_in_c(&self, window: u32, precision: u32, drift: u32) -> Option<Spacing> {
+        Some(whole::interval(window, precision, drift))
     }
 
     fn replay(&self, trace: &[u8], values: &mut [u8]) -> u64 {

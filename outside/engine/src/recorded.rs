@@ -2,7 +2,7 @@
 //! that two archives can be compared.
 
 use crate::linked::{plan_from, plan_to, settings_from, settings_to, Linked};
-use crate::{number, whole, Engine, Plan, Settings};
+use crate::{number, whole, Engine, Plan, Settings, Spacing};
 use std::cell::Cell;
 
 /// FNV-1a, of 64 bits.
@@ -119,6 +119,12 @@ impl Engine for Recorded {
     fn target(&self, settings: &Settings, accuracy: u32, target: u32) -> u64 {
         let given = Linked.target(settings, accuracy, target);
         self.number(given);
+        given
+    }
+
+    fn interval(&self, window: u32, precision: u32, drift: u32) -> Spacing {
+        let given = whole::interval(window, precision, drift);
+        [given.answer, given.least, given.greatest].into_iter().for_each(|part| self.number(part));
         given
     }
 

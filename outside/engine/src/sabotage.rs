@@ -1,11 +1,12 @@
 //! Engines that are wrong in a named way, to show that the checks can fail.
 
+use crate::wrong_interval::wrong_interval;
 use crate::wrong_plan::{wrong_part, wrong_plan, wrong_step, wrong_target};
 use crate::wrong_replay::wrong_replay;
 use crate::wrong_spread::wrong_spread;
 use crate::wrong_sum::wrong_mean;
 use crate::wrong_trim::{taken_for, wrong_trim};
-use crate::{number, packed, Engine, Plan, Refusal, Settings};
+use crate::{number, packed, Engine, Plan, Refusal, Settings, Spacing};
 use reference::{Round, AVERAGE, FCA, MEDIAN, MIDPOINT};
 use std::hash::{DefaultHasher, Hasher};
 
@@ -155,6 +156,44 @@ pub const SABOTAGES: &[(&str, &str)] = &[
     ("spread-trimmed", "a spread is let through with a trimming rule, and plays no part"),
     ("replay-trimmed", "a replay takes a trimming rule for FCA"),
     ("replay-13", "a replay refuses a trimming rule under 13 whatever its estimator byte"),
+    ("interval-low", "the greatest interval is cut to 32 bits"),
+    ("interval-greatest-up", "the greatest interval is rounded up"),
+    ("interval-strict", "the greatest interval must leave room in the window"),
+    ("interval-twice", "the greatest interval is for half the drift"),
+    ("interval-least-down", "the least interval is rounded down"),
+    ("interval-zero", "the least interval is 0 where the precision is"),
+    ("interval-precision", "the least interval is the precision"),
+    ("interval-square", "ρ² is left out"),
+    ("interval-square-ten", "ρ² counts ten times"),
+    ("interval-square-million", "ρ² counts a million times, r² as ρr"),
+    ("interval-square-added", "ρ² is added, not taken off"),
+    ("interval-rates", "2-ρ and 2+ρ are swapped"),
+    ("interval-rate", "2-ρ is taken for 2 in the greatest interval"),
+    ("interval-swapped", "window and precision are swapped"),
+    ("interval-wraps", "the window less the precision wraps at 32 bits"),
+    ("interval-distance", "a window below the precision counts as one above it"),
+    ("interval-equal", "an interval is granted where the window is the precision"),
+    ("interval-alone", "18 is said where a single interval meets both"),
+    ("interval-empty", "least and greatest are granted where none meets both"),
+    ("interval-late", "18 is asked before 17"),
+    ("interval-below-17", "a window below the precision is refused under 17"),
+    ("interval-drift-0", "a drift of 0 is taken for 1"),
+    ("interval-drift-1001", "a drift of 1001 is let through"),
+    ("interval-window-over", "a window of 1,000,001 is taken for 1,000,000"),
+    ("interval-precision-over", "a precision of 1,000,001 is taken for 1,000,000"),
+    ("interval-window-unasked", "the window's range is not asked"),
+    ("interval-precision-unasked", "the precision's range is not asked"),
+    ("interval-drift-bits", "the lower 16 bits of a drift are taken for it"),
+    ("interval-window-bits", "the lower 16 bits of a window are taken for it"),
+    ("interval-precision-bits", "the lower 16 bits of a precision are taken for it"),
+    ("interval-window-end", "a window of 1,000,000 is refused"),
+    ("interval-precision-end", "a precision of 1,000,000 is refused under 17"),
+    ("interval-drift-1", "a drift of 1 is refused"),
+    ("interval-drift-1000", "a drift of 1000 is refused"),
+    ("interval-place-17", "the place of 17 is which input is at fault"),
+    ("interval-place-18", "the precision is the place of 18"),
+    ("interval-shown-17", "least and greatest beside 17 are 1"),
+    ("interval-shown-18", "least and greatest beside 18 are what the formulas give"),
 ];
 
 const OF_THE_ROUND: usize = 40;
@@ -327,6 +366,11 @@ impl Engine for Sabotaged {
             (Some(part), 0 | 12) => wrong_target(part, settings, target),
             _ => given,
         }
+    }
+
+    fn interval(&self, window: u32, precision: u32, drift: u32) -> Spacing {
+        wrong_interval(&*self.engine, self.how, window, precision, drift)
+            .unwrap_or_else(|| self.engine.interval(window, precision, drift))
     }
 
     fn replay(&self, trace: &[u8], values: &mut [u8]) -> u64 {

@@ -1,6 +1,7 @@
 //! Calls of the C interface of which the Rust wrapper hands on a part only: what stands in the
 //! structures that a refused call gives back, and the fields of bytes that are no answer sheet.
 
+use crate::Spacing;
 use tohiranga::{Plan, Settings};
 
 #[repr(C)]
@@ -15,6 +16,13 @@ pub struct Planning {
     pub plan: Plan,
 }
 
+#[repr(C)]
+struct Interval {
+    answer: u64,
+    least: u64,
+    greatest: u64,
+}
+
 extern "C" {
     pub fn tohiranga_read(
         sheet: *const u8,
@@ -26,6 +34,7 @@ extern "C" {
     ) -> Opening;
     fn tohiranga_plan(settings: Settings, accuracy: u32, rounds: u32) -> Planning;
     fn tohiranga_step(plan: Plan) -> Planning;
+    fn tohiranga_interval(window: u32, precision: u32, drift: u32) -> Interval;
     fn tohiranga_answer_cabinets(answer: *const u8, answer_len: usize) -> u64;
     fn tohiranga_answer_count(answer: *const u8, answer_len: usize) -> u64;
     fn tohiranga_answer_estimate(answer: *const u8, answer_len: usize) -> u64;
@@ -49,6 +58,13 @@ pub fn plan(settings: Settings, accuracy: u32, rounds: u32) -> Planning {
 pub fn step(plan: Plan) -> Planning {
     // SAFETY: no pointer is handed over.
     unsafe { tohiranga_step(plan) }
+}
+
+pub fn interval(window: u32, precision: u32, drift: u32) -> Spacing {
+    // SAFETY: no pointer is handed over.
+    let Interval { answer, least, greatest } =
+        unsafe { tohiranga_interval(window, precision, drift) };
+    Spacing { answer, least, greatest }
 }
 
 /// N, the number accepted, the estimate and the new value.

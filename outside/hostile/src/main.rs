@@ -1,10 +1,12 @@
 //! A hostile station: runs of up to 32 rounds with lying and two-faced cabinets, against the
 //! limits for sound cabinets of document 01, as paper 4 of document 02 rewrites them. Its FCA runs are replayed too,
-//! as paper 1 says, and after each run come a round with cables that differ, as paper 2 says, and one by the trimming
-//! rules of paper 5. Each sheet that FCA or CCA settles is held to the limits of paper 3's sum.
+//! as paper 1 says, and after each run come a round with cables that differ, as paper 2 says, one by the trimming
+//! rules of paper 5, and clocks that drift apart between rounds, as paper 6 says. Each sheet that FCA or CCA settles is
+//! held to the limits of paper 3's sum.
 #![forbid(unsafe_code)]
 
 mod cables;
+mod drift;
 #[cfg(test)]
 mod every_n;
 mod liars;
@@ -77,6 +79,7 @@ fn run(seed: u64, engine: &dyn Engine, tally: &mut Tally, show: bool) {
     Run::draw(&random).run(&random, engine, tally, show);
     Cables::draw(&random).round(&random, engine, Most::with_cables, tally, show);
     Trimming::draw(&random).round(&random, engine, Less::default(), tally, show);
+    drift::Asked::draw(&random).round(&random, engine, drift::Less::default(), tally, show);
 }
 
 fn main() -> ExitCode {
@@ -166,6 +169,10 @@ fn report(tally: &Tally) {
         "{} sheets settled by the trimming rules, {} refused",
         tally.settled_by_trimming, tally.refused_by_trimming
     );
+    println!(
+        "{} intervals between rounds granted, {} refused where none is left",
+        tally.drifted.granted, tally.drifted.refused
+    );
     limits(tally);
     for (question, answers) in QUESTIONS.iter().zip(&tally.answers) {
         answer(question, answers);
@@ -173,6 +180,7 @@ fn report(tally: &Tally) {
     with_cables(tally);
     with_distances(tally);
     by_trimming(tally);
+    by_drift(tally);
 }
 
 /// How close each limit was met.
@@ -200,6 +208,8 @@ fn limits(tally: &Tally) {
     println!("odd N    the ceiling of the quotient, where document 02 has its whole part plus one");
     println!("half     the exact limits where (m+t)δ/N is a half");
     println!("range    how far from the other end of the sound readings a new value is");
+    println!("window   how far apart clocks are between rounds; reached within a tick");
+    println!("order    how late the last starts a round; the limit is the interval, in true time");
 }
 
 /// The greatest gaps that were met by the trimming rules, beside the limits.
@@ -218,6 +228,44 @@ fn by_trimming(tally: &Tally) {
         }
         println!();
     }
+}
+
+/// How far apart clocks were met between rounds, and how late the last starts, beside the window and the interval.
+fn by_drift(tally: &Tally) {
+    println!("Clocks between rounds, each up to half the drift off, in ticks; late and early in true time");
+    println!(
+        "{:>9} {:>9} {:>5} {:>12} {:>15} {:>15} {:>8} {:>15} {:>15} {:>12}",
+        "window",
+        "precision",
+        "drift",
+        "greatest",
+        "gap met",
+        "one tick more",
+        "least",
+        "late met",
+        "one tick less",
+        "early"
+    );
+    for (asked, row) in drift::EXAMPLES.iter().zip(&tally.drifted.rows) {
+        let drift::Asked { window, precision, drift } = asked;
+        print!("{window:>9} {precision:>9} {drift:>5}");
+        let Some(row) = row else {
+            println!(" {:>12}", "-");
+            continue;
+        };
+        let in_ticks = drift::in_ticks;
+        let less = row.late_past.map_or("-".into(), in_ticks);
+        println!(
+            " {:>12} {:>15} {:>15} {:>8} {:>15} {less:>15} {:>12}",
+            row.greatest,
+            in_ticks(row.gap),
+            in_ticks(row.gap_past),
+            row.least,
+            in_ticks(row.late),
+            in_ticks(row.early)
+        );
+    }
+    println!("early    how long before the last starts a round a clock that stays fast starts the next one");
 }
 
 /// The greatest sums of distances that were met with cables, beside the limits.

@@ -1,6 +1,7 @@
 //! One run, as document 01 writes it out: a start, then rounds of sending, sheets and settling.
 
 use crate::cables::{exact_example, example, EXAMPLES};
+use crate::drift::{self, Drifted};
 use crate::liars::{clamp, outermost, Aim, Liars, Reading};
 use crate::limits::{gap, good_sets, is_half, Apart, GoodSets, Met, Most};
 use crate::sums;
@@ -11,7 +12,7 @@ use random::Random;
 use reference::{AVERAGE, CCA, FCA, MEDIAN};
 
 /// The limits, by name. Each is counted apart.
-pub const LIMITS: [&str; 42] = [
+pub const LIMITS: [&str; 44] = [
     "t ≤ m    gap   round 1  FCA",
     "t ≤ m    gap   round 1  CCA, median",
     "t ≤ m    gap   round 1  CCA, others",
@@ -54,6 +55,8 @@ pub const LIMITS: [&str; 42] = [
     "t ≤ m    range low end  rule 3",
     "t ≤ m    range high end rule 2",
     "t ≤ m    range high end rule 3",
+    "drift    gap   interval window",
+    "drift    late  interval order",
 ];
 
 /// Where the limits by the ceiling begin, which an odd N keeps: for t ≤ m one for each kind of run, for m < t
@@ -159,6 +162,8 @@ pub struct Tally {
     pub refused_by_trimming: u64,
     /// The greatest gap that was met for each of `trimming::EXAMPLES`, by either rule.
     pub trims: [[Option<i64>; 2]; trimming::EXAMPLES.len()],
+    /// What was met of clocks between rounds.
+    pub drifted: Drifted,
     /// What was broken first.
     pub first: Option<String>,
 }
@@ -220,6 +225,7 @@ impl Tally {
             ),
         ];
         counted.extend(PASSED.map(|(ceiling, name)| (self.past_ceiling[ceiling], 0, name)));
+        counted.extend(self.drifted.counted());
         counted
     }
 
@@ -246,6 +252,11 @@ impl Tally {
             let limits = trimming::RULES.map(|rule| Some(trimming::example_limit(row, rule)));
             if *met != limits {
                 faults.push(format!("trimming {row:?}: the limits not reached"));
+            }
+        }
+        for (asked, met) in drift::EXAMPLES.iter().zip(&self.drifted.rows) {
+            if *met != asked.exact_row() {
+                faults.push(format!("interval {asked:?}: the sides of the inequalities not met"));
             }
         }
     }

@@ -4,7 +4,7 @@
 use std::process::Command;
 
 /// All that the station holds, in the words of its report.
-const HELD: [&str; 60] = [
+const HELD: [&str; 66] = [
     "t ≤ m    gap   round 1  FCA",
     "t ≤ m    gap   round 1  CCA, median",
     "t ≤ m    gap   round 1  CCA, others",
@@ -65,6 +65,12 @@ const HELD: [&str; 60] = [
     "t ≤ m    range high end rule 2",
     "t ≤ m    range high end rule 3",
     "t ≤ m    no cabinet refuses, trimmed",
+    "drift    gap   interval window",
+    "drift    late  interval order",
+    "drift    an interval is granted",
+    "drift    none is left where none is granted",
+    "drift    the window is passed a tick above",
+    "drift    the order is broken a tick below",
 ];
 
 fn hostile(words: &[&str]) -> (Option<i32>, String) {
@@ -74,7 +80,11 @@ fn hostile(words: &[&str]) -> (Option<i32>, String) {
 
 /// What the report names as broken, where it fails.
 fn broken(sabotage: &str) -> Vec<String> {
-    let (status, text) = hostile(&["--runs", "3000", "--sabotage", sabotage]);
+    broken_in("3000", sabotage)
+}
+
+fn broken_in(runs: &str, sabotage: &str) -> Vec<String> {
+    let (status, text) = hostile(&["--runs", runs, "--sabotage", sabotage]);
     assert_eq!(status, Some(1), "{sabotage} was not found\n{text}");
     assert!(text.contains("BROKEN at run") && text.contains("FAILED"), "{sabotage}\n{text}");
     text.lines().filter_map(|line| line.strip_prefix("broken: ")).map(String::from).collect()
@@ -100,6 +110,7 @@ fn a_station_without_runs_fails() {
     assert_eq!(text.matches("): the limits not met").count(), 6, "{text}");
     assert_eq!(text.matches("): the greatest sum not met").count(), 6, "{text}");
     assert_eq!(text.matches("): the limits not reached").count(), 6, "{text}");
+    assert_eq!(text.matches("the sides of the inequalities not met").count(), 6, "{text}");
 }
 
 #[test]
@@ -129,7 +140,7 @@ fn each_limit_finds_a_tick() {
 /// ends; and an engine that says "too many faults" by a trimming rule is found.
 #[test]
 fn trimming_rules_are_held() {
-    let trimmed = &HELD[53..];
+    let trimmed = &HELD[53..60];
     for (sabotage, limits) in [
         ("trim-tick", [&trimmed[..2], &trimmed[4..6]].concat()),
         ("trim-fewer", trimmed[..6].to_vec()),
@@ -139,6 +150,63 @@ fn trimming_rules_are_held() {
         let found = broken(sabotage);
         for limit in limits {
             assert!(found.iter().any(|name| name == limit), "{sabotage}, {limit}: {found:?}");
+        }
+    }
+}
+
+/// Engines that grant too much or too little, each by the limit that it breaks.
+#[test]
+fn intervals_are_held() {
+    let [window, order, granted, refused, above, below] = HELD[60..] else { panic!() };
+    for (sabotage, limits) in [
+        ("greatest-up", vec![window]),
+        ("rate", vec![window]),
+        ("twice", vec![window]),
+        ("least-down", vec![order]),
+        ("precision", vec![order]),
+        ("square", vec![order]),
+        ("swapped", vec![refused]),
+        ("equal", vec![window]),
+        ("distance", vec![window]),
+        ("alone", vec![refused]),
+        ("empty", vec![granted]),
+        ("zero", vec![granted]),
+        ("below-17", vec![granted]),
+        ("low", vec![above]),
+        ("strict", vec![above]),
+        ("square-ten", vec![below]),
+        ("square-million", vec![below, refused]),
+    ] {
+        let found = broken_in("800", &format!("interval-{sabotage}"));
+        for limit in limits {
+            assert!(found.iter().any(|name| name == limit), "{sabotage}, {limit}: {found:?}");
+        }
+    }
+}
+
+/// In every row of the table the clocks are within the window and in order, and with a tick more or less they are not.
+#[test]
+fn clocks_come_near_both_limits() {
+    let (status, text) = hostile(&["--engine", "reference", "--runs", "3000"]);
+    assert_eq!(status, Some(0), "{text}");
+    let table = text.split_once("Clocks between rounds").expect("a table of clocks").1;
+    let number = |word: &str| word.replace('.', "").parse::<i128>().ok();
+    let rows: Vec<Vec<Option<i128>>> = table
+        .lines()
+        .map(|line| line.split_whitespace().map(number).collect())
+        .filter(|row: &Vec<_>| row.len() == 10 && row[0].is_some())
+        .collect();
+    assert_eq!(rows.len(), 6, "{table}");
+    for row in rows {
+        let parts = |ticks: Option<i128>| ticks.unwrap() * 10_000_000;
+        let (window, least) = (parts(row[0]), parts(row[6]));
+        let (gap, gap_past) = (row[4].unwrap(), row[5].unwrap());
+        assert!(gap <= window && window < gap_past && gap_past - gap < 11_000, "{table}");
+        let late = row[7].unwrap();
+        assert!(late <= least, "{table}");
+        match row[8] {
+            Some(past) => assert!(past > least - 10_000_000 && late - past < 11_000, "{table}"),
+            None => assert_eq!(least, 10_000_000, "{table}"),
         }
     }
 }

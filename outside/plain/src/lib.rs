@@ -1,19 +1,25 @@
 //! Settling and reading a round sheet, and replaying a trace, in plain safe Rust, in the form that the
-//! proved library has, twice: `Plain` without tuning, and `Tuned`. What is alike in the two is here.
+//! proved library has, twice: `Plain` without tuning, and `Tuned`. What is alike in the two is here, and the interval
+//! between rounds.
 #![forbid(unsafe_code)]
 
+mod interval;
 mod plain;
 mod replay;
 mod thresholds;
 mod trimming;
 mod tuned;
 
+pub use interval::interval;
 pub use plain::Plain;
 pub use replay::replay;
 pub use tuned::Tuned;
 
 /// N is at most this.
 const MOST: usize = 64;
+
+/// A window is at most this.
+const MOST_WINDOW: u32 = 1_000_000;
 
 /// A spread is at most this.
 const MOST_SPREAD: u32 = 100_000;
@@ -189,7 +195,7 @@ fn sizes(bytes: &[u8]) -> Result<Sizes, u64> {
         (3, 0) => Rule::TrimmedMean,
         _ => return Err(refusal(4, 0)),
     };
-    if window > 1_000_000 {
+    if window > MOST_WINDOW {
         return Err(refusal(5, 0));
     }
     Ok(Sizes { n, m, rule, estimator, span: window })

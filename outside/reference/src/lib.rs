@@ -1,9 +1,11 @@
-//! Document 01, and papers 1 to 5 of document 02, in plain safe Rust, as simply as it can be said. Nothing
+//! Document 01, and papers 1 to 6 of document 02, in plain safe Rust, as simply as it can be said. Nothing
 //! here is fast. It was written from the documents alone, without sight of the proved code.
 #![forbid(unsafe_code)]
 
 mod checks;
 mod distances;
+mod fraction;
+mod interval;
 mod planner;
 mod replay;
 mod round;
@@ -16,6 +18,8 @@ pub use checks::{
     Refusal, Settings, AVERAGE, CCA, FCA, MEDIAN, MIDPOINT, TRIMMED_MEAN, TRIMMED_MIDPOINT,
 };
 pub use distances::Distances;
+pub use fraction::Fraction;
+pub use interval::{interval, meets, stays_in_order, stays_within, Interval};
 pub use planner::{
     counts_that_fit, next_accuracy, next_window, plan, step, sums_apart, target, Plan,
 };

@@ -3,7 +3,9 @@
 
 use crate::sheet::numbers_in;
 use crate::text::refused;
-use crate::{plan, read, replay, row, settle_spread, step, target, write, Plan, Refusal, Settings};
+use crate::{
+    interval, plan, read, replay, row, settle_spread, step, target, write, Plan, Refusal, Settings,
+};
 
 /// The bytes of a vector without its call's name, or nothing for a heading.
 fn numbers(line: &str) -> Option<(&str, Vec<u8>)> {
@@ -52,7 +54,17 @@ fn planned(answer: Result<Plan, Refusal>) -> String {
     }
 }
 
+fn spaced(bytes: &[u8]) -> String {
+    match interval(word(bytes, 0), word(bytes, 4), word(bytes, 8)) {
+        Ok(given) => format!("granted {} {}", given.least, given.greatest),
+        Err(refusal) => refused(refusal),
+    }
+}
+
 fn of_planner(call: &str, bytes: &[u8]) -> String {
+    if call == "interval" {
+        return spaced(bytes);
+    }
     let settings = settings(bytes);
     let (accuracy, last) = (word(bytes, 8), word(bytes, 12));
     match call {

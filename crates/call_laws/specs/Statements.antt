@@ -1,6 +1,7 @@
 -- What include/tohiranga.h says of answers, of every call and everything that it is given. The theorems are
 -- `grants-below : GrantsBelow` and `spread-below : SpreadBelow` of proofs/Told.antt, `replay-below : ReplayBelow` of
--- proofs/Below.antt and `row-named : RowNamed` of proofs/Parts.antt.
+-- proofs/Below.antt, `interval-told : IntervalTold` of proofs/Intervals.antt and `row-named : RowNamed` of
+-- proofs/Parts.antt.
 --   Refuses        an answer is 2^32 or above, and gives back the number of a refusal, 1 to `most`, and its place
 --   Tells          an answer tells a verdict: below 2^32 where it grants, and else its refusal, 1 to `most`
 --   AnswerTells    it does, with refusals 1 to 12
@@ -10,6 +11,8 @@
 --   GrantsBelow    the answers of all calls do
 --   ReplayBelow    the answers of replays do
 --   SpreadBelow    the answers of settling with a spread do
+--   IntervalTold   the answer of the call for the interval does, with refusals 1 to 18: it is 0 beside an interval, which
+--                  is at least 1, and a refusal beside zeros
 --   RowNamed       the answer of the row call names the row's bytes, inside the sheet
 use mathlib.Core.List.{List}
 use mathlib.Core.Path.{_≡_}
@@ -23,10 +26,13 @@ use Rattle.model.specs.RoundSheet.{byte}
 use Rattle.model.specs.Planner.{Plan}
 use Rattle.model.specs.Calls.{Verdict, granted, refused, read, write, row, settleSpread, settle, plan, step}
 use Rattle.trace.specs.Replay.{replay}
+use Rattle.interval.specs.Interval.{Interval, interval}
 use Rattle.answer_reader.specs.Fields.{cabinetsIn, countIn, estimateIn, valueIn, markIn, usedIn}
 use Rattle.packed_refusals.specs.Answers.{upperHalf, lowerHalf, packed, TargetPacked}
 use Rattle.packed_records.specs.Answers.{openingOf, planningOf}
 use Rattle.packed_rows.specs.Answers.{packedRow, partIn}
+use Rattle.interval_packing.specs.declared.Scheduling.{Scheduling}
+use Rattle.interval_packing.specs.Answers.{schedulingOf}
 
 -- "Any other answer is a refusal, number * 2^32 + place; tohiranga_number and tohiranga_place take it apart"
 pub record Refuses (most : ℕ) (r : Refusal) (answer : ℕ) : Type 0 where
@@ -78,6 +84,14 @@ abbrev pub SpreadBelow : Type 0
 SpreadBelow =
     (s : List ℕ) (D : ℕ) (answer : List ℕ)
     → SpreadTells (settleSpread s D answer .verdict) (packed (settleSpread s D answer .verdict))
+
+-- "The answer is 0 where there is one"; "beside a refusal both are 0"
+abbrev pub IntervalTells : Verdict Interval → Scheduling → Type 0
+IntervalTells (granted i) s = (s .answer ≡ 0) × ((1 ≤ s .least) × (s .least ≤ s .greatest))
+IntervalTells (refused r) s = Refuses 18 r (s .answer) × ((s .least ≡ 0) × (s .greatest ≡ 0))
+
+abbrev pub IntervalTold : Type 0
+IntervalTold = (δ c r : ℕ) → IntervalTells (interval δ c r) (schedulingOf (interval δ c r))
 
 -- "Where the row of readings of a cabinet stands in the sheet: start * 2^32 + length, within the sheet"
 pub record RowNamed : Type 0 where

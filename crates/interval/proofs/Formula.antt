@@ -16,7 +16,7 @@ use Rattle.arithmetic.proofs.Bools.{both-ways, iff-eq, and-false}
 use Rattle.arithmetic.proofs.Shift.{down-pos, sub-pos, sub-pos-down, mul-down, pos-le-down}
 use Rattle.model.specs.Planner.{ceilDiv}
 use Rattle.planner_laws.proofs.Ceiling.{ceil-div-covers, ceil-div-least}
-use Rattle.interval.specs.Interval.{maxDrift, staysWithin, startsAfter, meets}
+use Rattle.interval.specs.Interval.{maxDrift, staysWithin, startsWithin, meets}
 use Rattle.interval.specs.Formula.{coefficient, needed, leastBy, greatestBy}
 
 -- ---- the inequalities over naturals, for a drift below 2,000,000
@@ -41,8 +41,8 @@ module _ (r : ℕ) (most : r ≤ maxDrift) where
   pub some-coefficient : 0 < coefficient r
   some-coefficient = omega (arith, square-le, coefficient-is)
 
-  pub starts-natural : (c R : ℕ) → startsAfter c r R ≡ leb (needed c r) (R * coefficient r)
-  unfolding startsAfter needed
+  pub starts-natural : (c R : ℕ) → startsWithin c r R ≡ leb (needed c r) (R * coefficient r)
+  unfolding startsWithin needed
   starts-natural c R =
       let square = square-le in
       let fits : 4000000 * r + r * r ≤ 4000000000000 = omega arith in
@@ -140,7 +140,7 @@ module _ (r : ℕ) (most : r ≤ maxDrift) where
           nothing : {a b : ℕ} → a ≤ b → 0 < a → b ≡ 0 → ⊥
           nothing l h e = omega arith
 
-  pub starts-from : (c R : ℕ) → 1 ≤ R → startsAfter c r R ≡ leb (leastBy c r) R
+  pub starts-from : (c R : ℕ) → 1 ≤ R → startsWithin c r R ≡ leb (leastBy c r) R
   starts-from c R one =
       starts-natural c R
       ∙ ⊎-elim

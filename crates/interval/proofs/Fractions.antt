@@ -13,7 +13,7 @@ use lib.Signed.{leZ}
 use Rattle.arithmetic.specs.Naturals.{down}
 use Rattle.arithmetic.proofs.Bools.{iff-eq}
 use Rattle.arithmetic.proofs.Shift.{down-pos, sub-pos, mul-down, pos-le-down, down-le-pos}
-use Rattle.interval.specs.Interval.{maxDrift, staysWithin, startsAfter}
+use Rattle.interval.specs.Interval.{maxDrift, staysWithin, startsWithin}
 use Rattle.interval.specs.Formula.{coefficient, needed}
 use Rattle.interval.specs.Fractions.{Fraction, whole, plus, minus, times, over, atMost, isPositive, driftOf, two}
 use Rattle.interval.specs.Fractions.{longest, behind, apart, paperFirst, paperSecond, paperDrift}
@@ -131,7 +131,7 @@ module _ (r : ℕ) (some : 1 ≤ r) (most : r ≤ maxDrift) where
         let is = coefficient-is r most in
         omega arith
 
-    second-same : paperSecond c r R ≡ startsAfter c r R
+    second-same : paperSecond c r R ≡ startsWithin c r R
     unfolding atMost whole needed
     second-same =
         ap (λ (f : Fraction). atMost f (whole R)) behind-is

@@ -2,7 +2,7 @@
 -- Assumes nothing.
 use mathlib.Core.Bool.{Bool, true, false, not, _&&_, _||_}
 use mathlib.Core.Logic.{_⊎_, inl, inr, ⊎-elim}
-use mathlib.Core.Option.{some}
+use mathlib.Core.Option.{none, some}
 use mathlib.Core.Path.{_≡_, refl, sym, ap, _∙_, subst⁻¹}
 use Prim.Native.Nat.{ℕ, suc, _*_, _-_, _/_, _≤_, _<_}
 use native.Mathlib.Nat.{le-refl, le-trans, lt-of-le-of-lt, mul-le-mul-right, div-lt-iff-lt-mul}
@@ -14,7 +14,7 @@ use Rattle.arithmetic.proofs.Bools.{both-ways, clash, and-left, and-right, and-
 use Rattle.arithmetic.proofs.Bools.{or-cases, or-false}
 use Rattle.arithmetic.proofs.Counting.{any-true, any-false, lowest-some, highest-some}
 use Rattle.model.specs.Ensemble.{maxWindow}
-use Rattle.model.specs.Refusals.{refusal, firstOf, badIntervalNumber, noIntervalNumber}
+use Rattle.model.specs.Refusals.{Check, refusal, orNext, firstOf, badIntervalNumber, noIntervalNumber}
 use Rattle.model.specs.Calls.{Verdict, granted, refused}
 use Rattle.interval.specs.Interval.{maxPrecision, maxDrift, meets, searched, outOfRange, badInterval, noInterval, intervalChecks}
 use Rattle.interval.specs.Interval.{Interval, found, interval}
@@ -43,9 +43,17 @@ in-range-passes δ c r h =
     (le-ltb maxWindow δ (h .window))
     (or-false (le-ltb maxPrecision c (h .precision)) (or-false (le-ltb r 1 (h .someDrift)) (le-ltb maxDrift r (h .drift))))
 
+bad-outside : (δ c r : ℕ) → outOfRange δ c r ≡ true → badInterval δ c r ≡ some (refusal badIntervalNumber 0)
+unfolding badInterval
+bad-outside δ c r e = rw e refl
+
+first-outside : (δ c r : ℕ) → outOfRange δ c r ≡ true → firstOf (intervalChecks δ c r) ≡ some (refusal badIntervalNumber 0)
+unfolding intervalChecks firstOf
+first-outside δ c r e = ap (λ (x : Check). orNext x (orNext (noInterval δ c r) none)) (bad-outside δ c r e)
+
 pub interval-outside : (δ c r : ℕ) → outOfRange δ c r ≡ true → interval δ c r ≡ refused (refusal badIntervalNumber 0)
-unfolding interval intervalChecks badInterval firstOf
-interval-outside δ c r e = rw e refl
+unfolding interval
+interval-outside δ c r e = rw (first-outside δ c r e) refl
 
 module _ (δ c r : ℕ) (h : InRange δ c r) where
   abbrev least : ℕ
@@ -88,6 +96,7 @@ module _ (δ c r : ℕ) (h : InRange δ c r) where
 
   module _ (ordered : least ≤ greatest) where
     fits : (R : ℕ) → R ≤ greatest → R < searched
+    unfolding searched
     fits R l = let most = greatest-most in omega arith
 
     any-found : anyBelow (meets δ c r) searched ≡ true

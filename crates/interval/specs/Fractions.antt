@@ -15,7 +15,7 @@ use mathlib.Core.Path.{_≡_}
 use Prim.Native.Nat.{ℕ, _*_, _≤_, _<_}
 use lib.IntN.{ℤ, pos, natAbs, _+ℤ_, _-ℤ_, _*ℤ_}
 use lib.Signed.{leZ, ltZ}
-use Rattle.interval.specs.Interval.{maxDrift, staysWithin, startsAfter}
+use Rattle.interval.specs.Interval.{maxDrift, staysWithin, startsWithin}
 
 pub record Fraction : Type 0 where
   pub top : ℤ
@@ -97,7 +97,7 @@ pub record Quotients (δ c r R : ℕ) : Type 0 where
 pub record Alike (δ c r R : ℕ) : Type 0 where
   pub quotients : Quotients δ c r R
   pub first : paperFirst δ c r R ≡ staysWithin δ c r R
-  pub second : paperSecond c r R ≡ startsAfter c r R
+  pub second : paperSecond c r R ≡ startsWithin c r R
   pub drifting : paperDrift δ c r R ≡ staysWithin δ c r R
 
 -- of all windows, precisions and intervals, and every drift in its range

@@ -2,8 +2,8 @@
 -- section 4.1", from the window δ, the precision c and the drift ρ, which is r / 1,000,000. "Both are compared over
 -- whole numbers, without loss"; Fractions.antt has the paper's fractions, and the theorem that they are the same.
 --   maxPrecision, maxDrift    "precision c (0 to 1,000,000) and drift ρ of 1 to 1,000 parts per million"
---   staysWithin               the first inequality: the clocks drift no farther apart than the window
---   startsAfter               the second: no clock starts a round before the slowest has started the one before
+--   staysWithin               the first inequality: in R the clocks drift no farther apart than the window
+--   startsWithin              the second: the slowest clock, c behind, comes to its next round at most R after the fastest
 --   meets                     "whole R of at least 1 tick meeting both"
 --   searched                  R is searched for below this. Guarantee.antt says that no R from here on meets both
 --   outOfRange, badInterval   check 17
@@ -33,16 +33,16 @@ unfoldable pub staysWithin : ℕ → ℕ → ℕ → ℕ → Bool
 staysWithin δ c r R = leZ (pos (2 * r * R)) ((pos δ -ℤ pos c) *ℤ (pos 2_000_000 -ℤ pos r))
 
 -- "R ≥ 2(R+c)/(2-ρ) - 2R/(2+ρ)": R(4·10^12 - 4·10^6·r - r²) ≥ 2c(2,000,000+r)·10^6
-unfoldable pub startsAfter : ℕ → ℕ → ℕ → Bool
-startsAfter c r R =
+unfoldable pub startsWithin : ℕ → ℕ → ℕ → Bool
+startsWithin c r R =
     leZ
     (pos (2 * c * (2_000_000 + r) * 1_000_000))
     (pos R *ℤ (pos 4_000_000_000_000 -ℤ pos (4_000_000 * r) -ℤ pos (r * r)))
 
 unfoldable pub meets : ℕ → ℕ → ℕ → ℕ → Bool
-meets δ c r R = leb 1 R && (staysWithin δ c r R && startsAfter c r R)
+meets δ c r R = leb 1 R && (staysWithin δ c r R && startsWithin c r R)
 
-abbrev pub searched : ℕ
+unfoldable pub searched : ℕ
 searched = 1_000_000_000_000
 
 -- 17: "an input outside its range, first"

@@ -1,5 +1,6 @@
-// The planner for a person: the windows and the accuracies round by round, and the limits for t bad cabinets. A
-// function that shows something answers whether all that it had to write was written.
+// The planner for a person: the windows and the accuracies round by round, the limits for t bad cabinets, and how long
+// may be between rounds. A function that shows something answers whether all that it had to write was written.
+use interval_bounds::Scheduled;
 use limits::Limits;
 use limits::Wider;
 use model::Refusal;
@@ -140,6 +141,30 @@ fn run(is_limited: bool) -> bool {
     }
 }
 
+// How long may be between rounds.
+fn show_interval(window: u32, precision: u32, drift: u32) -> bool {
+    match interval_bounds::interval_for(window, precision, drift) {
+        Scheduled::Granted(interval) => {
+            plan_text::show_interval(interval.least, interval.greatest)
+        }
+        Scheduled::Refused(refusal) => plan_text::show_no_interval(refusal, window, precision),
+    }
+}
+
+// Four arguments, of which the first is `interval`.
+fn by_interval() -> bool {
+    if plan_arguments::is_word(1, b"interval") {
+        let spacing = plan_arguments::read_spacing();
+        if spacing.is_read {
+            show_interval(spacing.window, spacing.precision, spacing.drift)
+        } else {
+            true
+        }
+    } else {
+        too_few()
+    }
+}
+
 // One argument alone.
 fn by_word() -> bool {
     if plan_arguments::is_word(1, b"--help") {
@@ -154,7 +179,7 @@ fn by_word() -> bool {
 fn too_few() -> bool {
     io::write_all(
         2,
-        b"plan: 8 or 9 arguments are wanted; plan --help says which\n",
+        b"plan: 8 or 9 arguments are wanted, or interval and 3 more; plan --help says which\n",
     );
     true
 }
@@ -166,6 +191,9 @@ fn respond(count: usize) -> bool {
     }
     if count == 2 {
         return by_word();
+    }
+    if count == 5 {
+        return by_interval();
     }
     if count == 9 {
         return run(false);

@@ -30,6 +30,14 @@ pub struct Bad {
     pub is_read: bool,
 }
 
+// What an interval is asked for: the window, the precision and the drift.
+pub struct Spacing {
+    pub window: u32,
+    pub precision: u32,
+    pub drift: u32,
+    pub is_read: bool,
+}
+
 // What was given, on standard error. Of an argument that is longer than its buffer `os::arg` leaves the first bytes
 // and answers 0.
 fn show_given(at: usize) {
@@ -189,5 +197,18 @@ pub fn read_bad(is_limited: bool, cabinets: u64) -> Bad {
     Bad {
         count: in_32_bits(t),
         is_read: is_number(t) & is_within(t, cabinets),
+    }
+}
+
+// The three arguments behind the word `interval`.
+pub fn read_spacing() -> Spacing {
+    let window = number_at(2, b"WINDOW");
+    let precision = number_at(3, b"PRECISION");
+    let drift = number_at(4, b"DRIFT");
+    Spacing {
+        window: in_32_bits(window),
+        precision: in_32_bits(precision),
+        drift: in_32_bits(drift),
+        is_read: is_number(window) & is_number(precision) & is_number(drift),
     }
 }

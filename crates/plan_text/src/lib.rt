@@ -1,6 +1,7 @@
 // What the program `plan` says to a person: its usage, numbers of ticks, refusals.
 use model::BAD_CABINETS;
 use model::BAD_FAULTS;
+use model::BAD_INTERVAL;
 use model::BAD_METHOD;
 use model::BAD_PLAN;
 use model::BAD_WINDOW;
@@ -28,13 +29,17 @@ pub fn say_ticks(name: &[u8], ticks: u32, unit: &[u8]) -> bool {
 pub fn usage() -> bool {
     say(
         b"usage: plan N M RULE ESTIMATOR WINDOW ACCURACY rounds COUNT [T]\n       plan N M RULE ESTIMATOR \
-          WINDOW ACCURACY target TICKS [T]\n       plan --help, plan --version\n  N, M              \
+          WINDOW ACCURACY target TICKS [T]\n       plan interval WINDOW PRECISION DRIFT\n       plan --help, plan \
+          --version\n  N, M              \
           cabinets, and faults planned for: 3M+1 <= N <= 64\n  RULE, ESTIMATOR   fca or cca; average, \
           median or midpoint\n                    (trimmed-midpoint and trimmed-mean are refused: no plan \
           has them)\n  WINDOW, ACCURACY  in ticks of 1/16777216 second: how far apart good clocks \
           are, and how far from true time\n  COUNT, TICKS      how many rounds, or the window to reach, in \
-          ticks\n  T                 bad cabinets, at most N: shows the limits that hold for them\nIt \
+          ticks\n  T                 bad cabinets, at most N: shows the limits that hold for them\n  PRECISION         \
+          in ticks: how far apart the rounds leave good clocks\n  DRIFT             parts per million, 1 to 1000, by which \
+          the rates of two good clocks differ at most\nIt \
           prints the window and the accuracy after each round, in ticks and, rounded up, in microseconds; \
+          or, with interval, how long may be between rounds, in ticks and in seconds; \
           or `refused`, a number and a place.\nIt always ends with status 0; a bad argument is named on \
           standard error, and then nothing is printed.\n",
     )
@@ -70,13 +75,57 @@ fn explain(number: u8) -> bool {
     say(b"no count of rounds up to 32 reaches the target")
 }
 
-pub fn show_refusal(refusal: Refusal) -> bool {
+// A refusal's number and place.
+fn show_number(refusal: Refusal) -> bool {
     let is_number = say_number(b"refused ", refusal.number as u64);
     let is_place = say_number(b" ", refusal.place as u64);
     let is_parted = say(b": ");
+    is_number & is_place & is_parted
+}
+
+pub fn show_refusal(refusal: Refusal) -> bool {
+    let is_number = show_number(refusal);
     let is_explained = explain(refusal.number);
     let is_ended = say(b"\n");
-    is_number & is_place & is_parted & is_explained & is_ended
+    is_number & is_explained & is_ended
+}
+
+// Why there is no interval.
+fn explain_interval(number: u8, window: u32, precision: u32) -> bool {
+    if number == BAD_INTERVAL {
+        return say(
+            b"the window or the precision is above 1,000,000, or the drift is not 1 to 1,000",
+        );
+    }
+    if window <= precision {
+        return say(b"the window is not wider than the precision");
+    }
+    say(b"the drift eats what the window leaves over the precision")
+}
+
+pub fn show_no_interval(refusal: Refusal, window: u32, precision: u32) -> bool {
+    let is_number = show_number(refusal);
+    let is_explained = explain_interval(refusal.number, window, precision);
+    let is_ended = say(b"\n");
+    is_number & is_explained & is_ended
+}
+
+// A number of ticks, and in brackets the seconds that they are, with these billionths.
+fn show_seconds(name: &[u8], ticks: u64, billionths: u64) -> bool {
+    let is_ticks = say_number(name, ticks);
+    let is_whole = say_number(b" ticks (", seconds::whole(ticks));
+    let is_parted = say(b".");
+    let decimals = seconds::decimals(billionths);
+    let is_shown = say(&decimals);
+    let is_ended = say(b" seconds)\n");
+    is_ticks & is_whole & is_parted & is_shown & is_ended
+}
+
+// The least and the greatest interval: seconds between those shown lie between both.
+pub fn show_interval(least: u64, greatest: u64) -> bool {
+    let is_least = show_seconds(b"least ", least, seconds::billionths_up(least));
+    let is_greatest = show_seconds(b"greatest ", greatest, seconds::billionths(greatest));
+    is_least & is_greatest
 }
 
 // The line of a plan: the rounds done, the window, the accuracy.

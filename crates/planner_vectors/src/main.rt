@@ -1,5 +1,7 @@
 // Prints what the planner answers to the vectors of the file stdin (see the crate vectors): the window, the
-// accuracy and the rounds, or that a count of rounds reaches the target. Which count is given is free.
+// accuracy and the rounds, or that a count of rounds reaches the target, which count is free; and the least and the
+// greatest interval between rounds.
+use interval_bounds::Scheduled;
 use model::Settings;
 use planner::Counted;
 use planner::Plan;
@@ -38,9 +40,33 @@ fn show_target(settings: Settings, accuracy: u32, target: u32) {
     vectors::end();
 }
 
-// The calls are `plan`, `step` and `target`.
+fn show_interval(answer: Scheduled) {
+    match answer {
+        Scheduled::Granted(interval) => {
+            vectors::granted();
+            vectors::number(interval.least);
+            vectors::number(interval.greatest);
+        }
+        Scheduled::Refused(refusal) => vectors::refused(refusal),
+    }
+    vectors::end();
+}
+
+// The window, the precision and the drift of a call for the interval.
+fn answer_interval(vector: &[u8]) {
+    let window = words::word_at(vector, 1);
+    let precision = words::word_at(vector, 5);
+    let drift = words::word_at(vector, 9);
+    show_interval(interval_bounds::interval_for(window, precision, drift));
+}
+
+// The calls are `plan`, `step`, `target` and `interval`.
 fn answer(vector: &[u8]) {
     let call = words::byte_at(vector, 0);
+    if call == b'i' {
+        answer_interval(vector);
+        return;
+    }
     let settings = vectors::settings(vector);
     let accuracy = words::word_at(vector, 9);
     let last = words::word_at(vector, 13);

@@ -11,6 +11,7 @@ use packed_records::Planning;
 use planner::Plan;
 
 mod answers;
+mod intervals;
 mod replays;
 
 // Settles a round sheet with a spread. The answer is the answer sheet's length.

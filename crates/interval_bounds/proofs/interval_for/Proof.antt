@@ -37,7 +37,11 @@ least-requires : tie.Need-least-requires
 least-requires c κs = let h = inside c in (h .precision, h .drift)
 
 greatest-requires : tie.Need-greatest-requires
-greatest-requires c κs = let h = inside (c .before) in (h .window, h .someDrift, h .drift)
+greatest-requires c κs =
+    let h = inside (c .before) in
+    let window = h .window in
+    let precision = h .precision in
+    (omega arith, h .someDrift, h .drift)
 
 refuse-requires-2 : tie.Need-refuse-requires-2
 refuse-requires-2 c κs = search needs

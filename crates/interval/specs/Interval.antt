@@ -1,4 +1,4 @@
--- Document 02, "Paper 6. How long between rounds" (docs/FORMAT.md, 12): "the resynchronising interval of document 004,
+-- Document 02, "Paper 6. How long between rounds" (docs/FORMAT.md, 15): "the resynchronising interval of document 004,
 -- section 4.1", from the window δ, the precision c and the drift ρ, which is r / 1,000,000. "Both are compared over
 -- whole numbers, without loss"; Fractions.antt has the paper's fractions, and the theorem that they are the same.
 --   maxPrecision, maxDrift    "precision c (0 to 1,000,000) and drift ρ of 1 to 1,000 parts per million"

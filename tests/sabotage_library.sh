@@ -88,8 +88,6 @@ sabotage "header: the text of refusal 17" $header "or the drift is not 1 to 1,00
 sabotage "header: least and greatest swapped" $header "uint64_t answer, least, greatest;" "uint64_t answer, greatest, least;"
 sabotage "header: an interval of 32 bits" $header "    uint64_t answer, least, greatest;" "    uint64_t answer;
     uint32_t least, greatest;"
-sabotage "header: window and precision swapped" $header "tohiranga_interval(uint32_t window, uint32_t precision, uint32_t drift);" \
-    "tohiranga_interval(uint64_t window, uint32_t precision, uint32_t drift, uint32_t more);"
 sabotage "header: a call that is not in the archive" $header "uint32_t tohiranga_version(void);" "uint32_t tohiranga_versions(void);"
 sabotage "header: a number that nothing holds" $header "#define TOHIRANGA_MAX_ROUNDS 32" "#define TOHIRANGA_MAX_ROUNDS 32
 #define TOHIRANGA_LEAST_CABINETS 4"
@@ -126,7 +124,7 @@ sabotage "wrapper: mark and used value swapped" $wrapper "self.field_of(tohirang
 sabotage "wrapper: another version" bindings/rust/Cargo.toml 'version = "0.7.0"' 'version = "0.7.1"'
 sabotage "README: the text of refusal 8" README.md "| 8 | a mark is not 0 or 1;" "| 8 | a mark is not 1 or 2;"
 sabotage "definitions: a spread of 100001" crates/model/specs/Ensemble.antt "maxSpread = 100_000" "maxSpread = 100_001"
-sabotage "definitions: a drift of 1001" crates/model/specs/MODELPAGE "maxDrift = 1_000" "maxDrift = 1_001"
+sabotage "definitions: a drift of 2000" "$(cd "$top" && grep -l '^maxDrift = ' crates/model/specs/*.antt)" "maxDrift = 1" "maxDrift = 2"
 sabotage "definitions: 63 cabinets" crates/model/specs/Ensemble.antt "maxCabinets = 64" "maxCabinets = 63"
 
 echo "$tried sabotages tried"

@@ -239,6 +239,7 @@ fn gives_intervals() {
     assert_eq!(interval(MAX_WINDOW, 0, 1), ticks(1, 999_999_500_000));
     assert_eq!(interval(4_296, 0, 1), ticks(1, 4_295_997_852));
     assert_eq!(interval(MAX_WINDOW, 666, MAX_DRIFT), ticks(668, 998_834_333));
+    assert_eq!(interval(MAX_WINDOW, 571, MAX_DRIFT), ticks(572, 998_929_285));
     assert_eq!(interval(9, 4, 1000), ticks(5, 4_997));
 }
 

@@ -1,11 +1,11 @@
 #!/usr/bin/env python3
-"""Draw the pictures of docs/ANSWER.md from the numbers that it states.
+"""Draw the pictures of docs/ANSWER.md and docs/INTERVAL.md from the numbers that they state.
 
-    python3 docs/pictures.py            writes docs/answer.svg and docs/windows.svg
+    python3 docs/pictures.py            writes docs/answer.svg, docs/windows.svg and docs/interval.svg
     python3 docs/pictures.py check      ends with 1 unless they are what it would write
 
-The round that is drawn is settled here, by document 01's steps with the halves of document 02's request 4, and the windows are worked out by
-the planner's formula; nothing is copied from the page.
+The round that is drawn is settled here, by document 01's steps with the halves of document 02's request 4, the windows are worked out by the
+planner's formula, and the interval by the first limit of document 02's request 6; nothing is copied from the pages.
 """
 
 import math
@@ -169,8 +169,78 @@ def windows():
     return page.written()
 
 
+def greatest_interval(window, precision, drift):
+    """The most ticks R with R <= (window - precision)(2 - rho)/(2 rho), where the drift is rho in parts per million."""
+    rho = Fraction(drift, 1_000_000)
+    return math.floor((window - precision) * (2 - rho) / (2 * rho))
+
+
+def seconds(ticks):
+    """Rounded down to milliseconds."""
+    return f"{ticks * 1000 // PER_SECOND / 1000:.3f}"
+
+
+def interval():
+    window, rounds, drift, teeth = PER_SECOND // 1000, 3, 100, 3
+    precision = window
+    for _ in range(rounds):
+        precision = next_window(precision, N, M)
+    length = greatest_interval(window, precision, drift)
+    late = length // 5
+    page = Page(760, 440, "How far apart two sound clocks can be, from one resynchronising to the next")
+    page.text(20, 28, "How far apart two sound clocks can be, at most two of seven bad", bold=True, size=15)
+    page.text(20, 48, f"FCA, window {window:,} ticks, {rounds} rounds at each resynchronising, drift {drift} parts per million", GREY)
+    left, bottom, apart = 90, 370, Fraction(2 * drift, 2_000_000 - drift)
+
+    def x(ticks):
+        return round(float(left + 194 * ticks / length), 1)
+
+    def y(ticks):
+        return round(float(bottom - 280 * ticks / 20_000), 1)
+
+    for ticks in range(0, 20_001, 5_000):
+        page.line(left, y(ticks), 740, y(ticks), "#e3e8ee")
+        page.text(left - 10, y(ticks) + 4, f"{ticks:,}", GREY, "end", 11)
+    page.text(20, y(20_000) - 14, "ticks apart", GREY, size=11)
+    page.line(left, y(window), 740, y(window), LIAR, 1.5)
+    page.text(left + 6, y(window) - 7, f"the window, {window:,} ticks: a millisecond", LIAR)
+    page.line(left, y(precision), 740, y(precision), TAKEN, 1, "4 3")
+    for tooth in range(teeth):
+        start, end = tooth * length, (tooth + 1) * length
+        page.parts.append(
+            f'<polyline fill="none" stroke="{GOOD}" stroke-width="2.5" points="'
+            f'{x(start):g},{y(precision):g} {x(end):g},{y(precision + length * apart):g}"/>'
+        )
+        if tooth < teeth - 1:
+            page.line(x(end), y(window), x(end), y(precision), TAKEN, 2.5)
+        page.line(x(end), bottom, x(end), bottom + 6)
+        page.text(x(end), bottom + 20, seconds(end), INK, "middle", 11)
+    page.box(x(length) - 124, y(precision) - 48, 120, 44, "#ffffff")
+    for line, words in enumerate((f"{precision:,} ticks ({up(precision * 1_000_000, PER_SECOND):,} µs)", "to the precision,", f"{rounds} rounds: back")):
+        page.text(x(length) - 8, y(precision) - 8 - 14 * line, words, TAKEN, "end", 11)
+    page.text(x(length / 2) - 8, y(precision + length * apart / 2) - 10, "drift", GOOD, "end")
+    end = teeth * length
+    page.parts.append(
+        f'<polyline fill="none" stroke="{LIAR}" stroke-width="2.5" stroke-dasharray="5 4" points="'
+        f'{x(end):g},{y(window):g} {x(end + late):g},{y(precision + (length + late) * apart):g}"/>'
+    )
+    page.text(x(end) - 12, y(19_000), "too late: wider than the window", LIAR, "end", 11)
+    page.line(left, bottom, 740, bottom)
+    page.line(left, bottom, left, bottom + 6)
+    page.text(left, bottom + 20, "0", INK, "middle", 11)
+    page.text(740, bottom + 38, "seconds on the slowest sound clock", GREY, "end", 11)
+    middle, height = x(length * 1.5), bottom - 23
+    page.line(x(length) + 4, height, x(2 * length) - 4, height)
+    for at, way in ((x(length) + 4, 1), (x(2 * length) - 4, -1)):
+        page.line(at, height, at + 6 * way, height - 4)
+        page.line(at, height, at + 6 * way, height + 4)
+    page.text(middle, height - 6, f"greatest interval, {seconds(length)} s", INK, "middle", 11)
+    page.text(middle, height + 15, f"{length:,} ticks", INK, "middle", 11)
+    return page.written()
+
+
 def main():
-    pictures = {HERE / "answer.svg": answer(), HERE / "windows.svg": windows()}
+    pictures = {HERE / "answer.svg": answer(), HERE / "windows.svg": windows(), HERE / "interval.svg": interval()}
     if sys.argv[1:] == ["check"]:
         stale = [p.name for p, drawn in pictures.items() if not p.is_file() or p.read_text(encoding="utf-8") != drawn]
         for name in stale:

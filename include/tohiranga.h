@@ -2,7 +2,7 @@
  *
  * Answers. An answer below 2^32 is a grant: a length, a count or a field. Any other is a refusal, number * 2^32 + place;
  * tohiranga_number and tohiranga_place take it apart. After a refusal nothing lent has been written, and settings and
- * plans handed back are zeros, which every call refuses in turn.
+ * plans handed back are zeros, which every call refuses in turn; both ends of an interval are 0.
  *
  * Buffers. Any contents and any length are allowed; nothing is presumed checked. A pointer is to as many elements as the
  * length after it says, and may be null where that length is 0. A buffer that a call writes overlaps no other buffer of the
@@ -12,7 +12,7 @@
  * Cabinets are numbered from 0. A tick is 1/16,777,216 second.
  *
  * Refusals, checked in this order (13 in the place of 6, 14 and 15 after 9, 16 between 5 and 6), each call only those that
- * concern it.
+ * concern it. 17 and 18 are of tohiranga_interval alone, which has no other: 17 first, 18 last.
  * tohiranga_refusal_text says what each means; this is what to do about it:
  *
  *    1   the transfer was cut off: fetch the sheet again
@@ -35,6 +35,9 @@
  *   15   place / 64 is the round and place % 64 the cabinet: look at what it heard. More are faulty than planned for, or the
  *        first readings of sound cabinets lie too far apart
  *   16   give a spread of at most TOHIRANGA_MAX_SPREAD with rule 0, and of 0 with the others
+ *   17   give a window of at most TOHIRANGA_MAX_WINDOW and a precision of at most TOHIRANGA_MAX_PRECISION ticks, and a drift of 1 to
+ *        TOHIRANGA_MAX_DRIFT parts per million
+ *   18   widen the window, or do more rounds at a time, which narrows the precision, or use clocks that drift less
  */
 #ifndef TOHIRANGA_H
 #define TOHIRANGA_H
@@ -48,14 +51,16 @@ extern "C" {
 
 /* The version. tohiranga_version() is that of the archive; as one number it is major * 2^16 + minor * 2^8 + patch. */
 #define TOHIRANGA_VERSION_MAJOR 0
-#define TOHIRANGA_VERSION_MINOR 6
+#define TOHIRANGA_VERSION_MINOR 7
 #define TOHIRANGA_VERSION_PATCH 0
 #define TOHIRANGA_VERSION (TOHIRANGA_VERSION_MAJOR * 65536 + TOHIRANGA_VERSION_MINOR * 256 + TOHIRANGA_VERSION_PATCH)
-#define TOHIRANGA_VERSION_TEXT "0.6.0"
+#define TOHIRANGA_VERSION_TEXT "0.7.0"
 
 #define TOHIRANGA_MAX_CABINETS 64
 #define TOHIRANGA_MAX_WINDOW 1000000
 #define TOHIRANGA_MAX_SPREAD 100000
+#define TOHIRANGA_MAX_PRECISION 1000000
+#define TOHIRANGA_MAX_DRIFT 1000
 #define TOHIRANGA_MAX_ACCURACY 1000000000
 #define TOHIRANGA_MAX_ROUNDS 32
 #define TOHIRANGA_TICKS_PER_SECOND 16777216
@@ -80,7 +85,9 @@ enum tohiranga_refusal {
     TOHIRANGA_BAD_TRACE = 13,
     TOHIRANGA_BAD_ROLES = 14,
     TOHIRANGA_RUN_STOPPED = 15,
-    TOHIRANGA_BAD_SPREAD = 16
+    TOHIRANGA_BAD_SPREAD = 16,
+    TOHIRANGA_BAD_INTERVAL = 17,
+    TOHIRANGA_NO_INTERVAL = 18
 };
 
 /* The entries of a sheet of n cabinets; the bytes of a sheet and of an answer sheet; the bytes of the longest of each. */
@@ -119,6 +126,11 @@ struct tohiranga_planning {
     struct tohiranga_plan plan;
 };
 
+/* An interval between rounds, in ticks: both ends belong to it. */
+struct tohiranga_interval {
+    uint64_t answer, least, greatest;
+};
+
 /* The number of refusal in an answer, 0 for a grant; its place: the entry for 8 and 9, 64 * round + cabinet for 15, else 0. */
 static inline uint32_t tohiranga_number(uint64_t answer) { return (uint32_t)(answer >> 32); }
 static inline uint32_t tohiranga_place(uint64_t answer) { return (uint32_t)answer; }
@@ -143,6 +155,9 @@ static inline const char *tohiranga_refusal_text(unsigned number) {
     case TOHIRANGA_BAD_ROLES: return "a role is not 0 or 1, or a sound sender's entry is present";
     case TOHIRANGA_RUN_STOPPED: return "too many faults for a sound cabinet; the place is 64 x round (from 1) + cabinet";
     case TOHIRANGA_BAD_SPREAD: return "the spread is above 100,000, or above 0 with another rule than FCA";
+    case TOHIRANGA_BAD_INTERVAL:
+        return "the window or the precision is above 1,000,000, or the drift is not 1 to 1,000";
+    case TOHIRANGA_NO_INTERVAL: return "no interval of at least one tick meets both limits";
     default: return "no refusal of this library";
     }
 }
@@ -227,6 +242,20 @@ struct tohiranga_planning tohiranga_step(struct tohiranga_plan plan);
 /* A number of rounds, at most 32, after which the window is at or below the target. Several may fit, and which one is
  * answered is not promised. Refuses under 2 to 5, 11 and 12. */
 uint64_t tohiranga_target(struct tohiranga_settings settings, uint32_t accuracy, uint32_t target);
+
+/* How long between rounds: the least and the greatest whole number of ticks, of at least 1, that meets both limits below; every whole
+ * number between them does too. Answers 0. Refuses under 17, and then 18. The greatest can take more than 32 bits.
+ *
+ * Every cabinet starts a round, or several in a row, each time that many ticks have passed on its own clock. The window d is that of
+ * the first of these rounds, 0 to TOHIRANGA_MAX_WINDOW ticks. The precision c, 0 to TOHIRANGA_MAX_PRECISION ticks, is how far apart
+ * they leave sound clocks at most: the window of tohiranga_plan after them. The drift is rho in parts per million, 1 to
+ * TOHIRANGA_MAX_DRIFT. A sound clock's rate is within 1 - rho/2 and 1 + rho/2, so clocks that are good to 50 parts per million either
+ * way have a drift of 100, and not of 50.
+ * R ticks meet both limits where R <= (d - c)(2 - rho)/(2 rho), so that sound clocks drift no farther apart than the window, and
+ * R >= 2(R + c)/(2 - rho) - 2R/(2 + rho), so that a fast cabinet does not start anew before the slowest has taken over what the
+ * rounds before gave. They are compared over whole numbers, without loss. The time that the rounds themselves take, and errors of
+ * reading a clock, are in neither. */
+struct tohiranga_interval tohiranga_interval(uint32_t window, uint32_t precision, uint32_t drift);
 
 /* Replays a recorded FCA run: fills in the final values and answers their length, 4N. Refuses under 1 to 5, 13, 7, 8, 9, 14 and
  * 15, in this order; 8, 9 and 14 look at every entry.

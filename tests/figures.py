@@ -7,7 +7,7 @@
     tests/figures.py version     the version; number: as one number
 
 Numbers are read from crates/model/specs, crates/trace/specs and crates/version/specs, the numbers of refusal from the table of crates/model/specs/Refusals.antt
-(the checks 13 to 15 stand in crates/trace/specs), and what each means from README's table.
+(the checks 13 to 15 stand in crates/trace/specs, the others in crates/model/specs), and what each means from README's table.
 """
 
 import pathlib
@@ -36,8 +36,8 @@ def defined(path, line):
 
 
 FIGURES = {}
-for page in ("Ensemble", "RoundSheet", "AnswerSheet", "Planner"):
-    FIGURES.update(numbers(MODEL / f"{page}.antt"))
+for page in sorted(MODEL.glob("*.antt")):
+    FIGURES.update(numbers(page))
 FIGURES.update(numbers(TRACE / "Trace.antt"))
 
 VERSION = numbers(ROOT / "crates" / "version" / "specs" / "Version.antt")
@@ -78,11 +78,11 @@ def refusals():
     """The checks of the table: number and name."""
     page = text(MODEL / "Refusals.antt")
     checks = re.findall(r"^(\w+)Number = (\d+)$", page, flags=re.M)
-    if [int(number) for _, number in checks] != list(range(1, 17)):
-        sys.exit("figures: crates/model/specs/Refusals.antt does not have the numbers 1 to 16")
-    both = page + text(TRACE / "Replay.antt")
+    if [int(number) for _, number in checks] != list(range(1, 19)):
+        sys.exit("figures: crates/model/specs/Refusals.antt does not have the numbers 1 to 18")
+    pages = "".join(text(path) for path in (*sorted(MODEL.glob("*.antt")), TRACE / "Replay.antt"))
     for name, _ in checks:
-        if not re.search(rf"^unfoldable pub {name} :", both, flags=re.M) or not re.search(rf"(?<!= )\b{name}Number\b(?! [:=])", both):
+        if not re.search(rf"^unfoldable pub {name} :", pages, flags=re.M) or not re.search(rf"(?<!= )\b{name}Number\b(?! [:=])", pages):
             sys.exit(f"figures: no page defines the check {name} with its number")
     return [(int(number), constant(name)) for name, number in checks]
 
@@ -90,8 +90,8 @@ def refusals():
 def meanings():
     """README's table of refusals."""
     rows = re.findall(r"^\| (\d+) \| ([^|]+) \| [^|]+ \|$", text(ROOT / "README.md"), flags=re.M)
-    if [int(number) for number, _ in rows] != list(range(1, 17)):
-        sys.exit("figures: README does not have the refusals 1 to 16")
+    if [int(number) for number, _ in rows] != list(range(1, 19)):
+        sys.exit("figures: README does not have the refusals 1 to 18")
     return {int(number): meaning.strip() for number, meaning in rows}
 
 
@@ -108,6 +108,8 @@ def shared():
     yield f"MAX_CABINETS {FIGURES['maxCabinets']}"
     yield f"MAX_WINDOW {FIGURES['maxWindow']}"
     yield f"MAX_SPREAD {FIGURES['maxSpread']}"
+    yield f"MAX_PRECISION {FIGURES['maxPrecision']}"
+    yield f"MAX_DRIFT {FIGURES['maxDrift']}"
     yield f"MAX_ACCURACY {FIGURES['maxAccuracy']}"
     yield f"MAX_ROUNDS {FIGURES['maxRounds']}"
     yield f"TICKS_PER_SECOND {FIGURES['ticksPerSecond']}"
@@ -120,7 +122,7 @@ def shared():
     for number, name in refusals():
         yield f"{name} {number}"
     said = meanings()
-    for number in range(18):
+    for number in range(20):
         yield f"refusal {number}: {said.get(number, 'no refusal of this library')}"
     for n in range(0, 256, 7):
         yield f"entries of {n} {entries(n, FIGURES['fca'])} {entries(n, FIGURES['cca'])}"

@@ -128,6 +128,19 @@ if asked "numbers: each in turn"; then
     tests/sabotage_numbers.py 2>/dev/null || missed+=("numbers: each in turn")
 fi
 
+# ---- the interval
+interval=tests/check_interval
+sound "$interval" interval
+sabotage "interval: the greatest of docs/INTERVAL.md" "sed -i 's/^greatest 136453177 ticks/greatest 136453178 ticks/' docs/INTERVAL.md" "$interval" "its code blocks are not these"
+sabotage "interval: the drift not doubled" "sed -i 's/have a drift of 100, and/have a drift of 50, and/' docs/INTERVAL.md" "$interval" "have a drift of 100"
+sabotage "interval: a row of the table" "sed -i '/^| 4 | 1,790/d' docs/INTERVAL.md" "$interval" "a table"
+sabotage "interval: a limit of docs/FORMAT.md" "sed -i 's/ × r - r²) ≥ / × r) ≥ /' docs/FORMAT.md" "$interval" "R(4 × 10^12"
+sabotage "interval: no rounding to the safe side" "sed -i 's/^least 3132 ticks (0.000186682/least 3132 ticks (0.000186681/' docs/FORMAT.md" "$interval" "0.000186682"
+sabotage "interval: another example" "sed -i 's/^rounds 2, precision 5479: 5480/rounds 2, precision 5479: 5479/' examples/interval.stdout" "$interval" "interval.stdout"
+sabotage "interval: an old picture" "sed -i 's/136,453,177 ticks/136,453,178 ticks/' docs/interval.svg" "$interval" "it does not say"
+sabotage "interval: teeth out of scale" "sed -i 's/{y(precision + length \* apart):g}/{y(window + 500):g}/' docs/pictures.py && python3 docs/pictures.py" "$interval" "its teeth"
+sabotage "interval: the window's line elsewhere" "sed -i 's/page.line(left, y(window), 740, y(window)/page.line(left, y(window - 500), 740, y(window - 500)/' docs/pictures.py && python3 docs/pictures.py" "$interval" "no line at 16777"
+
 # ---- rows of the maps
 for page in TRACEABILITY PROOF-MAP; do
     asked "rows: $page" || continue

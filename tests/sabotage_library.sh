@@ -14,7 +14,7 @@ tried=0
 fresh() {
     rm -rf "$room/copy"
     mkdir -p "$room/copy/target/staticlib"
-    (cd "$top" && tar cf - --exclude=target include bindings examples/cables.c examples/cables.stdout tests README.md \
+    (cd "$top" && tar cf - --exclude=target include bindings examples/cables.* examples/interval.* tests README.md \
         crates/model/specs crates/trace/specs crates/version/specs) | tar xf - -C "$room/copy"
     printf '#!/usr/bin/env bash\necho "%s/target/staticlib"\n' "$top" >"$room/copy/tests/build_archive"
 }
@@ -78,7 +78,16 @@ sabotage "header: values of 5N" $header "VALUES_SIZE(n) (4 *" "VALUES_SIZE(n) (5
 sabotage "header: the longest trace" $header "MAX_TRACE 655689" "MAX_TRACE 655688"
 sabotage "header: answer sheets of 9 + 5N" $header "ANSWER_SIZE(n) (10 +" "ANSWER_SIZE(n) (9 +"
 sabotage "header: -1 read as -2" $header "(4294967295u - bits) - 1" "(4294967295u - bits) - 2"
-sabotage "header: another version" $header "VERSION_MINOR 5" "VERSION_MINOR 6"
+sabotage "header: another version" $header "VERSION_MINOR 7" "VERSION_MINOR 8"
+sabotage "header: a precision of 100000" $header "MAX_PRECISION 1000000" "MAX_PRECISION 100000"
+sabotage "header: a drift of 1001" $header "MAX_DRIFT 1000" "MAX_DRIFT 1001"
+sabotage "header: refusals 17 and 18 swapped" $header "TOHIRANGA_BAD_INTERVAL = 17,
+    TOHIRANGA_NO_INTERVAL = 18" "TOHIRANGA_BAD_INTERVAL = 18,
+    TOHIRANGA_NO_INTERVAL = 17"
+sabotage "header: the text of refusal 17" $header "or the drift is not 1 to 1,000" "or the drift is not 0 to 1,000"
+sabotage "header: least and greatest swapped" $header "uint64_t answer, least, greatest;" "uint64_t answer, greatest, least;"
+sabotage "header: an interval of 32 bits" $header "    uint64_t answer, least, greatest;" "    uint64_t answer;
+    uint32_t least, greatest;"
 sabotage "header: a call that is not in the archive" $header "uint32_t tohiranga_version(void);" "uint32_t tohiranga_versions(void);"
 sabotage "header: a number that nothing holds" $header "#define TOHIRANGA_MAX_ROUNDS 32" "#define TOHIRANGA_MAX_ROUNDS 32
 #define TOHIRANGA_LEAST_CABINETS 4"
@@ -104,11 +113,18 @@ sabotage "wrapper: MAX_SPREAD 10000" $wrapper "MAX_SPREAD: u32 = 100_000" "MAX_S
 sabotage "wrapper: no spread is given on" $wrapper "            spread,
             answer.as_mut_ptr()," "            spread & 0,
             answer.as_mut_ptr(),"
+sabotage "wrapper: MAX_DRIFT 100" $wrapper "MAX_DRIFT: u32 = 1_000" "MAX_DRIFT: u32 = 100"
+sabotage "wrapper: MAX_PRECISION 1001" $wrapper "MAX_PRECISION: u32 = 1_000_000" "MAX_PRECISION: u32 = 1_001"
+sabotage "wrapper: window and precision swapped" $wrapper "tohiranga_interval(window, precision, drift) }" "tohiranga_interval(precision, window, drift) }"
+sabotage "wrapper: least and greatest swapped" $wrapper "least: given.least, greatest: given.greatest" "least: given.greatest, greatest: given.least"
+sabotage "wrapper: the greatest cut to 32 bits" $wrapper "greatest: given.greatest }" "greatest: given.greatest as u32 as u64 }"
+sabotage "wrapper: the example of the interval" $wrapper "(3_132, 136_453_177)" "(3_131, 136_453_177)"
 sabotage "wrapper: estimate and new value swapped" $wrapper "self.field(tohiranga_answer_value)" "self.field(tohiranga_answer_estimate)"
 sabotage "wrapper: mark and used value swapped" $wrapper "self.field_of(tohiranga_answer_mark, cabinet)" "self.field_of(tohiranga_answer_used, cabinet)"
-sabotage "wrapper: another version" bindings/rust/Cargo.toml 'version = "0.6.0"' 'version = "0.6.1"'
+sabotage "wrapper: another version" bindings/rust/Cargo.toml 'version = "0.7.0"' 'version = "0.7.1"'
 sabotage "README: the text of refusal 8" README.md "| 8 | a mark is not 0 or 1;" "| 8 | a mark is not 1 or 2;"
 sabotage "definitions: a spread of 100001" crates/model/specs/Ensemble.antt "maxSpread = 100_000" "maxSpread = 100_001"
+sabotage "definitions: a drift of 2000" "$(cd "$top" && grep -l '^maxDrift = ' crates/model/specs/*.antt)" "maxDrift = 1" "maxDrift = 2"
 sabotage "definitions: 63 cabinets" crates/model/specs/Ensemble.antt "maxCabinets = 64" "maxCabinets = 63"
 
 echo "$tried sabotages tried"

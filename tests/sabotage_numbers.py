@@ -1,5 +1,6 @@
 #!/usr/bin/env python3
-"""Changes each number of README.md and docs/ANSWER.md in turn, and sees that tests/check_answer finds it. For tests/sabotage.sh.
+"""Changes each number of README.md and docs/ANSWER.md in turn, and sees that tests/check_answer finds it; and each of docs/INTERVAL.md and of section 15
+of docs/FORMAT.md, and that tests/check_interval does. For tests/sabotage.sh.
 
 A figure gets a further digit behind it, before it, and another last digit; a number word becomes another. What the test runs (the library, `bash run`)
 is run once: the pages alone change.
@@ -13,9 +14,16 @@ import subprocess
 import sys
 
 TOP = pathlib.Path(__file__).resolve().parent.parent
-loader = importlib.machinery.SourceFileLoader("check_answer", str(TOP / "tests" / "check_answer"))
-test = importlib.util.module_from_spec(importlib.util.spec_from_loader("check_answer", loader))
-loader.exec_module(test)
+
+
+def loaded(name):
+    loader = importlib.machinery.SourceFileLoader(name, str(TOP / "tests" / name))
+    module = importlib.util.module_from_spec(importlib.util.spec_from_loader(name, loader))
+    loader.exec_module(module)
+    return module
+
+
+test, interval = loaded("check_answer"), loaded("check_interval")
 plain_read, plain_run = test.read, subprocess.run
 kept = {}
 
@@ -34,17 +42,17 @@ test.run_c = functools.lru_cache(maxsize=None)(test.run_c)
 test.read = functools.lru_cache(maxsize=None)(plain_read)
 
 
-def found(path, page, text):
+def found(module, path, tables, page, text):
     """What the test finds where the page has this text."""
-    test.read = lambda *names: text if names == path else plain_read(*names)
-    test.faults.clear()
+    module.read = lambda *names: text if names == path else plain_read(*names)
+    module.faults.clear()
     try:
-        if test.with_tables(test.read("docs", "ANSWER.md")) != test.read("docs", "ANSWER.md"):
-            test.faults.append("a table")
+        if tables and module.with_tables(text, tables) != text:
+            module.faults.append("a table")
         page().left()
     except Exception as error:  # a changed example may not even run
-        test.faults.append(f"it fails: {error}")
-    return set(test.faults)
+        module.faults.append(f"it fails: {error}")
+    return set(module.faults)
 
 
 def others(number):
@@ -57,15 +65,19 @@ def others(number):
 
 
 missed = tried = 0
-for path, page in ((("docs", "ANSWER.md"), test.answer_page), (("README.md",), test.readme)):
+for module, path, tables, page, start in (
+        (test, ("docs", "ANSWER.md"), test.TABLES, test.answer_page, ""),
+        (test, ("README.md",), None, test.readme, ""),
+        (interval.answer, ("docs", "INTERVAL.md"), interval.TABLES, interval.interval_page, ""),
+        (interval.answer, ("docs", "FORMAT.md"), None, interval.format_section, "## 15. ")):
     text = plain_read(*path)
-    before = found(path, page, text)
+    before = found(module, path, tables, page, text)
     if before:
         print(f"{'/'.join(path)}: {len(before)} faults before any change")
-    for match in test.NUMBER.finditer(text):
+    for match in test.NUMBER.finditer(text, text.index(start)):
         for other in others(match.group()):
             tried += 1
-            if found(path, page, text[:match.start()] + other + text[match.end():]) <= before:  # nothing new
+            if found(module, path, tables, page, text[:match.start()] + other + text[match.end():]) <= before:  # nothing new
                 missed += 1
                 line = text.count("\n", 0, match.start()) + 1
                 print(f"{'/'.join(path)}:{line}: {match.group()} changed to {other} is not found")

@@ -39,6 +39,8 @@ int main(void) {
     NUMBER(MAX_CABINETS);
     NUMBER(MAX_WINDOW);
     NUMBER(MAX_SPREAD);
+    NUMBER(MAX_PRECISION);
+    NUMBER(MAX_DRIFT);
     NUMBER(MAX_ACCURACY);
     NUMBER(MAX_ROUNDS);
     NUMBER(TICKS_PER_SECOND);
@@ -69,7 +71,9 @@ int main(void) {
     NUMBER(BAD_ROLES);
     NUMBER(RUN_STOPPED);
     NUMBER(BAD_SPREAD);
-    for (unsigned number = 0; number < 18; number++)
+    NUMBER(BAD_INTERVAL);
+    NUMBER(NO_INTERVAL);
+    for (unsigned number = 0; number < 20; number++)
         printf("refusal %u: %s\n", number, tohiranga_refusal_text(number));
     for (unsigned n = 0; n < 256; n += 7)
         printf("entries of %u %zu %zu\n", n, TOHIRANGA_ENTRIES(n, TOHIRANGA_FCA), TOHIRANGA_ENTRIES(n, TOHIRANGA_CCA));

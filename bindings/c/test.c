@@ -464,6 +464,80 @@ static void plans(void) {
     EXPECT(tohiranga_plan(c, 100, 32).plan.settings.window == 2);
 }
 
+/* ---- Intervals */
+
+static int gives(uint32_t d, uint32_t c, uint32_t r, uint64_t least, uint64_t greatest) {
+    const struct tohiranga_interval given = tohiranga_interval(d, c, r);
+    return given.answer == 0 && given.least == least && given.greatest == greatest;
+}
+
+static int refused_interval(uint32_t d, uint32_t c, uint32_t r, uint32_t number) {
+    const struct tohiranga_interval given = tohiranga_interval(d, c, r);
+    return given.answer == REFUSED(number, 0) && given.least == 0 && given.greatest == 0;
+}
+
+/* The two limits of request 6 over whole numbers; R is at most 10^12 in the first, and 4,000,000 in the second. */
+static int within_window(uint64_t d, uint64_t c, uint64_t r, uint64_t R) { return d >= c && 2 * r * R <= (d - c) * (2000000 - r); }
+
+static int not_too_soon(uint64_t c, uint64_t r, uint64_t R) {
+    return R * (4000000000000u - 4000000 * r - r * r) >= 2 * c * (2000000 + r) * 1000000;
+}
+
+/* Each end meets its limit, and the next number outward does not. Where it is refused, the least of at least 1 that meets the second
+ * limit misses the first. */
+static void interval_is_right(uint32_t d, uint32_t c, uint32_t r) {
+    const struct tohiranga_interval given = tohiranga_interval(d, c, r);
+    if (given.answer == 0) {
+        const uint64_t least = given.least, greatest = given.greatest;
+        EXPECT(1 <= least && least <= greatest && least <= 4000000 && greatest <= 999999500000);
+        EXPECT(not_too_soon(c, r, least) && (least == 1 || !not_too_soon(c, r, least - 1)));
+        EXPECT(within_window(d, c, r, greatest) && !within_window(d, c, r, greatest + 1));
+    } else {
+        EXPECT(refused_interval(d, c, r, 18));
+        uint64_t below = 0, from = 4000000; /* it is above the one, and at most the other */
+        while (from - below > 1) {
+            const uint64_t middle = (below + from) / 2;
+            if (not_too_soon(c, r, middle))
+                from = middle;
+            else
+                below = middle;
+        }
+        EXPECT(not_too_soon(c, r, from) && !within_window(d, c, r, from));
+    }
+}
+
+static void intervals(void) {
+    /* request 6's own numbers */
+    EXPECT(gives(998, 997, 1000, 999, 999) && refused_interval(1001, 1000, 1000, 18) && gives(1, 0, 1, 1, 999999));
+    /* a station of seven, after one round and after three; drift 100 and 20 */
+    EXPECT(gives(16777, 9587, 100, 9589, 71896405) && gives(16777, 3131, 100, 3132, 136453177) && gives(16777, 3131, 20, 3132, 682293177));
+    /* more than 32 bits; the square of rho decides; the precision is not the window */
+    EXPECT(gives(1000000, 0, 1, 1, 999999500000) && gives(4296, 0, 1, 1, 4295997852) && gives(1000000, 666, 1000, 668, 998834333));
+    EXPECT(gives(9, 4, 1000, 5, 4997) && refused_interval(4, 9, 1000, 18));
+    /* the ends of the ranges; a window that is not wider than the precision */
+    const uint32_t ends[] = {0, 1, 999999, 1000000}, drifts[] = {1, 2, 999, 1000}, past[] = {1000001, 1u << 31, UINT32_MAX};
+    for (size_t i = 0; i < 4; i++)
+        for (size_t k = 0; k < 4; k++) {
+            EXPECT(refused_interval(ends[i], ends[i], drifts[k], 18));
+            EXPECT(refused_interval(ends[i] / 2, ends[i], drifts[k], 18));
+            EXPECT(refused_interval(ends[i], ends[k], 0, 17) && refused_interval(ends[i], ends[k], 1001, 17));
+            EXPECT(refused_interval(ends[i], ends[k], 1u << 31, 17) && refused_interval(ends[i], ends[k], UINT32_MAX, 17));
+        }
+    for (size_t i = 0; i < sizeof past / sizeof *past; i++)
+        for (size_t k = 0; k < 4; k++) {
+            EXPECT(refused_interval(past[i], ends[k], drifts[k], 17) && refused_interval(ends[k], past[i], drifts[k], 17));
+            EXPECT(refused_interval(past[i], past[i], drifts[k], 17) && refused_interval(past[i], past[i], past[i], 17));
+        }
+    EXPECT(gives(TOHIRANGA_MAX_WINDOW, 0, TOHIRANGA_MAX_DRIFT, 1, 999500000));
+    EXPECT(refused_interval(TOHIRANGA_MAX_WINDOW, TOHIRANGA_MAX_PRECISION, TOHIRANGA_MAX_DRIFT, 18));
+    const uint32_t some[] = {0, 1, 2, 3, 4, 7, 500, 666, 997, 998, 999, 1000, 1001, 1002, 3131, 16777, 500000, 998003, 999001, 999999, 1000000};
+    const uint32_t rates[] = {1, 2, 3, 20, 100, 500, 998, 999, 1000};
+    for (size_t i = 0; i < sizeof some / sizeof *some; i++)
+        for (size_t j = 0; j < sizeof some / sizeof *some; j++)
+            for (size_t k = 0; k < sizeof rates / sizeof *rates; k++)
+                interval_is_right(some[i], some[j], rates[k]);
+}
+
 /* ---- Case 1 of the scope, with old bytes behind the answer sheet */
 
 static void case_1(void) {
@@ -633,10 +707,13 @@ int main(void) {
     EXPECT(sysconf(_SC_PAGESIZE) == PAGE);
     EXPECT(sizeof(struct tohiranga_settings) == 8 && sizeof(struct tohiranga_plan) == 16);
     EXPECT(sizeof(struct tohiranga_opening) == 16 && sizeof(struct tohiranga_planning) == 24);
+    EXPECT(sizeof(struct tohiranga_interval) == 24 && offsetof(struct tohiranga_interval, answer) == 0);
+    EXPECT(offsetof(struct tohiranga_interval, least) == 8 && offsetof(struct tohiranga_interval, greatest) == 16);
     EXPECT(tohiranga_version() == TOHIRANGA_VERSION);
     case_1();
     plans();
     next_windows();
+    intervals();
     spreads();
     halves();
     trims();

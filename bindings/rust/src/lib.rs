@@ -20,6 +20,9 @@ pub const TICKS_PER_SECOND: u32 = 16_777_216;
 pub const MAX_CABINETS: u8 = 64;
 pub const MAX_WINDOW: u32 = 1_000_000;
 pub const MAX_SPREAD: u32 = 100_000;
+pub const MAX_PRECISION: u32 = 1_000_000;
+/// In parts per million.
+pub const MAX_DRIFT: u32 = 1_000;
 pub const MAX_ACCURACY: u32 = 1_000_000_000;
 pub const MAX_ROUNDS: u32 = 32;
 
@@ -94,6 +97,13 @@ impl Plan {
     }
 }
 
+/// How many ticks there may be between rounds: both ends, and every whole number between them.
+#[derive(Clone, Copy, Debug, PartialEq, Eq)]
+pub struct Interval {
+    pub least: u64,
+    pub greatest: u64,
+}
+
 /// A numbered refusal. The place is the lowest entry at fault for 8 and 9, 64 × round + cabinet for 15, else 0.
 #[derive(Clone, Copy, Debug, PartialEq, Eq)]
 pub struct Refusal {
@@ -118,6 +128,8 @@ impl Refusal {
     pub const BAD_ROLES: u32 = 14;
     pub const RUN_STOPPED: u32 = 15;
     pub const BAD_SPREAD: u32 = 16;
+    pub const BAD_INTERVAL: u32 = 17;
+    pub const NO_INTERVAL: u32 = 18;
 
     /// What the number means.
     pub fn meaning(&self) -> &'static str {
@@ -144,6 +156,10 @@ impl Refusal {
                 "too many faults for a sound cabinet; the place is 64 x round (from 1) + cabinet"
             }
             Self::BAD_SPREAD => "the spread is above 100,000, or above 0 with another rule than FCA",
+            Self::BAD_INTERVAL => {
+                "the window or the precision is above 1,000,000, or the drift is not 1 to 1,000"
+            }
+            Self::NO_INTERVAL => "no interval of at least one tick meets both limits",
             _ => "no refusal of this library",
         }
     }
@@ -237,6 +253,13 @@ struct Planning {
     plan: Plan,
 }
 
+#[repr(C)]
+struct Timing {
+    answer: u64,
+    least: u64,
+    greatest: u64,
+}
+
 extern "C" {
     fn tohiranga_settle(
         sheet: *const u8,
@@ -272,6 +295,7 @@ extern "C" {
     fn tohiranga_plan(settings: Settings, accuracy: u32, rounds: u32) -> Planning;
     fn tohiranga_step(plan: Plan) -> Planning;
     fn tohiranga_target(settings: Settings, accuracy: u32, target: u32) -> u64;
+    fn tohiranga_interval(window: u32, precision: u32, drift: u32) -> Timing;
     fn tohiranga_answer_cabinets(answer: *const u8, answer_len: usize) -> u64;
     fn tohiranga_answer_count(answer: *const u8, answer_len: usize) -> u64;
     fn tohiranga_answer_estimate(answer: *const u8, answer_len: usize) -> u64;
@@ -311,6 +335,28 @@ pub fn settle_spread(sheet: &[u8], spread: u32, answer: &mut [u8]) -> Result<usi
             answer.len(),
         )
     })
+}
+
+/// How long between rounds, where every cabinet starts anew each time so many ticks have passed on its own clock. The window
+/// is that of the first round, the precision how far apart the rounds leave sound clocks at most: the window of the plan after
+/// them. The drift, 1 to `MAX_DRIFT` parts per million, is twice what a clock's rate may be wrong either way: clocks that are
+/// good to 50 parts per million have a drift of 100. Refused under 17, and under 18 where no interval meets both limits of
+/// include/tohiranga.h.
+///
+/// ```
+/// use tohiranga::{interval, Settings, FCA, MEDIAN, TICKS_PER_SECOND};
+///
+/// let station = Settings { n: 7, m: 2, rule: FCA, estimator: MEDIAN, window: 16_777 };
+/// let three_rounds = station.plan(16_777, 3)?;
+/// let ticks = interval(station.window, three_rounds.settings.window, 100)?;
+/// assert_eq!((ticks.least, ticks.greatest), (3_132, 136_453_177));
+/// assert_eq!(ticks.greatest / u64::from(TICKS_PER_SECOND), 8);
+/// # Ok::<(), tohiranga::Refusal>(())
+/// ```
+pub fn interval(window: u32, precision: u32, drift: u32) -> Result<Interval, Refusal> {
+    // SAFETY: no pointer is handed over.
+    let given = unsafe { tohiranga_interval(window, precision, drift) };
+    granted(given.answer).map(|_| Interval { least: given.least, greatest: given.greatest })
 }
 
 /// Replays a recorded FCA run: the final values, four bytes for each cabinet and 0 for faulty ones, fill the start of the

@@ -221,6 +221,49 @@ fn plans() {
     assert_eq!(none.plan(100, 1).unwrap().settings.window, 0);
 }
 
+fn ticks(least: u64, greatest: u64) -> Result<Interval, Refusal> {
+    Ok(Interval { least, greatest })
+}
+
+/// Request 6's own numbers; then a station of seven after one round and after three, and with a drift of 20.
+#[test]
+fn gives_intervals() {
+    assert_eq!(interval(998, 997, 1000), ticks(999, 999));
+    assert_eq!(interval(1, 0, 1), ticks(1, 999_999));
+    let station = Settings { n: 7, m: 2, window: 16_777, ..SETTINGS };
+    let after = |rounds| station.plan(16_777, rounds).unwrap().settings.window;
+    assert_eq!(interval(station.window, after(1), 100), ticks(9_589, 71_896_405));
+    assert_eq!(interval(station.window, after(3), 100), ticks(3_132, 136_453_177));
+    assert_eq!(interval(station.window, after(3), 20), ticks(3_132, 682_293_177));
+    // more than 32 bits; the square of the drift decides; window and precision are not the same
+    assert_eq!(interval(MAX_WINDOW, 0, 1), ticks(1, 999_999_500_000));
+    assert_eq!(interval(4_296, 0, 1), ticks(1, 4_295_997_852));
+    assert_eq!(interval(MAX_WINDOW, 666, MAX_DRIFT), ticks(668, 998_834_333));
+    assert_eq!(interval(MAX_WINDOW, 571, MAX_DRIFT), ticks(572, 998_929_285));
+    assert_eq!(interval(9, 4, 1000), ticks(5, 4_997));
+}
+
+/// 17 is first, 18 last.
+#[test]
+fn refuses_an_interval() {
+    let none = refused(Refusal::NO_INTERVAL, 0);
+    assert_eq!(interval(1001, 1000, 1000), none);
+    assert_eq!(interval(4, 9, 1000), none);
+    for window in [0, 1, 16_777, MAX_WINDOW] {
+        assert_eq!(interval(window, window, 1), none);
+    }
+    assert_eq!(interval(MAX_WINDOW, MAX_PRECISION, MAX_DRIFT), none);
+    for past in [MAX_WINDOW + 1, u32::MAX] {
+        assert_eq!(interval(past, 0, 1), refused(Refusal::BAD_INTERVAL, 0));
+        assert_eq!(interval(0, past, 1), refused(17, 0));
+        assert_eq!(interval(past, past, past), refused(17, 0));
+    }
+    for drift in [0, MAX_DRIFT + 1, u32::MAX] {
+        assert_eq!(interval(1, 0, drift), refused(17, 0));
+        assert_eq!(interval(0, 1, drift), refused(17, 0));
+    }
+}
+
 #[test]
 fn shows_the_answer_sheet() {
     let mut sheet = sheet();

@@ -5,7 +5,7 @@ use mathlib.Core.Logic.{⊎-elim}
 use mathlib.Core.Path.{_≡_, refl, sym, ap, ap₂, _∙_}
 use Prim.Native.Nat.{ℕ, zero, suc, _+_, _*_, _-_, _/_, _≤_, _<_}
 use native.Mathlib.Nat.{mul-le-mul, mul-le-mul-right, mul-lt-mul-of-pos-right, mul-comm, add-mul, zero-mul, zero-div, le-div-iff-mul-le}
-use native.Mathlib.Nat.{mul-pos, sub-add-eq, sub-eq-zero-of-le, pos-of-ne-zero, le-trans}
+use native.Mathlib.Nat.{mul-add, mul-assoc, mul-left-comm, mul-pos, sub-add-eq, sub-eq-zero-of-le, pos-of-ne-zero, le-trans}
 use native.Mathlib.Omega.{arith}
 use borrow.Author.Tests.{le-leb, lt-leb, leb-true, leb-false, eqb-true, eqb-false}
 use lib.Dec.{leb, eqb}
@@ -18,6 +18,11 @@ use Rattle.model.specs.Planner.{ceilDiv}
 use Rattle.planner_laws.proofs.Ceiling.{ceil-div-covers, ceil-div-least}
 use Rattle.interval.specs.Interval.{maxDrift, staysWithin, startsWithin, meets}
 use Rattle.interval.specs.Formula.{coefficient, needed, leastBy, greatestBy}
+
+-- two comparisons of naturals are one where each follows from the other
+pub leb-same : (a b c d : ℕ) → (a ≤ b → c ≤ d) → (c ≤ d → a ≤ b) → leb a b ≡ leb c d
+leb-same a b c d f g =
+    iff-eq (leb a b) (leb c d) (λ e. le-leb c d (f (leb-true a b e))) (λ e. le-leb a b (g (leb-true c d e)))
 
 -- ---- the inequalities over naturals, for a drift below 2,000,000
 
@@ -52,6 +57,44 @@ module _ (r : ℕ) (most : r ≤ maxDrift) where
       ∙ down-pos (4000000 * r + r * r) 4000000000000 fits
       ∙ ap pos coefficient-is in
       ap (λ (a : ℤ). leZ (pos (2 * c * (2000000 + r) * 1000000)) (pos R *ℤ a)) factor
+
+  -- 4·10^12 - 4·10^6·r - r² + 2,000,000(2,000,000+r) = (2,000,000-r)(2,000,000+r) + 2,000,000(2,000,000-r)
+  factors :
+      coefficient r + 2000000 * (2000000 + r) ≡ (2000000 - r) * (2000000 + r) + 2000000 * (2000000 - r)
+  factors =
+      let split = mul-add (2000000 - r) 2000000 r in
+      let whole : 2000000 - r + r ≡ 2000000 = omega arith in
+      let square : (2000000 - r) * r + r * r ≡ 2000000 * r = sym (add-mul (2000000 - r) r r) ∙ ap (λ (x : ℕ). x * r) whole in
+      let bound = square-le in
+      let is = coefficient-is in
+      omega arith
+
+  -- the second, with every R where the paper has it
+  pub starts-raced : (c R : ℕ)
+      → startsWithin c r R
+      ≡ leb
+      ((R + c) * (2000000 * (2000000 + r)))
+      (R * ((2000000 - r) * (2000000 + r)) + R * (2000000 * (2000000 - r)))
+  unfolding needed
+  starts-raced c R =
+      let multiplied =
+      sym (mul-add R (coefficient r) (2000000 * (2000000 + r)))
+      ∙ ap (λ (x : ℕ). R * x) factors
+      ∙ mul-add R ((2000000 - r) * (2000000 + r)) (2000000 * (2000000 - r)) in
+      let both = add-mul R c (2000000 * (2000000 + r)) in
+      let behind : c * (2000000 * (2000000 + r)) ≡ 2 * c * (2000000 + r) * 1000000 = behind-is c in
+      starts-natural c R
+      ∙ leb-same
+      (2 * c * (2000000 + r) * 1000000) (R * coefficient r)
+      ((R + c) * (2000000 * (2000000 + r)))
+      (R * ((2000000 - r) * (2000000 + r)) + R * (2000000 * (2000000 - r)))
+      (λ l. omega arith) (λ l. omega arith)
+    where
+      behind-is : (c : ℕ) → c * (2000000 * (2000000 + r)) ≡ 2 * c * (2000000 + r) * 1000000
+      behind-is c =
+          let twice = mul-assoc 2 c (2000000 + r) in
+          let moved = mul-left-comm c 2000000 (2000000 + r) in
+          omega arith
 
   -- ---- what meets each of them, for an R of at least 1
 

@@ -4,32 +4,25 @@
 use mathlib.Core.Bool.{true}
 use mathlib.Core.Path.{_≡_, refl, sym, ap, ap₂, _∙_, subst⁻¹}
 use Prim.Native.Nat.{ℕ, _+_, _*_, _-_, _≤_, _<_}
-use native.Mathlib.Nat.{mul-one, one-mul, mul-comm, mul-assoc, mul-left-comm, mul-right-comm, mul-add, add-mul, mul-pos}
+use native.Mathlib.Nat.{mul-one, one-mul, mul-comm, mul-assoc, mul-left-comm, mul-pos}
 use native.Mathlib.Omega.{arith}
-use borrow.Author.Tests.{le-leb, leb-true, lt-ltb}
+use borrow.Author.Tests.{lt-ltb}
 use lib.Dec.{leb, ltb}
 use lib.IntN.{ℤ, pos, natAbs, _+ℤ_, _-ℤ_, _*ℤ_}
 use lib.Signed.{leZ}
 use Rattle.arithmetic.specs.Naturals.{down}
-use Rattle.arithmetic.proofs.Bools.{iff-eq}
 use Rattle.arithmetic.proofs.Shift.{down-pos, sub-pos, mul-down, pos-le-down, down-le-pos}
 use Rattle.interval.specs.Interval.{maxDrift, staysWithin, startsWithin}
-use Rattle.interval.specs.Formula.{coefficient, needed}
 use Rattle.interval.specs.Fractions.{Fraction, whole, plus, minus, times, over, atMost, isPositive, driftOf, two}
 use Rattle.interval.specs.Fractions.{longest, behind, apart, paperFirst, paperSecond, paperDrift}
 use Rattle.interval.specs.Fractions.{Quotients, Alike, PaperInequalities}
-use Rattle.interval.proofs.Formula.{stays-natural, starts-natural, coefficient-is, square-le}
+use Rattle.interval.proofs.Formula.{leb-same, stays-natural, starts-raced}
 
 abbrev million : ℕ
 million = 1000000
 
 abbrev of : ℤ → ℕ → Fraction
 of t b = record { top = t; bottom = b }
-
--- two comparisons of naturals are one where each follows from the other
-leb-same : (a b c d : ℕ) → (a ≤ b → c ≤ d) → (c ≤ d → a ≤ b) → leb a b ≡ leb c d
-leb-same a b c d f g =
-    iff-eq (leb a b) (leb c d) (λ e. le-leb c d (f (leb-true a b e))) (λ e. le-leb a b (g (leb-true c d e)))
 
 module _ (r : ℕ) (some : 1 ≤ r) (most : r ≤ maxDrift) where
   abbrev slow : ℕ
@@ -121,48 +114,25 @@ module _ (r : ℕ) (some : 1 ≤ r) (most : r ≤ maxDrift) where
         ∙ sub-pos (2 * (R + c) * million * fast) (2 * R * million * slow))
         (ap₂ (λ (x y : ℕ). x * y) (one-mul slow) (one-mul fast))
 
-    -- 4·10^12 - 4·10^6·r - r² + 2,000,000(2,000,000+r) = (2,000,000-r)(2,000,000+r) + 2,000,000(2,000,000-r)
-    factors : coefficient r + 2000000 * fast ≡ slow * fast + 2000000 * slow
-    factors =
-        let split = mul-add slow 2000000 r in
-        let whole : slow + r ≡ 2000000 = omega arith in
-        let square : slow * r + r * r ≡ 2000000 * r = sym (add-mul slow r r) ∙ ap (λ (x : ℕ). x * r) whole in
-        let bound = square-le r most in
-        let is = coefficient-is r most in
-        omega arith
-
     second-same : paperSecond c r R ≡ startsWithin c r R
-    unfolding atMost whole needed
+    unfolding atMost whole
     second-same =
         ap (λ (f : Fraction). atMost f (whole R)) behind-is
         ∙ ap (λ (z : ℤ). leZ z (pos (R * (slow * fast)))) (mul-down (2 * R * million * slow) (2 * (R + c) * million * fast) 1)
         ∙ down-le-pos (2 * R * million * slow * 1) (2 * (R + c) * million * fast * 1) (R * (slow * fast))
-        ∙ (let multiplied =
-        sym (mul-add R (coefficient r) (2000000 * fast))
-        ∙ ap (λ (x : ℕ). R * x) factors
-        ∙ mul-add R (slow * fast) (2000000 * slow) in
-        let slower : 2 * R * million * slow ≡ R * (2000000 * slow) = slower-is in
-        let faster : 2 * (R + c) * million * fast ≡ R * (2000000 * fast) + 2 * c * fast * million = faster-is in
+        ∙ (let slower = doubled R slow in
+        let faster = doubled (R + c) fast in
         leb-same
         (2 * (R + c) * million * fast * 1) (R * (slow * fast) + 2 * R * million * slow * 1)
-        (2 * c * fast * million) (R * coefficient r)
+        ((R + c) * (2000000 * fast)) (R * (slow * fast) + R * (2000000 * slow))
         (λ l. omega arith) (λ l. omega arith))
-        ∙ sym (starts-natural r most c R)
+        ∙ sym (starts-raced r most c R)
       where
-        slower-is : 2 * R * million * slow ≡ R * (2000000 * slow)
-        slower-is = ap (λ (x : ℕ). x * slow) go ∙ mul-assoc R 2000000 slow
+        doubled : (x rate : ℕ) → 2 * x * million * rate ≡ x * (2000000 * rate)
+        doubled x rate = ap (λ (y : ℕ). y * rate) (go x) ∙ mul-assoc x 2000000 rate
           where
-            go : 2 * R * million ≡ R * 2000000
-            go = omega arith
-
-        faster-is : 2 * (R + c) * million * fast ≡ R * (2000000 * fast) + 2 * c * fast * million
-        faster-is =
-            ap (λ (x : ℕ). x * fast) go
-            ∙ add-mul (R * 2000000) (2 * c * million) fast
-            ∙ ap₂ (λ (x y : ℕ). x + y) (mul-assoc R 2000000 fast) (mul-right-comm (2 * c) million fast)
-          where
-            go : 2 * (R + c) * million ≡ R * 2000000 + 2 * c * million
-            go = omega arith
+            go : (x : ℕ) → 2 * x * million ≡ x * 2000000
+            go x = omega arith
 
   -- ---- what is divided by, and what stands below a line
 

@@ -1,4 +1,5 @@
 pub mod Formula
 pub mod Guarantee
 pub mod Fractions
+pub mod Clocks
 pub mod Cases

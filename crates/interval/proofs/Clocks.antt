@@ -1,0 +1,181 @@
+-- Each of the two inequalities holds just where its sentence on clocks does. One way the clocks' bounds are multiplied
+-- out; the other way the slowest and the fastest clock are taken.
+-- Assumes nothing.
+use mathlib.Core.Bool.{true}
+use mathlib.Core.Path.{_≡_, sym, ap, _∙_}
+use Prim.Native.Nat.{ℕ, _+_, _*_, _-_, _≤_, _<_, zero-le}
+use native.Mathlib.Nat.{le-refl, le-trans, le-of-eq, mul-comm, mul-assoc, mul-left-comm, mul-add, add-mul, mul-pos}
+use native.Mathlib.Nat.{mul-le-mul-left, mul-le-mul-right, le-of-mul-le-mul-left}
+use native.Mathlib.Omega.{arith}
+use borrow.Author.Tests.{le-leb, leb-true}
+use Rattle.interval.specs.Interval.{maxDrift, staysWithin, startsWithin}
+use Rattle.interval.specs.Clocks.{Rated, StaysTogether, StartsTogether, KeptWhere, ClocksKept}
+use Rattle.interval.proofs.Formula.{stays-natural, starts-raced}
+
+module _ (r : ℕ) (some : 1 ≤ r) (most : r ≤ maxDrift) where
+  abbrev slow : ℕ
+  slow = 2000000 - r
+
+  abbrev fast : ℕ
+  fast = 2000000 + r
+
+  some-slow : 0 < slow
+  some-slow = omega arith
+
+  -- what the rates are of any number
+  slow-of : (T : ℕ) → slow * T + r * T ≡ 2000000 * T
+  slow-of T = sym (add-mul slow r T) ∙ ap (λ (x : ℕ). x * T) whole
+    where
+      whole : slow + r ≡ 2000000
+      whole = omega arith
+
+  fast-of : (T : ℕ) → fast * T ≡ 2000000 * T + r * T
+  fast-of T = add-mul 2000000 r T
+
+  -- ---- the first inequality
+
+  module _ (δ c R : ℕ) where
+    first-of : staysWithin δ c r R ≡ true → 2 * r * R + c * slow ≤ δ * slow
+    first-of e =
+        leb-true (2 * r * R + c * slow) (δ * slow) (sym (stays-natural δ c r R (omega arith)) ∙ e)
+
+    -- k times a number at the slow rate, a million times over
+    spread-out : (k n : ℕ) → slow * (1000000 * (k * n)) ≡ 1000000 * (k * (n * slow))
+    spread-out k n =
+        mul-left-comm slow 1000000 (k * n)
+        ∙ ap (λ (x : ℕ). 1000000 * x) (mul-left-comm slow k n ∙ ap (λ (x : ℕ). k * x) (mul-comm slow n))
+
+    gone : (k : ℕ) → r * (2000000 * (k * R)) ≡ 1000000 * (k * (2 * r * R))
+    gone k =
+        let moved = mul-left-comm r 2000000 (k * R) in
+        let inner = mul-left-comm r k R in
+        let twice : k * (2 * r * R) ≡ 2 * (k * (r * R)) =
+        ap (λ (x : ℕ). k * x) (mul-assoc 2 r R) ∙ mul-left-comm k 2 (r * R) in
+        let scaled = ap (λ (x : ℕ). 2000000 * x) inner in
+        omega arith
+
+    drifted : (k T a : ℕ) → 2 * r * R + c * slow ≤ δ * slow → slow * T ≤ 2000000 * a → a ≤ k * R
+        → r * T + 1000000 * (k * c) ≤ 1000000 * (k * δ)
+    drifted k T a l rate early =
+        let clock : r * (slow * T) ≤ r * (2000000 * (k * R)) =
+        mul-le-mul-left r (le-trans rate (mul-le-mul-left 2000000 early)) in
+        let moved = mul-left-comm slow r T in
+        let is = gone k in
+        let near = spread-out k c in
+        let far = spread-out k δ in
+        let times : k * (2 * r * R + c * slow) ≤ k * (δ * slow) = mul-le-mul-left k l in
+        let split = mul-add k (2 * r * R) (c * slow) in
+        let sum = mul-add slow (r * T) (1000000 * (k * c)) in
+        le-of-mul-le-mul-left {k = slow} (omega arith) some-slow
+
+    stays-so : staysWithin δ c r R ≡ true → StaysTogether δ c r R
+    stays-so e k T x y a b hx hy p q early =
+        let room = drifted k T a (first-of e) (p .slowest) early in
+        let slowly = slow-of T in
+        let fastly = fast-of T in
+        let slowest = p .slowest in
+        let fastest = p .fastest in
+        let slowest-other = q .slowest in
+        let fastest-other = q .fastest in
+        (omega arith, omega arith)
+
+    -- the slowest clock goes (2,000,000-r)R, the fastest (2,000,000+r)R, in 2,000,000-r parts of a tick
+    stays-only : StaysTogether δ c r R → staysWithin δ c r R ≡ true
+    stays-only h =
+        let a = slow * R in
+        let b = fast * R in
+        let T = 2000000 * R in
+        let slowly = slow-of R in
+        let fastly = fast-of R in
+        let of-slow = mul-left-comm slow 2000000 R in
+        let of-fast = mul-left-comm fast 2000000 R in
+        let p : Rated r T a = record { slowest = omega arith; fastest = omega arith } in
+        let q : Rated r T b = record { slowest = omega arith; fastest = omega arith } in
+        let end = h slow T 0 (slow * c) a b zero-le (omega arith) p q (le-refl (slow * R)) .1 in
+        let near = mul-comm slow c in
+        let far = mul-comm slow δ in
+        let twice = mul-assoc 2 r R in
+        stays-natural δ c r R (omega arith) ∙ le-leb (2 * r * R + c * slow) (δ * slow) (omega arith)
+
+  -- ---- the second inequality
+
+  module _ (c R : ℕ) where
+    second-of : startsWithin c r R ≡ true → (R + c) * (2000000 * fast) ≤ R * (slow * fast) + R * (2000000 * slow)
+    second-of e =
+        leb-true ((R + c) * (2000000 * fast)) (R * (slow * fast) + R * (2000000 * slow)) (sym (starts-raced r most c R) ∙ e)
+
+    -- k times a number at a rate, 2,000,000 times over
+    raced : (k n rate : ℕ) → rate * (2000000 * (k * n)) ≡ k * (n * (2000000 * rate))
+    raced k n rate =
+        mul-left-comm rate 2000000 (k * n)
+        ∙ ap (λ (x : ℕ). 2000000 * x) (mul-left-comm rate k n ∙ ap (λ (x : ℕ). k * x) (mul-comm rate n))
+        ∙ mul-left-comm 2000000 k (n * rate)
+        ∙ ap (λ (x : ℕ). k * x) (mul-left-comm 2000000 n rate)
+
+    starts-so : startsWithin c r R ≡ true → StartsTogether c r R
+    starts-so e k S T a b p early q late =
+        let slower : fast * (slow * T) ≤ fast * (2000000 * (k * (R + c))) =
+        mul-le-mul-left fast (le-trans (p .slowest) (mul-le-mul-left 2000000 early)) in
+        let faster : slow * (2000000 * (k * R)) ≤ slow * (fast * S) =
+        mul-le-mul-left slow (le-trans (mul-le-mul-left 2000000 late) (q .fastest)) in
+        let times = mul-le-mul-left k (second-of e) in
+        let split = mul-add k (R * (slow * fast)) (R * (2000000 * slow)) in
+        let first = raced k (R + c) fast in
+        let second = raced k R slow in
+        let left : slow * fast * T ≡ fast * (slow * T) = mul-assoc slow fast T ∙ mul-left-comm slow fast T in
+        let right : slow * fast * (S + k * R) ≡ slow * (fast * S) + k * (R * (slow * fast)) = right-is k S in
+        le-of-mul-le-mul-left {k = slow * fast} (omega arith) (mul-pos some-slow (omega arith))
+      where
+        right-is : (k S : ℕ) → slow * fast * (S + k * R) ≡ slow * (fast * S) + k * (R * (slow * fast))
+        right-is k S =
+            let both = mul-add (slow * fast) S (k * R) in
+            let one = mul-assoc slow fast S in
+            let other = mul-left-comm (slow * fast) k R ∙ ap (λ (x : ℕ). k * x) (mul-comm (slow * fast) R) in
+            omega arith
+
+    -- the slowest clock goes R + c and the fastest R, in (2,000,000-r)(2,000,000+r) parts of a tick
+    starts-only : StartsTogether c r R → startsWithin c r R ≡ true
+    starts-only h =
+        let k = slow * fast in
+        let end = h k (2000000 * (slow * R)) (2000000 * (fast * (R + c))) (k * (R + c)) (k * R)
+        slowly (le-refl (k * (R + c))) fastly (le-refl (k * R)) in
+        let first = mul-left-comm (R + c) 2000000 fast ∙ ap (λ (x : ℕ). 2000000 * x) (mul-comm (R + c) fast) in
+        let second = mul-left-comm R 2000000 slow ∙ ap (λ (x : ℕ). 2000000 * x) (mul-comm R slow) in
+        let product = mul-comm k R in
+        starts-raced r most c R
+        ∙ le-leb ((R + c) * (2000000 * fast)) (R * (slow * fast) + R * (2000000 * slow)) (omega arith)
+      where
+        -- a clock that goes n at one rate, counted at the other
+        at-slow : (n : ℕ) → slow * (2000000 * (fast * n)) ≡ 2000000 * (slow * fast * n)
+        at-slow n = mul-left-comm slow 2000000 (fast * n) ∙ ap (λ (x : ℕ). 2000000 * x) (sym (mul-assoc slow fast n))
+
+        at-fast : (n : ℕ) → fast * (2000000 * (slow * n)) ≡ 2000000 * (slow * fast * n)
+        at-fast n =
+            mul-left-comm fast 2000000 (slow * n)
+            ∙ ap (λ (x : ℕ). 2000000 * x) (mul-left-comm fast slow n ∙ sym (mul-assoc slow fast n))
+
+        wider : (n : ℕ) → slow * n ≤ fast * n
+        wider n = mul-le-mul-right n (omega arith)
+
+        slowly : Rated r (2000000 * (fast * (R + c))) (slow * fast * (R + c))
+        slowly =
+            record {
+              slowest = le-of-eq (at-slow (R + c));
+              fastest = le-trans (le-of-eq (sym (at-slow (R + c)))) (wider (2000000 * (fast * (R + c))));
+            }
+
+        fastly : Rated r (2000000 * (slow * R)) (slow * fast * R)
+        fastly =
+            record {
+              slowest = le-trans (wider (2000000 * (slow * R))) (le-of-eq (at-fast R));
+              fastest = le-of-eq (sym (at-fast R));
+            }
+
+pub clocks-kept : ClocksKept
+clocks-kept δ c r R some most =
+    record {
+      stays = stays-so r some most δ c R;
+      staysOnly = stays-only r some most δ c R;
+      starts = starts-so r some most c R;
+      startsOnly = starts-only r some most c R;
+    }

@@ -1,0 +1,38 @@
+-- Beyond what document 02 asks: what the two inequalities are for. Section 4.1 of document 004 argues it of sound clocks;
+-- here both are said of any such clocks, whose rates may change, and each inequality holds just where its sentence does.
+-- The theorem is `clocks-kept` of proofs/Clocks.antt. Readings and times are counted in k-ths of a tick, for every k, so
+-- that they are any fractions of one.
+--   Rated            what a sound clock goes in a true time
+--   StaysTogether    two clocks, at most c apart, are at most δ apart until one of them has gone R
+--   StartsTogether   a clock that is at most c behind comes to its next round at most R, in true time, after another
+--   KeptWhere        each of the two inequalities holds just where its sentence does
+--   ClocksKept       of every drift in its range; so for the whole of an interval that is granted, and for no other R
+use mathlib.Core.Bool.{true}
+use mathlib.Core.Path.{_≡_}
+use Prim.Native.Nat.{ℕ, _+_, _*_, _-_, _≤_}
+use Rattle.interval.specs.Interval.{maxDrift, staysWithin, startsWithin}
+
+-- "Rate Restriction: |dc/dt - 1| < ρ/2", of a clock that goes a in the true time T; it may be ρ/2
+pub record Rated (r T a : ℕ) : Type 0 where
+  pub slowest : (2_000_000 - r) * T ≤ 2_000_000 * a
+  pub fastest : 2_000_000 * a ≤ (2_000_000 + r) * T
+
+-- the clocks read x and y at the start, and go a and b
+abbrev pub StaysTogether : ℕ → ℕ → ℕ → ℕ → Type 0
+StaysTogether δ c r R =
+    (k T x y a b : ℕ) → x ≤ y + k * c → y ≤ x + k * c → Rated r T a → Rated r T b → a ≤ k * R
+    → (x + a ≤ y + b + k * δ) × (y + b ≤ x + a + k * δ)
+
+-- the one goes at most R + c in the true time T, the other at least R in the true time S
+abbrev pub StartsTogether : ℕ → ℕ → ℕ → Type 0
+StartsTogether c r R =
+    (k S T a b : ℕ) → Rated r T a → a ≤ k * (R + c) → Rated r S b → k * R ≤ b → T ≤ S + k * R
+
+pub record KeptWhere (δ c r R : ℕ) : Type 0 where
+  pub stays : staysWithin δ c r R ≡ true → StaysTogether δ c r R
+  pub staysOnly : StaysTogether δ c r R → staysWithin δ c r R ≡ true
+  pub starts : startsWithin c r R ≡ true → StartsTogether c r R
+  pub startsOnly : StartsTogether c r R → startsWithin c r R ≡ true
+
+abbrev pub ClocksKept : Type 0
+ClocksKept = (δ c r R : ℕ) → 1 ≤ r → r ≤ maxDrift → KeptWhere δ c r R

@@ -6,8 +6,8 @@
     tests/figures.py text K      what refusal K means
     tests/figures.py version     the version; number: as one number
 
-Numbers are read from crates/model/specs, crates/trace/specs and crates/version/specs, the numbers of refusal from the table of crates/model/specs/Refusals.antt
-(the checks 13 to 15 stand in crates/trace/specs, the others in crates/model/specs), and what each means from README's table.
+Numbers are read from crates/model/specs, crates/trace/specs, crates/interval/specs and crates/version/specs, the numbers of refusal from the table of
+crates/model/specs/Refusals.antt (the checks 13 to 15 stand in crates/trace/specs, 17 and 18 in crates/interval/specs), and what each means from README's table.
 """
 
 import pathlib
@@ -17,6 +17,7 @@ import sys
 ROOT = pathlib.Path(__file__).resolve().parent.parent
 MODEL = ROOT / "crates" / "model" / "specs"
 TRACE = ROOT / "crates" / "trace" / "specs"
+INTERVAL = ROOT / "crates" / "interval" / "specs"
 
 
 def text(path):
@@ -36,9 +37,10 @@ def defined(path, line):
 
 
 FIGURES = {}
-for page in sorted(MODEL.glob("*.antt")):
-    FIGURES.update(numbers(page))
+for page in ("Ensemble", "RoundSheet", "AnswerSheet", "Planner"):
+    FIGURES.update(numbers(MODEL / f"{page}.antt"))
 FIGURES.update(numbers(TRACE / "Trace.antt"))
+FIGURES.update(numbers(INTERVAL / "Interval.antt"))
 
 VERSION = numbers(ROOT / "crates" / "version" / "specs" / "Version.antt")
 
@@ -80,7 +82,7 @@ def refusals():
     checks = re.findall(r"^(\w+)Number = (\d+)$", page, flags=re.M)
     if [int(number) for _, number in checks] != list(range(1, 19)):
         sys.exit("figures: crates/model/specs/Refusals.antt does not have the numbers 1 to 18")
-    pages = "".join(text(path) for path in (*sorted(MODEL.glob("*.antt")), TRACE / "Replay.antt"))
+    pages = page + text(TRACE / "Replay.antt") + text(INTERVAL / "Interval.antt")
     for name, _ in checks:
         if not re.search(rf"^unfoldable pub {name} :", pages, flags=re.M) or not re.search(rf"(?<!= )\b{name}Number\b(?! [:=])", pages):
             sys.exit(f"figures: no page defines the check {name} with its number")

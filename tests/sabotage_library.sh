@@ -15,7 +15,7 @@ fresh() {
     rm -rf "$room/copy"
     mkdir -p "$room/copy/target/staticlib"
     (cd "$top" && tar cf - --exclude=target include bindings examples/cables.* examples/interval.* tests README.md \
-        crates/model/specs crates/trace/specs crates/version/specs) | tar xf - -C "$room/copy"
+        crates/model/specs crates/trace/specs crates/interval/specs crates/version/specs) | tar xf - -C "$room/copy"
     printf '#!/usr/bin/env bash\necho "%s/target/staticlib"\n' "$top" >"$room/copy/tests/build_archive"
 }
 
@@ -124,7 +124,7 @@ sabotage "wrapper: mark and used value swapped" $wrapper "self.field_of(tohirang
 sabotage "wrapper: another version" bindings/rust/Cargo.toml 'version = "0.7.0"' 'version = "0.7.1"'
 sabotage "README: the text of refusal 8" README.md "| 8 | a mark is not 0 or 1;" "| 8 | a mark is not 1 or 2;"
 sabotage "definitions: a spread of 100001" crates/model/specs/Ensemble.antt "maxSpread = 100_000" "maxSpread = 100_001"
-sabotage "definitions: a drift of 2000" "$(cd "$top" && grep -l '^maxDrift = ' crates/model/specs/*.antt)" "maxDrift = 1" "maxDrift = 2"
+sabotage "definitions: a drift of 1001" crates/interval/specs/Interval.antt "maxDrift = 1_000" "maxDrift = 1_001"
 sabotage "definitions: 63 cabinets" crates/model/specs/Ensemble.antt "maxCabinets = 64" "maxCabinets = 63"
 
 echo "$tried sabotages tried"

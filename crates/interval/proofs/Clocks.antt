@@ -2,15 +2,18 @@
 -- out; the other way the slowest and the fastest clock are taken.
 -- Assumes nothing.
 use mathlib.Core.Bool.{true}
-use mathlib.Core.Path.{_≡_, sym, ap, _∙_}
+use mathlib.Core.Path.{_≡_, refl, sym, ap, _∙_}
 use Prim.Native.Nat.{ℕ, _+_, _*_, _-_, _≤_, _<_, zero-le}
 use native.Mathlib.Nat.{le-refl, le-trans, le-of-eq, mul-comm, mul-assoc, mul-left-comm, mul-add, add-mul, mul-pos}
 use native.Mathlib.Nat.{mul-le-mul-left, mul-le-mul-right, le-of-mul-le-mul-left}
 use native.Mathlib.Omega.{arith}
 use borrow.Author.Tests.{le-leb, leb-true}
-use Rattle.interval.specs.Interval.{maxDrift, staysWithin, startsWithin}
-use Rattle.interval.specs.Clocks.{Rated, StaysTogether, StartsTogether, KeptWhere, ClocksKept}
+use Rattle.model.specs.Planner.{ceilDiv}
+use Rattle.interval.specs.Interval.{maxDrift, staysWithin, startsWithin, outOfRange}
+use Rattle.interval.specs.Formula.{coefficient, needed, leastBy, greatestBy}
+use Rattle.interval.specs.Clocks.{Rated, StaysTogether, StartsTogether, KeptWhere, ClocksKept, NeverEarly, EarlyStart}
 use Rattle.interval.proofs.Formula.{stays-natural, starts-raced}
+use Rattle.interval.proofs.Guarantee.{in-range, interval-found}
 
 module _ (r : ℕ) (some : 1 ≤ r) (most : r ≤ maxDrift) where
   abbrev slow : ℕ
@@ -179,3 +182,67 @@ clocks-kept δ c r R some most =
       starts = starts-so r some most c R;
       startsOnly = starts-only r some most c R;
     }
+
+-- ---- a start that is early
+
+pub early-start : EarlyStart
+unfolding outOfRange coefficient needed leastBy greatestBy ceilDiv
+early-start =
+    record {
+      grants = interval-found 1000000 998998 1000 (in-range 1000000 998998 1000 refl) (omega arith);
+      early = λ h.
+          too-late
+          (h 1 1999999 2000497 1999497 2000998
+          (record { slowest = omega arith; fastest = omega arith })
+          (omega arith)
+          (record { slowest = omega arith; fastest = omega arith })
+          (omega arith));
+      enough = never-early;
+    }
+  where
+    too-late : 2000497 ≤ 1999999 → ⊥
+    too-late l = omega arith
+
+    never-early : (c r R : ℕ) → r ≤ maxDrift → c * (2000000 + r) ≤ R * (2000000 - 3 * r) → NeverEarly c r R
+    never-early c r R most l k S T a b p early q late =
+        let slow = 2000000 - r in
+        let fast = 2000000 + r in
+        let some-slow : 0 < slow = omega arith in
+        let slower : fast * (slow * T) ≤ fast * (2000000 * (k * (R + c))) =
+        mul-le-mul-left fast (le-trans (p .slowest) (mul-le-mul-left 2000000 early)) in
+        let faster : slow * (2000000 * (k * (R + R))) ≤ slow * (fast * S) =
+        mul-le-mul-left slow (le-trans (mul-le-mul-left 2000000 late) (q .fastest)) in
+        let ahead : (R + c) * fast ≤ (R + R) * slow = in-time in
+        let between : fast * (2000000 * (k * (R + c))) ≤ slow * (2000000 * (k * (R + R))) = doubled fast slow ahead in
+        let left = mul-assoc slow fast T ∙ mul-left-comm slow fast T in
+        let right = mul-assoc slow fast S in
+        le-of-mul-le-mul-left {k = slow * fast} (omega arith) (mul-pos some-slow (omega arith))
+      where
+        in-time : (R + c) * (2000000 + r) ≤ (R + R) * (2000000 - r)
+        in-time =
+            let both = add-mul R c (2000000 + r) in
+            let twice = add-mul R R (2000000 - r) in
+            let of-fast = mul-add R 2000000 r in
+            let of-slow : R * (2000000 - r) + R * r ≡ R * 2000000 =
+            sym (mul-add R (2000000 - r) r) ∙ ap (λ (x : ℕ). R * x) once in
+            let of-three : R * (2000000 - 3 * r) + R * (3 * r) ≡ R * 2000000 =
+            sym (mul-add R (2000000 - 3 * r) (3 * r)) ∙ ap (λ (x : ℕ). R * x) thrice in
+            let three = mul-left-comm R 3 r in
+            omega arith
+          where
+            once : 2000000 - r + r ≡ 2000000
+            once = omega arith
+
+            thrice : 2000000 - 3 * r + 3 * r ≡ 2000000
+            thrice = omega arith
+
+        doubled : (x y : ℕ) → (R + c) * x ≤ (R + R) * y → x * (2000000 * (k * (R + c))) ≤ y * (2000000 * (k * (R + R)))
+        doubled x y h =
+            let times = mul-le-mul-left (2000000 * k) h in
+            le-trans (le-of-eq (turned (R + c) x)) (le-trans times (le-of-eq (sym (turned (R + R) y))))
+          where
+            turned : (n rate : ℕ) → rate * (2000000 * (k * n)) ≡ 2000000 * k * (n * rate)
+            turned n rate =
+                mul-comm rate (2000000 * (k * n))
+                ∙ ap (λ (x : ℕ). x * rate) (sym (mul-assoc 2000000 k n))
+                ∙ mul-assoc (2000000 * k) n rate

@@ -7,10 +7,13 @@
 --   StartsTogether   a clock that is at most c behind comes to its next round at most R, in true time, after another
 --   KeptWhere        each of the two inequalities holds just where its sentence does
 --   ClocksKept       of every drift in its range; so for the whole of an interval that is granted, and for no other R
+--   NeverEarly       what the paper wants of the second: a clock that has gone R twice finds no other still in its first
+--   EarlyStart       the second inequality is not quite enough for that, by one case; and what is
 use mathlib.Core.Bool.{true}
 use mathlib.Core.Path.{_≡_}
 use Prim.Native.Nat.{ℕ, _+_, _*_, _-_, _≤_}
-use Rattle.interval.specs.Interval.{maxDrift, staysWithin, startsWithin}
+use Rattle.model.specs.Calls.{granted}
+use Rattle.interval.specs.Interval.{maxDrift, staysWithin, startsWithin, interval}
 
 -- "Rate Restriction: |dc/dt - 1| < ρ/2", of a clock that goes a in the true time T; it may be ρ/2
 pub record Rated (r T a : ℕ) : Type 0 where
@@ -36,3 +39,16 @@ pub record KeptWhere (δ c r R : ℕ) : Type 0 where
 
 abbrev pub ClocksKept : Type 0
 ClocksKept = (δ c r R : ℕ) → 1 ≤ r → r ≤ maxDrift → KeptWhere δ c r R
+
+-- "the processor with the slowest clock has started its i-1st clock by the time the processor with the fastest clock
+-- needs that value in order to start its ith clock". The paper compares with R in true time, in which a fast clock goes
+-- more than R
+abbrev pub NeverEarly : ℕ → ℕ → ℕ → Type 0
+NeverEarly c r R =
+    (k S T a b : ℕ) → Rated r T a → a ≤ k * (R + c) → Rated r S b → k * (R + R) ≤ b → T ≤ S
+
+pub record EarlyStart : Type 0 where
+  pub grants : interval 1_000_000 998_998 1000 ≡ granted (record { least = 1_000_499; greatest = 1_001_499 })
+  pub early : NeverEarly 998_998 1000 1_000_499 → ⊥
+  -- R ≥ c(2+ρ)/(2-3ρ)
+  pub enough : (c r R : ℕ) → r ≤ maxDrift → c * (2_000_000 + r) ≤ R * (2_000_000 - 3 * r) → NeverEarly c r R

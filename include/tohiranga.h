@@ -252,8 +252,8 @@ uint64_t tohiranga_target(struct tohiranga_settings settings, uint32_t accuracy,
  * TOHIRANGA_MAX_DRIFT. A sound clock's rate is within 1 - rho/2 and 1 + rho/2, so clocks that are good to 50 parts per million either
  * way have a drift of 100, and not of 50.
  * R ticks meet both limits where R <= (d - c)(2 - rho)/(2 rho), so that sound clocks drift no farther apart than the window, and
- * R >= 2(R + c)/(2 - rho) - 2R/(2 + rho), so that a fast cabinet does not start anew before the slowest has taken over what the
- * rounds before gave. They are compared over whole numbers, without loss. The time that the rounds themselves take, and errors of
+ * R >= 2(R + c)/(2 - rho) - 2R/(2 + rho), so that the slowest clock, c behind, comes to its next rounds at most R, in true time,
+ * after the fastest. They are compared over whole numbers, without loss. The time that the rounds themselves take, and errors of
  * reading a clock, are in neither. */
 struct tohiranga_interval tohiranga_interval(uint32_t window, uint32_t precision, uint32_t drift);
 

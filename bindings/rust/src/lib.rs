@@ -353,6 +353,7 @@ pub fn settle_spread(sheet: &[u8], spread: u32, answer: &mut [u8]) -> Result<usi
 /// assert_eq!(ticks.greatest / u64::from(TICKS_PER_SECOND), 8);
 /// # Ok::<(), tohiranga::Refusal>(())
 /// ```
+#[inline]
 pub fn interval(window: u32, precision: u32, drift: u32) -> Result<Interval, Refusal> {
     // SAFETY: no pointer is handed over.
     let given = unsafe { tohiranga_interval(window, precision, drift) };

@@ -11,8 +11,9 @@
 --   GrantsBelow    the answers of all calls do
 --   ReplayBelow    the answers of replays do
 --   SpreadBelow    the answers of settling with a spread do
---   IntervalTold   the answer of the call for the interval does, with refusals 1 to 18: it is 0 beside an interval, which
---                  is at least 1, and a refusal beside zeros
+--   IntervalTells  the answer of the call for the interval does, with refusals 1 to 18: it is 0 beside an interval of
+--                  at least 1, and a refusal beside zeros
+--   IntervalTold   all answers of that call do
 --   RowNamed       the answer of the row call names the row's bytes, inside the sheet
 use mathlib.Core.List.{List}
 use mathlib.Core.Path.{_≡_}

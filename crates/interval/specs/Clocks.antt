@@ -1,13 +1,13 @@
--- Beyond what document 02 asks: what the two inequalities are for. Section 4.1 of document 004 argues it of sound clocks;
--- here both are said of any such clocks, whose rates may change, and each inequality holds just where its sentence does.
--- The theorem is `clocks-kept` of proofs/Clocks.antt. Readings and times are counted in k-ths of a tick, for every k, so
--- that they are any fractions of one.
+-- Beyond what document 02 asks: what the two inequalities are for. Section 4.1 of document 004 argues it of sound
+-- clocks; here both are said of all such clocks, whose rates may change, and each inequality holds just where its
+-- sentence does. The theorems are `clocks-kept` and `early-start` of proofs/Clocks.antt. Readings and times are counted
+-- in k-ths of a tick, for every k, so that they are any fractions of one.
 --   Rated            what a sound clock goes in a true time
 --   StaysTogether    two clocks, at most c apart, are at most δ apart until one of them has gone R
 --   StartsTogether   a clock that is at most c behind comes to its next round at most R, in true time, after another
 --   KeptWhere        each of the two inequalities holds just where its sentence does
 --   ClocksKept       of every drift in its range; so for the whole of an interval that is granted, and for no other R
---   NeverEarly       what the paper wants of the second: a clock that has gone R twice finds no other still in its first
+--   NeverEarly       what the paper wants of the second: a clock that has gone R twice finds no other in its first
 --   EarlyStart       the second inequality is not quite enough for that, by one case; and what is
 use mathlib.Core.Bool.{true}
 use mathlib.Core.Path.{_≡_}

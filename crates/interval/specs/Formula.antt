@@ -1,5 +1,5 @@
--- INNER: no reader needs this page to believe a public promise. How the code finds the least and the greatest R. The laws
--- of proofs/Formula.antt say that these are the interval of Interval.antt.
+-- INNER: no reader needs this page to believe a public promise. How the code finds the least and the greatest R. The
+-- laws of proofs/Formula.antt and proofs/Guarantee.antt say that these are the interval of Interval.antt.
 --   coefficient    what R is multiplied by in the second inequality, which is above 0 for a drift in its range
 --   needed         what that product must reach
 --   leastBy        the quotient rounded up, and 1 where that is 0

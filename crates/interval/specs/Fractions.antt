@@ -1,6 +1,6 @@
--- Document 02, "Paper 6. How long between rounds": the paper's two inequalities over exact fractions, as document 02 and
--- section 4.1 of document 004 write them. The theorem `paper-inequalities` of proofs/Fractions.antt says that the whole
--- numbers of Interval.antt compare alike.
+-- Document 02, "Paper 6. How long between rounds": the paper's two inequalities over exact fractions, as document 02
+-- and section 4.1 of document 004 write them. The theorem `paper-inequalities` of proofs/Fractions.antt says that the
+-- whole numbers of Interval.antt compare alike.
 --   Fraction                    a whole number over a number, which is above 0 in every fraction that is compared
 --   whole                       a whole number as a fraction
 --   plus, minus, times, over    sum, difference, product; the quotient by a fraction above 0
@@ -9,7 +9,7 @@
 --   paperFirst, paperSecond     the inequalities
 --   paperDrift                  the first as the paper first writes it, "CONV(δ) + 2Rρ/(2-ρ) ≤ δ"
 --   Quotients                   what they divide by is above 0, and so is each number below a line
---   PaperInequalities           the statement
+--   Alike, PaperInequalities    the statement, of one R; of every R
 use mathlib.Core.Bool.{Bool, true}
 use mathlib.Core.Path.{_≡_}
 use Prim.Native.Nat.{ℕ, _*_, _≤_, _<_}

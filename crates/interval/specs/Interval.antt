@@ -3,7 +3,7 @@
 -- whole numbers, without loss"; Fractions.antt has the paper's fractions, and the theorem that they are the same.
 --   maxPrecision, maxDrift    "precision c (0 to 1,000,000) and drift ρ of 1 to 1,000 parts per million"
 --   staysWithin               the first inequality: in R the clocks drift no farther apart than the window
---   startsWithin              the second: the slowest clock, c behind, comes to its next round at most R after the fastest
+--   startsWithin              the second: the slowest clock, c behind, comes to its next round at most R after another
 --   meets                     "whole R of at least 1 tick meeting both"
 --   searched                  R is searched for below this. Guarantee.antt says that no R from here on meets both
 --   outOfRange, badInterval   check 17

@@ -1,5 +1,6 @@
 /* How long between rounds: from a station's settings to the precision after one round or more, and from that to the interval. Every
- * cabinet starts so many rounds anew each time an interval has passed on its own clock. docs/INTERVAL.md says what the numbers mean.
+ * cabinet starts so many rounds anew each time its clock, as the rounds have set it, reads an interval more. docs/INTERVAL.md says
+ * what the numbers mean.
  * Ends with 1 where the planner refuses.
  *
  *     gcc -Iinclude examples/interval.c target/staticlib/libtohiranga.a -o interval && ./interval

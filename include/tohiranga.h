@@ -37,7 +37,8 @@
  *   16   give a spread of at most TOHIRANGA_MAX_SPREAD with rule 0, and of 0 with the others
  *   17   give a window of at most TOHIRANGA_MAX_WINDOW and a precision of at most TOHIRANGA_MAX_PRECISION ticks, and a drift of 1 to
  *        TOHIRANGA_MAX_DRIFT parts per million
- *   18   widen the window, or do more rounds at a time, which narrows the precision, or use clocks that drift less
+ *   18   widen the window, or do more rounds at a time, which narrows the precision; where the window is wider than the precision,
+ *        clocks that drift less help too
  */
 #ifndef TOHIRANGA_H
 #define TOHIRANGA_H
@@ -246,13 +247,14 @@ uint64_t tohiranga_target(struct tohiranga_settings settings, uint32_t accuracy,
 /* How long between rounds: the least and the greatest whole number of ticks, of at least 1, that meets both limits below; every whole
  * number between them does too. Answers 0. Refuses under 17, and then 18. The greatest can take more than 32 bits.
  *
- * Every cabinet starts a round, or several in a row, each time that many ticks have passed on its own clock. The window d is that of
- * the first of these rounds, 0 to TOHIRANGA_MAX_WINDOW ticks. The precision c, 0 to TOHIRANGA_MAX_PRECISION ticks, is how far apart
+ * Every cabinet starts a round, or several in a row, each time its clock, as the rounds have set it, reads that many ticks more: at
+ * the readings X, X + R, X + 2R and so on, the same at all cabinets. (Timers that no round sets would drift apart without end.) The
+ * window d is that of the first of these rounds, 0 to TOHIRANGA_MAX_WINDOW ticks. The precision c, 0 to TOHIRANGA_MAX_PRECISION ticks, is how far apart
  * they leave sound clocks at most: the window of tohiranga_plan after them. The drift is rho in parts per million, 1 to
  * TOHIRANGA_MAX_DRIFT. A sound clock's rate is within 1 - rho/2 and 1 + rho/2, so clocks that are good to 50 parts per million either
  * way have a drift of 100, and not of 50.
- * R ticks meet both limits where R <= (d - c)(2 - rho)/(2 rho), so that sound clocks drift no farther apart than the window, and
- * R >= 2(R + c)/(2 - rho) - 2R/(2 + rho), so that the slowest clock, c behind, comes to its next rounds at most R, in true time,
+ * R ticks meet both limits where R <= (d - c)(2 - rho)/(2 rho), so that two sound clocks are no farther apart than the window until
+ * the slower has gone R ticks, and R >= 2(R + c)/(2 - rho) - 2R/(2 + rho), so that the slowest clock, c behind, comes to its next rounds at most R, in true time,
  * after the fastest. They are compared over whole numbers, without loss. The time that the rounds themselves take, and errors of
  * reading a clock, are in neither. */
 struct tohiranga_interval tohiranga_interval(uint32_t window, uint32_t precision, uint32_t drift);

@@ -337,8 +337,8 @@ pub fn settle_spread(sheet: &[u8], spread: u32, answer: &mut [u8]) -> Result<usi
     })
 }
 
-/// How long between rounds, where every cabinet starts anew each time so many ticks have passed on its own clock. The window
-/// is that of the first round, the precision how far apart the rounds leave sound clocks at most: the window of the plan after
+/// How long between rounds, where every cabinet starts anew each time its clock, as the rounds have set it, reads so many ticks
+/// more, at the same readings everywhere. The window is that of the first round, the precision how far apart the rounds leave sound clocks at most: the window of the plan after
 /// them. The drift, 1 to `MAX_DRIFT` parts per million, is twice what a clock's rate may be wrong either way: clocks that are
 /// good to 50 parts per million have a drift of 100. Refused under 17, and under 18 where no interval meets both limits of
 /// include/tohiranga.h.

@@ -11,9 +11,9 @@
 --   GrantsBelow    the answers of all calls do
 --   ReplayBelow    the answers of replays do
 --   SpreadBelow    the answers of settling with a spread do
---   IntervalTells  the answer of the call for the interval does, with refusals 1 to 18: it is 0 beside an interval of
---                  at least 1, and a refusal beside zeros
---   IntervalTold   all answers of that call do
+--   IntervalTells  the call for the interval answers 0 beside the least and the greatest, of which the least is at
+--                  least 1 and no greater than the other; or refusal 17 or 18, of place 0, beside zeros
+--   IntervalTold   all answers of that call are such
 --   RowNamed       the answer of the row call names the row's bytes, inside the sheet
 use mathlib.Core.List.{List}
 use mathlib.Core.Path.{_≡_}
@@ -86,10 +86,25 @@ SpreadBelow =
     (s : List ℕ) (D : ℕ) (answer : List ℕ)
     → SpreadTells (settleSpread s D answer .verdict) (packed (settleSpread s D answer .verdict))
 
--- "The answer is 0 where there is one"; "beside a refusal both are 0"
+-- "the least and the greatest whole number of ticks, of at least 1"; "Answers 0. Refuses under 17, and then 18"; after
+-- a refusal "both ends of an interval are 0"
+pub record IntervalGiven (i : Interval) (s : Scheduling) : Type 0 where
+  pub answer : s .answer ≡ 0
+  pub least : s .least ≡ i .least
+  pub greatest : s .greatest ≡ i .greatest
+  pub some : 1 ≤ s .least
+  pub ordered : s .least ≤ s .greatest
+
+pub record IntervalRefused (r : Refusal) (s : Scheduling) : Type 0 where
+  pub refuses : Refuses 18 r (s .answer)
+  pub of-interval : 17 ≤ r .number
+  pub nowhere : r .place ≡ 0
+  pub noLeast : s .least ≡ 0
+  pub noGreatest : s .greatest ≡ 0
+
 abbrev pub IntervalTells : Verdict Interval → Scheduling → Type 0
-IntervalTells (granted i) s = (s .answer ≡ 0) × ((1 ≤ s .least) × (s .least ≤ s .greatest))
-IntervalTells (refused r) s = Refuses 18 r (s .answer) × ((s .least ≡ 0) × (s .greatest ≡ 0))
+IntervalTells (granted i) s = IntervalGiven i s
+IntervalTells (refused r) s = IntervalRefused r s
 
 abbrev pub IntervalTold : Type 0
 IntervalTold = (δ c r : ℕ) → IntervalTells (interval δ c r) (schedulingOf (interval δ c r))

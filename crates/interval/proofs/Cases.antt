@@ -26,6 +26,6 @@ interval-cases =
       ends = interval-none 1000000 1000000 1000 (in-range 1000000 1000000 1000 refl) (omega arith);
       wide = interval-outside 1000001 0 1 refl;
       imprecise = interval-outside 5 1000001 1 refl;
-      driftless = interval-outside 5 5 0 refl;
+      driftless = interval-outside 4 5 0 refl;
       fast = interval-outside 5 5 1001 refl;
     }

@@ -1,21 +1,25 @@
 -- Each of the two inequalities holds just where its sentence on clocks does. One way the clocks' bounds are multiplied
 -- out; the other way the slowest and the fastest clock are taken.
 -- Assumes nothing.
-use mathlib.Core.Bool.{true}
-use mathlib.Core.Path.{_≡_, refl, sym, ap, _∙_}
+use mathlib.Core.Bool.{true, false, _&&_}
+use mathlib.Core.Path.{_≡_, refl, sym, ap, _∙_, subst}
 use Prim.Native.Nat.{ℕ, _+_, _*_, _-_, _≤_, _<_, zero-le}
 use native.Mathlib.Nat.{le-refl, le-trans, le-of-eq, mul-comm, mul-assoc, mul-left-comm, mul-add, add-mul, mul-pos}
 use native.Mathlib.Nat.{mul-le-mul-left, mul-le-mul-right, le-of-mul-le-mul-left}
 use native.Mathlib.Omega.{arith}
 use borrow.Author.Tests.{le-leb, leb-true}
+use lib.Dec.{leb}
+use Rattle.arithmetic.proofs.Bools.{clash, and-left, and-right, and-intro}
 use Rattle.model.specs.Planner.{ceilDiv}
-use Rattle.interval.specs.Interval.{maxDrift, staysWithin, startsWithin, outOfRange}
+use Rattle.interval.specs.Interval.{maxDrift, staysWithin, startsWithin, meets, outOfRange}
 use Rattle.interval.specs.Formula.{coefficient, needed, leastBy, greatestBy}
-use Rattle.interval.specs.Clocks.{Rated, StaysTogether, StartsTogether, KeptWhere, ClocksKept, NeverEarly, EarlyStart}
-use Rattle.interval.proofs.Formula.{stays-natural, starts-raced}
-use Rattle.interval.proofs.Guarantee.{in-range, interval-found}
+use Rattle.interval.specs.Guarantee.{Answered}
+use Rattle.interval.specs.Clocks.{Rated, StaysTogether, StartsTogether, KeptWhere, ClocksKept, IntervalsKept}
+use Rattle.interval.specs.Clocks.{NeverEarly, EarlyStart, LateStart}
+use Rattle.interval.proofs.Formula.{leb-same, stays-natural, starts-raced}
+use Rattle.interval.proofs.Guarantee.{in-range, interval-found, interval-guarantee}
 
-module _ (r : ℕ) (some : 1 ≤ r) (most : r ≤ maxDrift) where
+module _ (r : ℕ) (most : r ≤ maxDrift) where
   abbrev slow : ℕ
   slow = 2000000 - r
 
@@ -34,6 +38,33 @@ module _ (r : ℕ) (some : 1 ≤ r) (most : r ≤ maxDrift) where
 
   fast-of : (T : ℕ) → fast * T ≡ 2000000 * T + r * T
   fast-of T = add-mul 2000000 r T
+
+  -- a clock that goes n at one rate, counted at the other
+  at-slow : (n : ℕ) → slow * (2000000 * (fast * n)) ≡ 2000000 * (slow * fast * n)
+  at-slow n = mul-left-comm slow 2000000 (fast * n) ∙ ap (λ (x : ℕ). 2000000 * x) (sym (mul-assoc slow fast n))
+
+  at-fast : (n : ℕ) → fast * (2000000 * (slow * n)) ≡ 2000000 * (slow * fast * n)
+  at-fast n =
+      mul-left-comm fast 2000000 (slow * n)
+      ∙ ap (λ (x : ℕ). 2000000 * x) (mul-left-comm fast slow n ∙ sym (mul-assoc slow fast n))
+
+  wider : (n : ℕ) → slow * n ≤ fast * n
+  wider n = mul-le-mul-right n (omega arith)
+
+  -- the slowest clock, and the fastest, that go n
+  rated-slow : (n : ℕ) → Rated r (2000000 * (fast * n)) (slow * fast * n)
+  rated-slow n =
+      record {
+        slowest = le-of-eq (at-slow n);
+        fastest = le-trans (le-of-eq (sym (at-slow n))) (wider (2000000 * (fast * n)));
+      }
+
+  rated-fast : (n : ℕ) → Rated r (2000000 * (slow * n)) (slow * fast * n)
+  rated-fast n =
+      record {
+        slowest = le-trans (wider (2000000 * (slow * n))) (le-of-eq (at-fast n));
+        fastest = le-of-eq (sym (at-fast n));
+      }
 
   -- ---- the first inequality
 
@@ -141,49 +172,98 @@ module _ (r : ℕ) (some : 1 ≤ r) (most : r ≤ maxDrift) where
     starts-only h =
         let k = slow * fast in
         let end = h k (2000000 * (slow * R)) (2000000 * (fast * (R + c))) (k * (R + c)) (k * R)
-        slowly (le-refl (k * (R + c))) fastly (le-refl (k * R)) in
+        (rated-slow (R + c)) (le-refl (k * (R + c))) (rated-fast R) (le-refl (k * R)) in
         let first = mul-left-comm (R + c) 2000000 fast ∙ ap (λ (x : ℕ). 2000000 * x) (mul-comm (R + c) fast) in
         let second = mul-left-comm R 2000000 slow ∙ ap (λ (x : ℕ). 2000000 * x) (mul-comm R slow) in
         let product = mul-comm k R in
         starts-raced r most c R
         ∙ le-leb ((R + c) * (2000000 * fast)) (R * (slow * fast) + R * (2000000 * slow)) (omega arith)
+
+    -- ---- no early start
+
+    raced-twice : leb ((R + c) * fast) ((R + R) * slow) ≡ leb (c * fast) (R * (2000000 - 3 * r))
+    raced-twice =
+        let both = add-mul R c fast in
+        let twice = add-mul R R slow in
+        let of-fast = mul-add R 2000000 r in
+        let of-slow : R * slow + R * r ≡ R * 2000000 = sym (mul-add R slow r) ∙ ap (λ (x : ℕ). R * x) once in
+        let of-three : R * (2000000 - 3 * r) + R * (3 * r) ≡ R * 2000000 =
+        sym (mul-add R (2000000 - 3 * r) (3 * r)) ∙ ap (λ (x : ℕ). R * x) thrice in
+        let three = mul-left-comm R 3 r in
+        leb-same ((R + c) * fast) ((R + R) * slow) (c * fast) (R * (2000000 - 3 * r)) (λ l. omega arith) (λ l. omega arith)
       where
-        -- a clock that goes n at one rate, counted at the other
-        at-slow : (n : ℕ) → slow * (2000000 * (fast * n)) ≡ 2000000 * (slow * fast * n)
-        at-slow n = mul-left-comm slow 2000000 (fast * n) ∙ ap (λ (x : ℕ). 2000000 * x) (sym (mul-assoc slow fast n))
+        once : slow + r ≡ 2000000
+        once = omega arith
 
-        at-fast : (n : ℕ) → fast * (2000000 * (slow * n)) ≡ 2000000 * (slow * fast * n)
-        at-fast n =
-            mul-left-comm fast 2000000 (slow * n)
-            ∙ ap (λ (x : ℕ). 2000000 * x) (mul-left-comm fast slow n ∙ sym (mul-assoc slow fast n))
+        thrice : 2000000 - 3 * r + 3 * r ≡ 2000000
+        thrice = omega arith
 
-        wider : (n : ℕ) → slow * n ≤ fast * n
-        wider n = mul-le-mul-right n (omega arith)
+    never-early : c * fast ≤ R * (2000000 - 3 * r) → NeverEarly c r R
+    never-early l k S T a b p early q late =
+        let slower : fast * (slow * T) ≤ fast * (2000000 * (k * (R + c))) =
+        mul-le-mul-left fast (le-trans (p .slowest) (mul-le-mul-left 2000000 early)) in
+        let faster : slow * (2000000 * (k * (R + R))) ≤ slow * (fast * S) =
+        mul-le-mul-left slow (le-trans (mul-le-mul-left 2000000 late) (q .fastest)) in
+        let ahead =
+        leb-true ((R + c) * fast) ((R + R) * slow)
+        (raced-twice ∙ le-leb (c * fast) (R * (2000000 - 3 * r)) l) in
+        let times = mul-le-mul-left (2000000 * k) ahead in
+        let first = turned (R + c) fast in
+        let second = turned (R + R) slow in
+        let left = mul-assoc slow fast T ∙ mul-left-comm slow fast T in
+        let right = mul-assoc slow fast S in
+        le-of-mul-le-mul-left {k = slow * fast} (omega arith) (mul-pos some-slow (omega arith))
+      where
+        turned : (n rate : ℕ) → rate * (2000000 * (k * n)) ≡ 2000000 * k * (n * rate)
+        turned n rate =
+            mul-comm rate (2000000 * (k * n))
+            ∙ ap (λ (x : ℕ). x * rate) (sym (mul-assoc 2000000 k n))
+            ∙ mul-assoc (2000000 * k) n rate
 
-        slowly : Rated r (2000000 * (fast * (R + c))) (slow * fast * (R + c))
-        slowly =
-            record {
-              slowest = le-of-eq (at-slow (R + c));
-              fastest = le-trans (le-of-eq (sym (at-slow (R + c)))) (wider (2000000 * (fast * (R + c))));
-            }
-
-        fastly : Rated r (2000000 * (slow * R)) (slow * fast * R)
-        fastly =
-            record {
-              slowest = le-trans (wider (2000000 * (slow * R))) (le-of-eq (at-fast R));
-              fastest = le-of-eq (sym (at-fast R));
-            }
+    early-only : NeverEarly c r R → c * fast ≤ R * (2000000 - 3 * r)
+    early-only h =
+        let k = slow * fast in
+        let end = h k (2000000 * (slow * (R + R))) (2000000 * (fast * (R + c))) (k * (R + c)) (k * (R + R))
+        (rated-slow (R + c)) (le-refl (k * (R + c))) (rated-fast (R + R)) (le-refl (k * (R + R))) in
+        let first = mul-comm (R + c) fast in
+        let second = mul-comm (R + R) slow in
+        leb-true (c * fast) (R * (2000000 - 3 * r))
+        (sym raced-twice ∙ le-leb ((R + c) * fast) ((R + R) * slow) (omega arith))
 
 pub clocks-kept : ClocksKept
-clocks-kept δ c r R some most =
+clocks-kept δ c r R most =
     record {
-      stays = stays-so r some most δ c R;
-      staysOnly = stays-only r some most δ c R;
-      starts = starts-so r some most c R;
-      startsOnly = starts-only r some most c R;
+      stays = stays-so r most δ c R;
+      staysOnly = stays-only r most δ c R;
+      starts = starts-so r most c R;
+      startsOnly = starts-only r most c R;
     }
 
--- ---- a start that is early
+-- ---- an interval that is granted
+
+both-met : (δ c r R : ℕ) → meets δ c r R ≡ true → (staysWithin δ c r R ≡ true) × (startsWithin c r R ≡ true)
+unfolding meets
+both-met δ c r R e =
+    let inequalities = and-right (leb 1 R) (staysWithin δ c r R && startsWithin c r R) e in
+    (and-left (staysWithin δ c r R) (startsWithin c r R) inequalities, and-right (staysWithin δ c r R) (startsWithin c r R) inequalities)
+
+met-both : (δ c r R : ℕ) → 1 ≤ R → staysWithin δ c r R ≡ true → startsWithin c r R ≡ true → meets δ c r R ≡ true
+unfolding meets
+met-both δ c r R one stays starts = and-intro (le-leb 1 R one) (and-intro stays starts)
+
+pub intervals-kept : IntervalsKept
+intervals-kept δ c r i e =
+    let given = subst (Answered δ c r) e (interval-guarantee .right δ c r) in
+    let h = given .0 in
+    let is = given .1 .0 in
+    let kept : (R : ℕ) → KeptWhere δ c r R = λ R. clocks-kept δ c r R (h .drift) in
+    record {
+      stays = λ R l g. kept R .stays (both-met δ c r R (is .betweenMeets R l g) .0);
+      starts = λ R l g. kept R .starts (both-met δ c r R (is .betweenMeets R l g) .1);
+      noOther = λ R one s t. is .allBetween R (met-both δ c r R one (kept R .staysOnly s) (kept R .startsOnly t));
+    }
+
+-- ---- starts that are early or late
 
 pub early-start : EarlyStart
 unfolding outOfRange coefficient needed leastBy greatestBy ceilDiv
@@ -197,52 +277,20 @@ early-start =
           (omega arith)
           (record { slowest = omega arith; fastest = omega arith })
           (omega arith));
-      enough = never-early;
+      enough = λ c r R most. never-early r most c R;
+      noLess = λ c r R most. early-only r most c R;
     }
   where
     too-late : 2000497 ≤ 1999999 → ⊥
     too-late l = omega arith
 
-    never-early : (c r R : ℕ) → r ≤ maxDrift → c * (2000000 + r) ≤ R * (2000000 - 3 * r) → NeverEarly c r R
-    never-early c r R most l k S T a b p early q late =
-        let slow = 2000000 - r in
-        let fast = 2000000 + r in
-        let some-slow : 0 < slow = omega arith in
-        let slower : fast * (slow * T) ≤ fast * (2000000 * (k * (R + c))) =
-        mul-le-mul-left fast (le-trans (p .slowest) (mul-le-mul-left 2000000 early)) in
-        let faster : slow * (2000000 * (k * (R + R))) ≤ slow * (fast * S) =
-        mul-le-mul-left slow (le-trans (mul-le-mul-left 2000000 late) (q .fastest)) in
-        let ahead : (R + c) * fast ≤ (R + R) * slow = in-time in
-        let between : fast * (2000000 * (k * (R + c))) ≤ slow * (2000000 * (k * (R + R))) = doubled fast slow ahead in
-        let left = mul-assoc slow fast T ∙ mul-left-comm slow fast T in
-        let right = mul-assoc slow fast S in
-        le-of-mul-le-mul-left {k = slow * fast} (omega arith) (mul-pos some-slow (omega arith))
-      where
-        in-time : (R + c) * (2000000 + r) ≤ (R + R) * (2000000 - r)
-        in-time =
-            let both = add-mul R c (2000000 + r) in
-            let twice = add-mul R R (2000000 - r) in
-            let of-fast = mul-add R 2000000 r in
-            let of-slow : R * (2000000 - r) + R * r ≡ R * 2000000 =
-            sym (mul-add R (2000000 - r) r) ∙ ap (λ (x : ℕ). R * x) once in
-            let of-three : R * (2000000 - 3 * r) + R * (3 * r) ≡ R * 2000000 =
-            sym (mul-add R (2000000 - 3 * r) (3 * r)) ∙ ap (λ (x : ℕ). R * x) thrice in
-            let three = mul-left-comm R 3 r in
-            omega arith
-          where
-            once : 2000000 - r + r ≡ 2000000
-            once = omega arith
+too-wide : staysWithin 1000000 998998 1000 2000497 ≡ false
+unfolding staysWithin
+too-wide = refl
 
-            thrice : 2000000 - 3 * r + 3 * r ≡ 2000000
-            thrice = omega arith
-
-        doubled : (x y : ℕ) → (R + c) * x ≤ (R + R) * y → x * (2000000 * (k * (R + c))) ≤ y * (2000000 * (k * (R + R)))
-        doubled x y h =
-            let times = mul-le-mul-left (2000000 * k) h in
-            le-trans (le-of-eq (turned (R + c) x)) (le-trans times (le-of-eq (sym (turned (R + R) y))))
-          where
-            turned : (n rate : ℕ) → rate * (2000000 * (k * n)) ≡ 2000000 * k * (n * rate)
-            turned n rate =
-                mul-comm rate (2000000 * (k * n))
-                ∙ ap (λ (x : ℕ). x * rate) (sym (mul-assoc 2000000 k n))
-                ∙ mul-assoc (2000000 * k) n rate
+pub late-start : LateStart
+late-start =
+    record {
+      late = λ h. clash (clocks-kept 1000000 998998 1000 2000497 (omega arith) .staysOnly h) too-wide;
+      enough = λ δ c r i e R l g. intervals-kept δ c r i e .stays (R + c) (omega arith) g;
+    }

@@ -24,6 +24,24 @@ pub leb-same : (a b c d : ℕ) → (a ≤ b → c ≤ d) → (c ≤ d → a ≤ 
 leb-same a b c d f g =
     iff-eq (leb a b) (leb c d) (λ e. le-leb c d (f (leb-true a b e))) (λ e. le-leb a b (g (leb-true c d e)))
 
+-- ---- the greatest, where the window is not wider than the precision, and where it is
+
+pub greatest-narrow : (δ c r : ℕ) → δ ≤ c → greatestBy δ c r ≡ 0
+unfolding greatestBy
+greatest-narrow δ c r h =
+    ap (λ (x : ℕ). x * (2000000 - r) / (2 * r)) (sub-eq-zero-of-le h)
+    ∙ ap (λ (x : ℕ). x / (2 * r)) (zero-mul (2000000 - r))
+    ∙ zero-div (2 * r)
+
+pub greatest-wide : (δ c r : ℕ) → 1 ≤ r → r ≤ maxDrift → c < δ → 1 ≤ greatestBy δ c r
+unfolding greatestBy
+greatest-wide δ c r some most h =
+    let divisor : 0 < 2 * r = omega arith in
+    let one : 1 ≤ δ - c = omega arith in
+    let room : 1 * (2000000 - r) ≤ (δ - c) * (2000000 - r) = mul-le-mul-right (2000000 - r) one in
+    let dividend : 1 * (2 * r) ≤ (δ - c) * (2000000 - r) = omega arith in
+    le-div-iff-mul-le divisor .1 dividend
+
 -- ---- the inequalities over naturals, for a drift below 2,000,000
 
 pub stays-natural :
@@ -132,10 +150,7 @@ module _ (r : ℕ) (most : r ≤ maxDrift) where
       narrow : δ < c → leb (2 * r * R + c * s) (δ * s) ≡ leb R ((δ - c) * s / (2 * r))
       narrow h =
           let below : δ * s < c * s = mul-lt-mul-of-pos-right h (omega arith) in
-          let none : (δ - c) * s / (2 * r) ≡ 0 =
-          ap (λ (x : ℕ). x * s / (2 * r)) (sub-eq-zero-of-le (omega arith))
-          ∙ ap (λ (x : ℕ). x / (2 * r)) (zero-mul s)
-          ∙ zero-div (2 * r) in
+          let none : (δ - c) * s / (2 * r) ≡ 0 = greatest-narrow δ c r (omega arith) in
           lt-leb (2 * r * R + c * s) (δ * s) (omega arith)
           ∙ sym (lt-leb R ((δ - c) * s / (2 * r)) (omega arith))
 

@@ -3,9 +3,9 @@
 use mathlib.Core.Bool.{Bool, true, false, not, _&&_, _||_}
 use mathlib.Core.Logic.{_⊎_, inl, inr, ⊎-elim}
 use mathlib.Core.Option.{none, some}
-use mathlib.Core.Path.{_≡_, refl, sym, ap, _∙_, subst⁻¹}
+use mathlib.Core.Path.{_≡_, refl, sym, ap, ap₂, _∙_, subst⁻¹}
 use Prim.Native.Nat.{ℕ, suc, _*_, _-_, _/_, _≤_, _<_}
-use native.Mathlib.Nat.{le-refl, le-trans, lt-of-le-of-lt, mul-le-mul-right, div-lt-iff-lt-mul}
+use native.Mathlib.Nat.{le-refl, le-trans, le-antisymm, mul-le-mul-right, div-lt-iff-lt-mul}
 use native.Mathlib.Omega.{arith}
 use borrow.Author.Tests.{le-leb, lt-leb, leb-true, leb-false, lt-ltb, le-ltb, ltb-true, ltb-false}
 use lib.Dec.{leb, ltb}
@@ -13,14 +13,15 @@ use Rattle.arithmetic.specs.Counting.{anyBelow, lowest, highest}
 use Rattle.arithmetic.proofs.Bools.{both-ways, clash, and-left, and-right, and-intro, and-false, or-left, or-right}
 use Rattle.arithmetic.proofs.Bools.{or-cases, or-false}
 use Rattle.arithmetic.proofs.Counting.{any-true, any-false, lowest-some, highest-some}
+use Rattle.model.specs.declared.Refusal.{Refusal}
 use Rattle.model.specs.Ensemble.{maxWindow}
 use Rattle.model.specs.Refusals.{Check, refusal, orNext, firstOf, badIntervalNumber, noIntervalNumber}
 use Rattle.model.specs.Calls.{Verdict, granted, refused}
-use Rattle.interval.specs.Interval.{maxPrecision, maxDrift, meets, searched, outOfRange, badInterval, noInterval, intervalChecks}
+use Rattle.interval.specs.Interval.{maxPrecision, maxDrift, staysWithin, startsWithin, meets, searched, outOfRange, badInterval, noInterval, intervalChecks}
 use Rattle.interval.specs.Interval.{Interval, found, interval}
 use Rattle.interval.specs.Formula.{leastBy, greatestBy}
-use Rattle.interval.specs.Guarantee.{InRange, IsInterval, mostInterval, Answered, IntervalGuarantee}
-use Rattle.interval.proofs.Formula.{least-positive, meets-between}
+use Rattle.interval.specs.Guarantee.{InRange, IsInterval, mostInterval, Answered, IntervalGuarantee, NoIntervalReasons}
+use Rattle.interval.proofs.Formula.{stays-up-to, starts-from, least-positive, greatest-narrow, greatest-wide, meets-between}
 
 -- ---- the ranges
 
@@ -130,8 +131,8 @@ module _ (δ c r : ℕ) (h : InRange δ c r) where
 
 -- ---- the statement
 
-pub interval-guarantee : IntervalGuarantee
-interval-guarantee δ c r =
+interval-right : (δ c r : ℕ) → Answered δ c r (interval δ c r)
+interval-right δ c r =
     ⊎-elim
     (λ (e : outOfRange δ c r ≡ true).
     subst⁻¹ (Answered δ c r) (interval-outside δ c r e)
@@ -161,3 +162,57 @@ interval-guarantee δ c r =
         subst⁻¹ (Answered δ c r) (interval-none δ c r h none)
         (inr (h, (none-meets δ c r h none, refl))))
         (both-ways (leb (leastBy c r) (greatestBy δ c r)))
+
+-- two answers that are right are one
+module _ (δ c r : ℕ) where
+  same-interval : (i j : Interval) → IsInterval δ c r i → IsInterval δ c r j → i ≡ j
+  same-interval i j p q =
+      ap₂ (λ (l g : ℕ). let of : Interval = record { least = l; greatest = g } in of)
+      (le-antisymm (p .allBetween (j .least) (q .leastMeets) .0) (q .allBetween (i .least) (p .leastMeets) .0))
+      (le-antisymm (q .allBetween (i .greatest) (p .greatestMeets) .1) (p .allBetween (j .greatest) (q .greatestMeets) .1))
+
+  -- an interval and a refusal are not both right
+  apart : (i : Interval) (x : Refusal) → Answered δ c r (granted i) → Answered δ c r (refused x) → ⊥
+  apart i x p =
+      ⊎-elim (λ o. o .0 (p .0)) (λ o. clash (p .1 .0 .leastMeets) (o .1 .0 (i .least)))
+
+  same-answer : (v w : Verdict Interval) → Answered δ c r v → Answered δ c r w → v ≡ w
+  same-answer (granted i) (granted j) p q = ap {B = Verdict Interval} granted (same-interval i j (p .1 .0) (q .1 .0))
+  same-answer (granted i) (refused y) p q = absurd (apart i y p q)
+  same-answer (refused x) (granted j) p q = absurd (apart j x q p)
+  same-answer (refused x) (refused y) p q =
+      ap {B = Verdict Interval} refused
+      (⊎-elim
+      (λ a. ⊎-elim (λ b. a .1 ∙ sym (b .1)) (λ b. absurd (a .0 (b .0))) q)
+      (λ a. ⊎-elim (λ b. absurd (b .0 (a .0))) (λ b. a .1 .1 ∙ sym (b .1 .1)) q)
+      p)
+
+pub interval-guarantee : IntervalGuarantee
+interval-guarantee =
+    record {
+      right = interval-right;
+      only = λ δ c r v p. same-answer δ c r v (interval δ c r) p (interval-right δ c r);
+    }
+
+-- ---- why there is none
+
+pub no-interval-reasons : NoIntervalReasons
+no-interval-reasons δ c r h =
+    record {
+      narrow = λ l R one. stays R one ∙ lt-leb R (greatestBy δ c r) (none l R one);
+      wide = λ l. stays 1 (le-refl 1) ∙ le-leb 1 (greatestBy δ c r) (some l);
+      enough = leastBy c r;
+      second = λ R l. starts R (le-trans (least-positive r (h .drift) c) l) ∙ le-leb (leastBy c r) R l;
+    }
+  where
+    stays : (R : ℕ) → 1 ≤ R → staysWithin δ c r R ≡ leb R (greatestBy δ c r)
+    stays R one = stays-up-to r (h .drift) δ c R (h .someDrift) one
+
+    starts : (R : ℕ) → 1 ≤ R → startsWithin c r R ≡ leb (leastBy c r) R
+    starts R one = starts-from r (h .drift) c R one
+
+    none : δ ≤ c → (R : ℕ) → 1 ≤ R → greatestBy δ c r < R
+    none l R one = let zero = greatest-narrow δ c r l in omega arith
+
+    some : c < δ → 1 ≤ greatestBy δ c r
+    some l = greatest-wide δ c r (h .someDrift) (h .drift) l

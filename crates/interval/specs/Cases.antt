@@ -34,8 +34,8 @@ pub record IntervalCases : Type 0 where
   -- three, with a precision near the widest window; and all inputs at the upper ends of their ranges
   pub three : interval 1_000_000 999_000 999 ≡ from 1_000_499 1_000_501
   pub ends : interval 1_000_000 1_000_000 1000 ≡ none-there
-  -- an input just outside its range; of these the last three have no R that meets both either
+  -- an input just outside its range; of these the last three have no R that meets both either, and 17 comes first
   pub wide : interval 1_000_001 0 1 ≡ out
   pub imprecise : interval 5 1_000_001 1 ≡ out
-  pub driftless : interval 5 5 0 ≡ out
+  pub driftless : interval 4 5 0 ≡ out
   pub fast : interval 5 5 1001 ≡ out

@@ -3,17 +3,21 @@
 -- sentence does. The theorems are `clocks-kept` and `early-start` of proofs/Clocks.antt. Readings and times are counted
 -- in k-ths of a tick, for every k, so that they are any fractions of one.
 --   Rated            what a sound clock goes in a true time
---   StaysTogether    two clocks, at most c apart, are at most δ apart until one of them has gone R
+--   StaysTogether    two clocks, at most c apart, are at most δ apart until the slower has gone R
 --   StartsTogether   a clock that is at most c behind comes to its next round at most R, in true time, after another
 --   KeptWhere        each of the two inequalities holds just where its sentence does
---   ClocksKept       of every drift in its range; so for the whole of an interval that is granted, and for no other R
---   NeverEarly       what the paper wants of the second: a clock that has gone R twice finds no other in its first
---   EarlyStart       the second inequality is not quite enough for that, by one case; and what is
+--   ClocksKept       of every drift in its range
+--   IntervalKept     so both sentences hold for an interval that is granted, and for no other R of at least 1
+--   NeverEarly       what the paper wants of the second: a clock that has gone R twice, and was not set meanwhile,
+--                    finds no other still in its first
+--   EarlyStart       the second inequality is not enough for that, as one case shows; and what is
+--   LateStart        the clock that is behind has gone R + c when it starts. The two can be more than δ apart by then,
+--                    as one case shows; and what is enough for that
 use mathlib.Core.Bool.{true}
 use mathlib.Core.Path.{_≡_}
 use Prim.Native.Nat.{ℕ, _+_, _*_, _-_, _≤_}
 use Rattle.model.specs.Calls.{granted}
-use Rattle.interval.specs.Interval.{maxDrift, staysWithin, startsWithin, interval}
+use Rattle.interval.specs.Interval.{maxDrift, staysWithin, startsWithin, Interval, interval}
 
 -- "Rate Restriction: |dc/dt - 1| < ρ/2", of a clock that goes a in the true time T; it may be ρ/2
 pub record Rated (r T a : ℕ) : Type 0 where
@@ -38,7 +42,15 @@ pub record KeptWhere (δ c r R : ℕ) : Type 0 where
   pub startsOnly : StartsTogether c r R → startsWithin c r R ≡ true
 
 abbrev pub ClocksKept : Type 0
-ClocksKept = (δ c r R : ℕ) → 1 ≤ r → r ≤ maxDrift → KeptWhere δ c r R
+ClocksKept = (δ c r R : ℕ) → r ≤ maxDrift → KeptWhere δ c r R
+
+pub record IntervalKept (δ c r : ℕ) (i : Interval) : Type 0 where
+  pub stays : (R : ℕ) → i .least ≤ R → R ≤ i .greatest → StaysTogether δ c r R
+  pub starts : (R : ℕ) → i .least ≤ R → R ≤ i .greatest → StartsTogether c r R
+  pub noOther : (R : ℕ) → 1 ≤ R → StaysTogether δ c r R → StartsTogether c r R → (i .least ≤ R) × (R ≤ i .greatest)
+
+abbrev pub IntervalsKept : Type 0
+IntervalsKept = (δ c r : ℕ) (i : Interval) → interval δ c r ≡ granted i → IntervalKept δ c r i
 
 -- "the processor with the slowest clock has started its i-1st clock by the time the processor with the fastest clock
 -- needs that value in order to start its ith clock". The paper compares with R in true time, in which a fast clock goes
@@ -50,5 +62,12 @@ NeverEarly c r R =
 pub record EarlyStart : Type 0 where
   pub grants : interval 1_000_000 998_998 1000 ≡ granted (record { least = 1_000_499; greatest = 1_001_499 })
   pub early : NeverEarly 998_998 1000 1_000_499 → ⊥
-  -- R ≥ c(2+ρ)/(2-3ρ)
+  -- R ≥ c(2+ρ)/(2-3ρ), and no less
   pub enough : (c r R : ℕ) → r ≤ maxDrift → c * (2_000_000 + r) ≤ R * (2_000_000 - 3 * r) → NeverEarly c r R
+  pub noLess : (c r R : ℕ) → r ≤ maxDrift → NeverEarly c r R → c * (2_000_000 + r) ≤ R * (2_000_000 - 3 * r)
+
+pub record LateStart : Type 0 where
+  pub late : StaysTogether 1_000_000 998_998 1000 (1_001_499 + 998_998) → ⊥
+  -- R at most the greatest less c
+  pub enough : (δ c r : ℕ) (i : Interval) → interval δ c r ≡ granted i
+      → (R : ℕ) → i .least ≤ R → R + c ≤ i .greatest → StaysTogether δ c r (R + c)

@@ -1,18 +1,19 @@
--- Document 02, "Paper 6. How long between rounds": what the call gives, said of every R. The theorem is
--- `interval-guarantee` of proofs/Guarantee.antt.
+-- Document 02, "Paper 6. How long between rounds": what the call gives, said of every R. The theorems are
+-- `interval-guarantee` and `no-interval-reasons` of proofs/Guarantee.antt.
 --   InRange             every input is in its range
 --   IsInterval          the least and the greatest: both meet, all that meets lies between them, all between them meets
---   Answered            an answer that is right: which one is not left open, as at most one is
 --   mostInterval        the greatest R that there is, which Cases.antt reaches
---   IntervalGuarantee   the statement
+--   Answered            an answer that is right
+--   IntervalGuarantee   what the call gives is right, and nothing else is
+--   NoIntervalWhy, NoIntervalReasons    the two reasons for there being none, which `plan` tells apart
 use mathlib.Core.Bool.{true, false}
 use mathlib.Core.Logic.{_⊎_}
 use mathlib.Core.Path.{_≡_}
-use Prim.Native.Nat.{ℕ, _≤_}
+use Prim.Native.Nat.{ℕ, _≤_, _<_}
 use Rattle.model.specs.Ensemble.{maxWindow}
 use Rattle.model.specs.Refusals.{refusal, badIntervalNumber, noIntervalNumber}
 use Rattle.model.specs.Calls.{Verdict, granted, refused}
-use Rattle.interval.specs.Interval.{maxPrecision, maxDrift, meets, Interval, interval}
+use Rattle.interval.specs.Interval.{maxPrecision, maxDrift, staysWithin, startsWithin, meets, Interval, interval}
 
 -- "From δ (0 to 1,000,000), precision c (0 to 1,000,000) and drift ρ of 1 to 1,000 parts per million"
 pub record InRange (δ c r : ℕ) : Type 0 where
@@ -37,5 +38,17 @@ Answered δ c r (refused x) =
     ((InRange δ c r → ⊥) × (x ≡ refusal badIntervalNumber 0))
     ⊎ (InRange δ c r × (((R : ℕ) → meets δ c r R ≡ false) × (x ≡ refusal noIntervalNumber 0)))
 
-abbrev pub IntervalGuarantee : Type 0
-IntervalGuarantee = (δ c r : ℕ) → Answered δ c r (interval δ c r)
+pub record IntervalGuarantee : Type 0 where
+  pub right : (δ c r : ℕ) → Answered δ c r (interval δ c r)
+  pub only : (δ c r : ℕ) (v : Verdict Interval) → Answered δ c r v → v ≡ interval δ c r
+
+pub record NoIntervalWhy (δ c r : ℕ) : Type 0 where
+  -- the window is not wider than the precision: no R of at least 1 meets the first inequality
+  pub narrow : δ ≤ c → (R : ℕ) → 1 ≤ R → staysWithin δ c r R ≡ false
+  -- else an R of 1 meets the first, and some R the second: there is none only where none meets both
+  pub wide : c < δ → staysWithin δ c r 1 ≡ true
+  pub enough : ℕ
+  pub second : (R : ℕ) → enough ≤ R → startsWithin c r R ≡ true
+
+abbrev pub NoIntervalReasons : Type 0
+NoIntervalReasons = (δ c r : ℕ) → InRange δ c r → NoIntervalWhy δ c r

@@ -5,7 +5,8 @@
 --   staysWithin               the first inequality: in R the clocks drift no farther apart than the window
 --   startsWithin              the second: the slowest clock, c behind, comes to its next round at most R after another
 --   meets                     "whole R of at least 1 tick meeting both"
---   searched                  R is searched for below this. Guarantee.antt says that no R from here on meets both
+--   searched                  R is searched for below this; for inputs in their ranges no R from here on meets both, as
+--                             Guarantee.antt says
 --   outOfRange, badInterval   check 17
 --   noInterval                check 18
 --   intervalChecks            both, in their order

@@ -1,15 +1,15 @@
 -- How large the products of the code are, and the answers of its functions on plain numbers.
 -- Assumes nothing.
-use mathlib.Core.Path.{_≡_, refl, sym, ap, _∙_}
+use mathlib.Core.Path.{_≡_, refl}
 use Prim.Native.Nat.{ℕ, _+_, _*_, _-_, _/_, _≤_, _<_}
-use native.Mathlib.Nat.{mul-le-mul, sub-eq-zero-of-le, zero-mul, zero-div}
+use native.Mathlib.Nat.{mul-le-mul}
 use native.Mathlib.Omega.{arith}
 use borrow.Author.Tests.{ne-eqb}
 use lib.Dec.{eqb}
 use Rattle.model.specs.Ensemble.{maxWindow}
 use Rattle.model.specs.Planner.{ceilDiv}
 use Rattle.interval.specs.Interval.{maxPrecision, maxDrift}
-use Rattle.interval.specs.Formula.{coefficient, needed, leastBy, greatestBy}
+use Rattle.interval.specs.Formula.{coefficient, needed, leastBy}
 
 pub square-le : (r : ℕ) → r ≤ maxDrift → r * r ≤ 1000000
 square-le r h = mul-le-mul {n₂ = 1000} {m₂ = 1000} h h
@@ -28,11 +28,3 @@ pub least-quotient :
     (c r : ℕ) {a d : ℕ} → (c ≡ 0 → ⊥) → a ≡ needed c r → d ≡ coefficient r → (a + (d - 1)) / d ≡ leastBy c r
 unfolding leastBy ceilDiv
 least-quotient c r some e f = rw (ne-eqb c 0 some, e, f) refl
-
-pub greatest-narrow : (δ c r : ℕ) → δ ≤ c → 0 ≡ greatestBy δ c r
-unfolding greatestBy
-greatest-narrow δ c r h =
-    sym
-    (ap (λ (x : ℕ). x * (2000000 - r) / (2 * r)) (sub-eq-zero-of-le h)
-    ∙ ap (λ (x : ℕ). x / (2 * r)) (zero-mul (2000000 - r))
-    ∙ zero-div (2 * r))

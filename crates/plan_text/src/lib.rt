@@ -28,18 +28,20 @@ pub fn say_ticks(name: &[u8], ticks: u32, unit: &[u8]) -> bool {
 
 pub fn usage() -> bool {
     say(
-        b"usage: plan N M RULE ESTIMATOR WINDOW ACCURACY rounds COUNT [T]\n       plan N M RULE ESTIMATOR \
-          WINDOW ACCURACY target TICKS [T]\n       plan interval WINDOW PRECISION DRIFT\n       plan --help, plan \
-          --version\n  N, M              cabinets, and faults planned for: 3M+1 <= N <= 64\n  RULE, ESTIMATOR   fca or cca; average, \
-          median or midpoint\n                    (trimmed-midpoint and trimmed-mean are refused: no plan \
-          has them)\n  WINDOW, ACCURACY  in ticks of 1/16777216 second: how far apart good clocks \
-          are, and how far from true time\n  COUNT, TICKS      how many rounds, or the window to reach, in \
-          ticks\n  T                 bad cabinets, at most N: shows the limits that hold for them\n  PRECISION         \
-          in ticks: how far apart the rounds leave good clocks\n  DRIFT             parts per million, 1 to \
-          1000: twice what a good clock's rate is off at most\nIt prints the window and the accuracy after each round, in ticks and, rounded up, in microseconds; \
-          or, with interval, how long may be between rounds, in ticks and in seconds; \
-          or `refused`, a number and a place.\nIt always ends with status 0; a bad argument is named on \
-          standard error, and then nothing is printed.\n",
+        b"usage: plan N M RULE ESTIMATOR WINDOW ACCURACY rounds COUNT [T]\n       plan N M RULE \
+          ESTIMATOR WINDOW ACCURACY target TICKS [T]\n       plan interval WINDOW PRECISION \
+          DRIFT\n       plan --help, plan --version\n  N, M              cabinets, and faults planned \
+          for: 3M+1 <= N <= 64\n  RULE, ESTIMATOR   fca or cca; average, median or \
+          midpoint\n                    (trimmed-midpoint and trimmed-mean are refused: no plan has \
+          them)\n  WINDOW, ACCURACY  in ticks of 1/16777216 second: how far apart good clocks are, \
+          and how far from true time\n  COUNT, TICKS      how many rounds, or the window to reach, in \
+          ticks\n  T                 bad cabinets, at most N: shows the limits that hold for them\n  \
+          PRECISION         in ticks: how far apart the rounds leave good clocks\n  DRIFT             \
+          parts per million, 1 to 1000: twice what a good clock's rate is off at most\nIt prints the \
+          window and the accuracy after each round, in ticks and, rounded up, in microseconds; or, \
+          with interval, how long may be between rounds, in ticks and in seconds; or `refused`, a \
+          number and a place.\nIt always ends with status 0; a bad argument is named on standard \
+          error, and then nothing is printed.\n",
     )
 }
 

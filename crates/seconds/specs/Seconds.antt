@@ -3,8 +3,10 @@
 --   wholeSeconds                the whole seconds of some ticks
 --   billionths, billionthsUp    what is left of a second, rounded down and up
 --   digit, decimals             a decimal digit of a number, as a character; nine of them
+--   InSeconds                   what is left of a second is below one, rounded up too, so that nine digits tell it; the
+--                               theorem is `in-seconds` of proofs/Rounding.antt
 use mathlib.Core.List.{List, [], _∷_}
-use Prim.Native.Nat.{ℕ, _+_, _*_, _/_, _%_}
+use Prim.Native.Nat.{ℕ, _+_, _*_, _/_, _%_, _<_}
 use Rattle.model.specs.Ensemble.{ticksPerSecond}
 use Rattle.model.specs.Planner.{ceilDiv}
 
@@ -36,3 +38,6 @@ decimals n =
     ∷ digit n 10
     ∷ digit n 1
     ∷ []
+
+abbrev pub InSeconds : Type 0
+InSeconds = (ticks : ℕ) → (billionths ticks < billion) × (billionthsUp ticks < billion)

@@ -1,17 +1,18 @@
 -- `interval_bounds::greatest` meets its contract: the product does not wrap, and the body is the quotient.
 -- Assumes nothing.
 use borrow.Author.Needs.{needs}
-use mathlib.Core.Path.{refl}
+use mathlib.Core.Path.{refl, sym}
 use native.Mathlib.Omega.{arith}
 use Rattle.interval.specs.Formula.{greatestBy}
-use Rattle.interval_bounds.proofs.Sizes.{room-le, greatest-narrow}
+use Rattle.interval.proofs.Formula.{greatest-narrow}
+use Rattle.interval_bounds.proofs.Sizes.{room-le}
 use Rattle.interval_bounds.proofs.greatest.Statement.{statement}
 use Rattle.interval_bounds.proofs.greatest.Tie as tie
 
 returns : tie.Need-returns
 returns c =
     let a = c .before .args in
-    greatest-narrow (a .window) (a .precision) (a .drift) (omega arith)
+    sym (greatest-narrow (a .window) (a .precision) (a .drift) (omega arith))
 
 sub-result : tie.Need-sub-result
 sub-result c = search needs

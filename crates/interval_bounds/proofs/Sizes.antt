@@ -11,9 +11,6 @@ use Rattle.model.specs.Planner.{ceilDiv}
 use Rattle.interval.specs.Interval.{maxPrecision, maxDrift}
 use Rattle.interval.specs.Formula.{coefficient, needed, leastBy}
 
-pub square-le : (r : ℕ) → r ≤ maxDrift → r * r ≤ 1000000
-square-le r h = mul-le-mul {n₂ = 1000} {m₂ = 1000} h h
-
 pub rate-le : (c r : ℕ) → c ≤ maxPrecision → r ≤ maxDrift → 2 * c * (2000000 + r) ≤ 4002000000000
 rate-le c r h k = mul-le-mul {n₂ = 2000000} {m₂ = 2001000} (omega arith) (omega arith)
 

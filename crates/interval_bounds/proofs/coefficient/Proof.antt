@@ -4,7 +4,7 @@ use borrow.Author.Needs.{needs}
 use mathlib.Core.Path.{refl}
 use native.Mathlib.Omega.{arith}
 use Rattle.interval.specs.Formula.{coefficient}
-use Rattle.interval_bounds.proofs.Sizes.{square-le}
+use Rattle.interval.proofs.Formula.{square-le}
 use Rattle.interval_bounds.proofs.coefficient.Statement.{statement}
 use Rattle.interval_bounds.proofs.coefficient.Tie as tie
 

@@ -1,13 +1,15 @@
 -- Beyond what document 02 asks: what the two inequalities are for. Section 4.1 of document 004 argues it of sound
 -- clocks; here both are said of all such clocks, whose rates may change, and each inequality holds just where its
--- sentence does. The theorems are `clocks-kept` and `early-start` of proofs/Clocks.antt. Readings and times are counted
--- in k-ths of a tick, for every k, so that they are any fractions of one.
+-- sentence does. The theorems are `clocks-kept`, `intervals-kept`, `early-start` and `late-start` of
+-- proofs/Clocks.antt. Readings and times are counted in k-ths of a tick, for every k, so that they are any fractions of
+-- one.
 --   Rated            what a sound clock goes in a true time
 --   StaysTogether    two clocks, at most c apart, are at most δ apart until the slower has gone R
 --   StartsTogether   a clock that is at most c behind comes to its next round at most R, in true time, after another
 --   KeptWhere        each of the two inequalities holds just where its sentence does
 --   ClocksKept       of every drift in its range
---   IntervalKept     so both sentences hold for an interval that is granted, and for no other R of at least 1
+--   IntervalKept, IntervalsKept    so both sentences hold for an interval that is granted, and for no other R of at
+--                    least 1
 --   NeverEarly       what the paper wants of the second: a clock that has gone R twice, and was not set meanwhile,
 --                    finds no other still in its first
 --   EarlyStart       the second inequality is not enough for that, as one case shows; and what is

@@ -1,18 +1,18 @@
 -- The definitions' quotients are what their names say: rounded down, rounded up, the whole part plus one, and nearest
 -- with a half going to the even neighbour.
 -- Assumes nothing.
-use mathlib.Core.Path.{_≡_, refl, sym, ap, _∙_, subst}
+use mathlib.Core.Path.{_≡_, refl, sym, ap, ap₂, _∙_, subst}
 use Prim.Native.Nat.{ℕ, zero, suc, _+_, _*_, _-_, _/_, _%_, _≤_, _<_}
 use native.Mathlib.Nat.{div-mul-le-self, lt-div-mul-add, mul-comm, mul-suc, mul-add, mul-assoc, add-mul, one-mul}
 use native.Mathlib.Nat.{mul-le-mul-right}
 use native.Mathlib.Omega.{arith}
 use borrow.Author.Tests.{le-leb, lt-ltb}
-use lib.IntN.{ℤ, pos, negsuc, negℤ, _+ℤ_, _*ℤ_}
+use lib.IntN.{ℤ, pos, negsuc, negℤ, _+ℤ_, _*ℤ_, *ℤ-comm}
 use lib.Signed.{mag, _≤ℤ_, _<ℤ_}
 use Rattle.arithmetic.specs.Counting.{floorDiv}
 use Rattle.arithmetic.proofs.Bools.{to-T}
 use Rattle.arithmetic.specs.Naturals.{down, up}
-use Rattle.arithmetic.proofs.Shift.{down-ind, down-cong, down-up, up-down, pos-down, neg-down, add-down, add-pos-down}
+use Rattle.arithmetic.proofs.Shift.{down-ind, down-cong, down-up, up-down, pos-down, add-down, add-pos-down, mul-down}
 use Rattle.model.specs.Steps.{mean}
 use Rattle.model.specs.Planner.{ceilDiv, pastDiv}
 use Rattle.planner_laws.proofs.Ceiling.{ceil-div-covers}
@@ -57,23 +57,9 @@ rounded-down (negsuc a) n some-n =
 
 -- ---- products of numbers moved down
 
-mul-down : (c k y : ℕ) → pos c *ℤ down k y ≡ down (c * k) (c * y)
-mul-down c k y =
-    down-ind k y (λ z. pos c *ℤ z ≡ down (c * k) (c * y))
-    (λ h.
-    let split = ap (λ (a : ℕ). c * a) (above h) in
-    pos-down (c * (y - k)) ∙ down-cong 0 (c * (y - k)) (c * k) (c * y) (omega (arith, mul-add c (y - k) k)))
-    (λ h.
-    let split = ap (λ (a : ℕ). c * a) (below h) in
-    ap negℤ (pos-down (c * suc (k - suc y)))
-    ∙ neg-down 0 (c * suc (k - suc y))
-    ∙ down-cong (c * suc (k - suc y)) 0 (c * k) (c * y) (omega (arith, mul-add c (suc (k - suc y)) y)))
-  where
-    above : k ≤ y → y - k + k ≡ y
-    above h = omega arith
-
-    below : y < k → suc (k - suc y) + y ≡ k
-    below h = omega arith
+mul-down-left : (c k y : ℕ) → pos c *ℤ down k y ≡ down (c * k) (c * y)
+mul-down-left c k y =
+    *ℤ-comm (pos c) (down k y) ∙ mul-down k y c ∙ ap₂ (λ (a b : ℕ). down a b) (mul-comm k c) (mul-comm y c)
 
 down-inj : (k a b : ℕ) → down k a ≡ down k b → a ≡ b
 down-inj k a b e = sym (up-down k a) ∙ ap (up k) e ∙ up-down k b
@@ -91,7 +77,7 @@ module _ (n k S y : ℕ) where
   sum-down = ap (λ z. z +ℤ pos n) twice-down ∙ add-pos-down (2 * n * k) (2 * S) n
 
   product-down : pos (2 * n) *ℤ down k y ≡ down (2 * n * k) (2 * (n * y))
-  product-down = mul-down (2 * n) k y ∙ ap (down (2 * n * k)) (mul-assoc 2 n y)
+  product-down = mul-down-left (2 * n) k y ∙ ap (down (2 * n * k)) (mul-assoc 2 n y)
 
   half-down-sum : pos (2 * n) *ℤ down k y +ℤ pos n ≡ down (2 * n * k) (2 * (n * y) + n)
   half-down-sum = ap (λ z. z +ℤ pos n) product-down ∙ add-pos-down (2 * n * k) (2 * (n * y)) n

@@ -15,16 +15,23 @@ fn no_difference() {
     assert!(text.contains("PASSED"), "{text}");
 }
 
+/// How often an outcome was met, by its line.
+fn times(line: &str) -> Option<u64> {
+    line.split_once(" times ")?.0.trim().parse().ok()
+}
+
+/// Whether so many outcomes are listed, and each was met more often than that.
+fn all_met(times: impl Iterator<Item = u64>, outcomes: usize, least: u64) -> bool {
+    let times: Vec<u64> = times.collect();
+    times.len() == outcomes && times.iter().all(|&times| times > least)
+}
+
 /// Sums past N spans, halves, and readings at both ends of 32 bits are not rare.
 #[test]
 fn sums_are_met() {
     let (_, text) = compare(&["--engines", "reference,reference", "--sheets", "6000"]);
     let listed = text.split_once("lowest accepted reading:\n").expect("the sums are listed").1;
-    let times: Vec<u64> = listed
-        .lines()
-        .map_while(|line| line.split_once(" times ")?.0.trim().parse().ok())
-        .collect();
-    assert!(times.len() == 12 && times.iter().all(|&times| times > 15), "{text}");
+    assert!(all_met(listed.lines().map_while(times), 12, 15), "{text}");
 }
 
 /// What is rare of the trimming rules is met too: of 20,000 sheets often enough that none of it is left to chance in 200,000.
@@ -33,11 +40,7 @@ fn trims_are_met() {
     let (_, text) = compare(&["--engines", "reference,reference", "--sheets", "20000"]);
     let listed = text.split_once(" sheets by a trimming rule").expect("they are listed").1;
     let listed = listed.split_once(" intervals, ").expect("the intervals are listed below").0;
-    let times: Vec<u64> = listed
-        .lines()
-        .filter_map(|line| line.split_once(" times ")?.0.trim().parse().ok())
-        .collect();
-    assert!(times.len() == 22 && times.iter().all(|&times| times > 5), "{text}");
+    assert!(all_met(listed.lines().filter_map(times), 22, 5), "{text}");
 }
 
 /// The same of the interval between rounds.
@@ -45,11 +48,7 @@ fn trims_are_met() {
 fn intervals_are_met() {
     let (_, text) = compare(&["--engines", "reference,reference", "--sheets", "6000"]);
     let listed = text.split_once(" intervals, ").expect("they are listed").1;
-    let times: Vec<u64> = listed
-        .lines()
-        .filter_map(|line| line.split_once(" times ")?.0.trim().parse().ok())
-        .collect();
-    assert!(times.len() == 32 && times.iter().all(|&times| times > 15), "{text}");
+    assert!(all_met(listed.lines().filter_map(times), 32, 15), "{text}");
 }
 
 #[test]

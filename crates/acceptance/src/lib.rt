@@ -1,4 +1,6 @@
 // Who is accepted. A mark of 1 is a present reading, any other is none; the values are ticks moved up by 2^31.
+#![tactic(auto)]
+
 ghost use Rattle.std.specs.Prelude.{◌≡◌, true, cond, not, ◌&&◌, ◌||◌, ◌+◌, ◌≤◌, ◌<◌, ltb, eqb, length};
 ghost use Rattle.arithmetic.specs.Counting.{bit, count};
 ghost use Rattle.arithmetic.specs.Writing.{table, overwrite};

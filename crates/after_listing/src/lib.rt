@@ -1,4 +1,6 @@
 // Document 02, program `replay`: from the bytes of a trace to the line of the values after some rounds.
+#![tactic(auto)]
+
 ghost use Rattle.std.specs.Prelude.{◌≡◌, ◌≤◌, length};
 ghost use Rattle.trace.specs.Trace.{rounds_at};
 ghost use Rattle.trace.specs.ReplayText.{listed_room};

@@ -1,4 +1,6 @@
 // Document 02, program `replay`: the line of the values after some rounds, written into a lent buffer.
+#![tactic(auto)]
+
 ghost use Rattle.std.specs.Prelude.{◌≡◌};
 ghost use Rattle.trace.specs.ReplayText.{after_text};
 ghost use Rattle.fields.specs.Putting.{Puts};

@@ -1,5 +1,7 @@
 // The steps of a round. Readings are held by their marks and by their ticks moved up by 2^31; the marks that it leaves
 // are those of the answer sheet.
+#![tactic(auto)]
+
 ghost use Rattle.std.specs.Prelude.{◌≡◌, false, ◌≤◌, length, get_or};
 ghost use Rattle.arithmetic.specs.Writing.{table};
 ghost use Rattle.model.specs.Ensemble.{max_cabinets};

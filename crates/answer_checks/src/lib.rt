@@ -1,4 +1,6 @@
 // Document 01, "The answer sheet": whether bytes are one, and one that has a cabinet.
+#![tactic(auto)]
+
 ghost use Rattle.std.specs.Prelude.{◌≡◌};
 ghost use Rattle.refusals.specs.Answers.{check_of};
 ghost use Rattle.model.specs.Refusals.{first_of};

@@ -1,4 +1,6 @@
 // Document 01, "The answer sheet": where its fields stand, read from any bytes. Bytes past the end are 0.
+#![tactic(auto)]
+
 ghost use Rattle.std.specs.Prelude.{◌≡◌, ◌+◌, ◌*◌};
 ghost use Rattle.model.specs.RoundSheet.{byte, word};
 ghost use Rattle.model.specs.AnswerSheet.{answer_header_size};

@@ -1,1 +1,2 @@
 // Laws of the answer sheet that is read back. It has no function.
+#![tactic(auto)]

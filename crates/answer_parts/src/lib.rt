@@ -1,4 +1,6 @@
 // Parts of an answer sheet: the room that it takes, its header, and the value used for a cabinet.
+#![tactic(auto)]
+
 ghost use Rattle.std.specs.Prelude.{◌≡◌, cond, eqb};
 ghost use Rattle.std.specs.Int.{w32};
 ghost use Rattle.std.proofs.Common.{of_z};

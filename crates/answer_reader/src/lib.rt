@@ -1,5 +1,7 @@
 // Document 01, "The answer sheet": its fields, read from any bytes. Estimate, new value and used value are the 32 bits
 // of a signed number, which `tick::Tick::from_bits` reads.
+#![tactic(auto)]
+
 ghost use Rattle.std.specs.Prelude.{◌≡◌};
 ghost use Rattle.refusals.specs.Answers.{check_of};
 ghost use Rattle.model.specs.Calls.{verdict};

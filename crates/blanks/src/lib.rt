@@ -1,4 +1,6 @@
 // "A missing reading is four zero bytes": the tests of one entry.
+#![tactic(auto)]
+
 ghost use Rattle.std.specs.Prelude.{◌≡◌, not, eqb};
 
 // Whether an entry's mark says that it is missing.

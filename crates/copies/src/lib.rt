@@ -1,4 +1,6 @@
 // The copies of a row: a mark for each, and four bytes of each. Those that hold a value are counted without a branch.
+#![tactic(auto)]
+
 ghost use Rattle.std.specs.Prelude.{◌≡◌, not, ◌&&◌, ◌||◌, ◌+◌, ◌*◌, ◌≤◌, ◌<◌, eqb, ltb, length};
 ghost use Rattle.arithmetic.specs.Counting.{count};
 ghost use Rattle.model.specs.Ensemble.{max_cabinets};

@@ -1,5 +1,7 @@
 // The readings of a sheet as decided from each cabinet's row of copies, held as marks and as values of 32 bits beside
 // them.
+#![tactic(auto)]
+
 ghost use Rattle.std.specs.Prelude.{◌≡◌, length};
 ghost use Rattle.model.specs.Steps.{decided_reading};
 ghost use Rattle.held.specs.Held.{held_mark, held_value};

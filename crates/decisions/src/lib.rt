@@ -1,5 +1,7 @@
 // The crusaders decision of a row. The copies of its first values are counted, which decides most rows; where that
 // leaves it open, a majority vote finds the one value that can have enough copies, and one count decides.
+#![tactic(auto)]
+
 ghost use Rattle.std.specs.Prelude.{◌≡◌, not, ◌||◌, ◌+◌, ◌*◌, ◌/◌, ◌≤◌, ◌<◌, leb, eqb, length};
 ghost use Rattle.model.specs.Ensemble.{max_cabinets};
 ghost use Rattle.copies.specs.Copies.{copy_bits};

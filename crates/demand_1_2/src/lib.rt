@@ -1,1 +1,2 @@
 // Laws that tie document 01's definitions to the words of the demands. It has no function.
+#![tactic(auto)]

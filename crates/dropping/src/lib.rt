@@ -1,4 +1,6 @@
 // What the two ways to drop the m lowest and the m highest readings share.
+#![tactic(auto)]
+
 ghost use Rattle.std.specs.Prelude.{◌≡◌, cond, ◌<◌};
 ghost use Rattle.arithmetic.specs.Words.{two_to32};
 ghost use Rattle.dropping.specs.Dropping.{unfit_for};

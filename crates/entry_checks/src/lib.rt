@@ -1,4 +1,6 @@
 // Document 01, "Numbers of refusal": checks 6, 8 and 9 of a sheet.
+#![tactic(auto)]
+
 ghost use Rattle.std.specs.Prelude.{◌≡◌, ◌∷◌, length};
 ghost use Rattle.refusals.specs.Answers.{check_of};
 ghost use Rattle.model.specs.RoundSheet.{entry_count, sheet_length, mark_at, bits_at};

@@ -1,5 +1,7 @@
 // The estimate of readings and the mean of used values, by their distances from the lowest reading, in 32 bits.
 // Readings are held by their marks and by their ticks moved up by 2^31.
+#![tactic(auto)]
+
 ghost use Rattle.std.specs.Prelude.{◌≡◌, ◌-◌, ◌≤◌};
 ghost use Rattle.model.specs.Ensemble.{max_cabinets};
 ghost use Rattle.summaries.specs.Summaries.{Fitting, Summarizes};

@@ -1,5 +1,7 @@
 // Document 02, "Paper 7. Fall back to the direct sheet", for a person: reads a crusaders sheet and a direct sheet from
 // two files, and writes which of them settled the round, and its answer.
+#![tactic(auto)]
+
 ghost use Rattle.std.specs.Prelude.{◌≡◌, length};
 ghost use Rattle.model.specs.Listing.{max_input};
 ghost use Rattle.text.specs.Text.{round_capacity};

@@ -1,5 +1,7 @@
 // How the call for C and for Rust answers with a round that was settled by one of two sheets. Beside a refusal it is
 // zeros.
+#![tactic(auto)]
+
 ghost use Rattle.std.specs.Prelude.{◌≡◌};
 ghost use Rattle.falling_back.specs.Answers.{pair_settled_of};
 ghost use Rattle.fallback_packing.specs.Answers.{falling_of, falling_by};

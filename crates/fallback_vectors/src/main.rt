@@ -2,6 +2,8 @@
 // sheet and the number of the sheet that settled the round, 1 crusaders and 2 direct; where its readings start and how
 // many bytes they have; and then what settle_vectors prints of an answer sheet. The buffer holds 165 everywhere before
 // the call.
+#![tactic(auto)]
+
 use falling_back::PairSettled;
 use model::ANSWER_HEADER_SIZE;
 

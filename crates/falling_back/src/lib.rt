@@ -1,5 +1,7 @@
 // Document 02, "Paper 7. Fall back to the direct sheet": the crusaders sheet is settled, or after "too many faults" the
 // direct sheet.
+#![tactic(auto)]
+
 ghost use Rattle.std.specs.Prelude.{◌≡◌};
 ghost use Rattle.sheet_pairs.specs.Fallback.{fallback};
 ghost use Rattle.falling_back.specs.Answers.{pair_settled_of};

@@ -1,4 +1,6 @@
 // Document 01, "Program `settle`": numbers in decimal and a line's fields, put into a lent buffer.
+#![tactic(auto)]
+
 ghost use Rattle.std.specs.Prelude.{[], ◌∷◌};
 ghost use Rattle.std.specs.Int.{w32};
 ghost use Rattle.std.proofs.Common.{to_z};

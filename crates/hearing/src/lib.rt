@@ -1,5 +1,7 @@
 // What a cabinet hears in a round of a recorded run: of a sound cabinet what that holds, of a faulty one what was
 // recorded. Readings are held as marks and as values of 32 bits beside them.
+#![tactic(auto)]
+
 ghost use Rattle.std.specs.Prelude.{◌≡◌, ◌*◌, ◌≤◌, ◌<◌, length};
 ghost use Rattle.model.specs.Ensemble.{max_cabinets};
 ghost use Rattle.held.specs.Held.{held_mark, held_value};

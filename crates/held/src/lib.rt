@@ -1,5 +1,7 @@
 // How a reading is held while a round is settled, in 32 bits: its ticks moved up by 2^31, and its mark beside it. A
 // mark of 1 is a present reading, any other is none.
+#![tactic(auto)]
+
 ghost use Rattle.std.specs.Prelude.{◌≡◌};
 ghost use Rattle.std.specs.Int.{w32};
 ghost use Rattle.std.proofs.Common.{to_z, of_z};

@@ -1,4 +1,6 @@
 // Document 01, "Program `settle`": how much of its input the program reads.
+#![tactic(auto)]
+
 ghost use Rattle.std.specs.Prelude.{◌≡◌, min};
 ghost use Rattle.model.specs.Listing.{max_input};
 

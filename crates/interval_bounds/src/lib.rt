@@ -1,5 +1,7 @@
 // Document 02, "Paper 6. How long between rounds": the least and the greatest interval that meets both of the paper's
 // inequalities. R times its factor in the second does not fit 64 bits, so the bounds are found by dividing.
+#![tactic(auto)]
+
 ghost use Rattle.std.specs.Prelude.{◌≡◌, ◌≤◌, ◌<◌};
 ghost use Rattle.model.specs.Ensemble.{max_window};
 ghost use Rattle.interval.specs.Interval.{max_precision, max_drift, out_of_range, interval};

@@ -1,4 +1,6 @@
 // How the call for C and for Rust answers with an interval. Beside a refusal it is zeros.
+#![tactic(auto)]
+
 ghost use Rattle.std.specs.Prelude.{◌≡◌};
 ghost use Rattle.interval_bounds.specs.Answers.{scheduled_of};
 ghost use Rattle.interval_packing.specs.Answers.{scheduling_of};

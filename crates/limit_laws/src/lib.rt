@@ -1,1 +1,2 @@
 // The limits of one round for sound cabinets. It has no function.
+#![tactic(auto)]

@@ -1,5 +1,7 @@
 // The terms of the limits for t bad cabinets, on plain numbers: which limits are stated, and what the wider ones are
 // shares and quotients of.
+#![tactic(auto)]
+
 ghost use Rattle.std.specs.Prelude.{◌≡◌, ◌+◌, ◌*◌, leb};
 
 // Whether the planned limits hold.

@@ -1,5 +1,7 @@
 // The limits that the guarantee states for t bad cabinets: the planned ones up to m, the wider ones of the first round
 // below N-m.
+#![tactic(auto)]
+
 ghost use Rattle.std.proofs.Math.Option.{none};
 ghost use Rattle.std.specs.Prelude.{◌≡◌, ◌+◌, ◌*◌, ◌-◌, ◌/◌, ◌≤◌, ◌<◌};
 ghost use Rattle.model.specs.Ensemble.{max_cabinets};

@@ -1,5 +1,7 @@
 // Document 01, "Program `settle`": the lines of its text, put into a lent buffer from a position on. Each function
 // gives the position after the last byte; bytes that the buffer has no room for are left out.
+#![tactic(auto)]
+
 ghost use Rattle.model.specs.Refusals.{refusal};
 ghost use Rattle.model.specs.Listing.{refusal_text};
 ghost use Rattle.fields.specs.Putting.{Puts};

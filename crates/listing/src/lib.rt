@@ -1,4 +1,6 @@
 // Document 01, "Program `settle`": from the bytes of a round sheet to the text that the program writes.
+#![tactic(auto)]
+
 ghost use Rattle.std.specs.Prelude.{◌≡◌, ◌≤◌, length};
 ghost use Rattle.model.specs.Listing.{listing_buffer};
 ghost use Rattle.text.specs.Text.{round_capacity};

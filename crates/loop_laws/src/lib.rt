@@ -1,1 +1,2 @@
 // Laws of loops that count and add up. No function.
+#![tactic(auto)]

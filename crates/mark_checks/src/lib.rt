@@ -1,4 +1,6 @@
 // Check 8 of a list of marks: the lowest that is not 0 or 1.
+#![tactic(auto)]
+
 ghost use Rattle.std.specs.Prelude.{◌≡◌, cond, ◌≤◌, ltb, length};
 ghost use Rattle.std.proofs.Math.Option.{none};
 ghost use Rattle.std.specs.Int.Bits.{bit_or, bit_xor};

@@ -1,4 +1,6 @@
 // Means of numbers by how many they are and by their sum, all in 32 bits.
+#![tactic(auto)]
+
 ghost use Rattle.std.specs.Prelude.{◌≡◌, ◌+◌, ◌*◌, ◌<◌, ltb};
 ghost use Rattle.arithmetic.specs.Counting.{bit};
 ghost use Rattle.means.specs.Means.{floor_mean, nearest_mean};

@@ -1,4 +1,6 @@
 // Check 9 of marks and, for each, a reading of four bytes: the lowest that is missing with bytes that are not zero.
+#![tactic(auto)]
+
 ghost use Rattle.std.specs.Prelude.{◌≡◌, cond, not, ◌||◌, ◌*◌, ◌≤◌, ◌<◌, min, ltb, eqb, length};
 ghost use Rattle.arithmetic.specs.Counting.{lowest};
 ghost use Rattle.model.specs.RoundSheet.{byte, word};

@@ -1,5 +1,6 @@
 // The records and the numbers that document 01's definitions and the functions share. It has no function: a number that
 // is not the definitions' own is refused where it is used.
+#![tactic(auto)]
 
 // Limits of N, of the window, of a caller's spread, of the precision and the drift that an interval is for, of an
 // accuracy to start from and to step from, and of the rounds.

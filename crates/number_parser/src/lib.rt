@@ -1,4 +1,6 @@
 // Numbers as a person gives them to a program, in decimal digits, and reads them, in microseconds.
+#![tactic(auto)]
+
 ghost use Rattle.std.specs.Prelude.{cond, ◌||◌, ◌≡◌, ◌*◌, leb, ltb};
 ghost use Rattle.arithmetic.specs.Words.{two_to32};
 ghost use Rattle.model.specs.Ensemble.{ticks_per_second};

@@ -1,4 +1,6 @@
 // The outcome of a round that is agreed on: its answer sheet in the lent buffer, or check 10's refusal.
+#![tactic(auto)]
+
 ghost use Rattle.std.specs.Prelude.{◌≡◌};
 ghost use Rattle.model.specs.Refusals.{too_many_faults};
 ghost use Rattle.refusals.specs.Answers.{check_of};

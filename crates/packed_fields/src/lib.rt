@@ -1,5 +1,7 @@
 // The fields of an answer sheet of any bytes, for C and for Rust. An answer below 2^32 is a grant, any other is
 // number × 2^32 + place of a refusal. Signed numbers go out as their 32 bits.
+#![tactic(auto)]
+
 ghost use Rattle.std.specs.Prelude.{◌≡◌};
 ghost use Rattle.answer_reader.specs.Fields.{shown_of};
 ghost use Rattle.answer_reader.specs.Fields.{cabinets_in, count_in, estimate_in, value_in, mark_in, used_in};

@@ -1,5 +1,7 @@
 // What the calls for C and for Rust hand over beside an answer: the settings of a round sheet, and a plan. Beside a
 // refusal they are zeros.
+#![tactic(auto)]
+
 ghost use Rattle.std.specs.Prelude.{◌≡◌};
 ghost use Rattle.sheet_checks.specs.Answers.{opened_of};
 ghost use Rattle.planner.specs.Answers.{planned_of};

@@ -1,4 +1,6 @@
 // How a refusal goes out to C and to Rust: number × 2^32 + place.
+#![tactic(auto)]
+
 ghost use Rattle.std.specs.Prelude.{◌≡◌};
 ghost use Rattle.packed_refusals.specs.Answers.{packed_refusal};
 

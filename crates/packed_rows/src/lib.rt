@@ -1,4 +1,6 @@
 // Where a cabinet's row of readings stands in a sheet, as one number for C and for Rust.
+#![tactic(auto)]
+
 ghost use Rattle.std.specs.Prelude.{◌≡◌};
 ghost use Rattle.packed_rows.specs.Answers.{packed_row};
 

@@ -1,5 +1,7 @@
 // Settling with its answer in one number, as the calls for C and for Rust have it. Such an answer goes through a
 // register and an enum's through memory; and the calls of the static library that settle share this one function.
+#![tactic(auto)]
+
 ghost use Rattle.std.specs.Prelude.{◌≡◌};
 ghost use Rattle.model.specs.Calls.{settle_spread, settle};
 ghost use Rattle.settling.specs.Answers.{settled_of, settling_of};

@@ -1,5 +1,7 @@
 // How the calls for C and for Rust answer. An answer below 2^32 is a grant, any other is number × 2^32 + place of a
 // refusal.
+#![tactic(auto)]
+
 ghost use Rattle.std.specs.Prelude.{◌≡◌};
 ghost use Rattle.sheet_writer.specs.Answers.{filled_of};
 ghost use Rattle.planner.specs.Answers.{counted_of};

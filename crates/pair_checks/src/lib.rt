@@ -1,4 +1,6 @@
 // Document 02, "Paper 7. Fall back to the direct sheet": the checks of a CCA sheet and an FCA sheet together.
+#![tactic(auto)]
+
 ghost use Rattle.std.specs.Prelude.{not, ◌≡◌};
 ghost use Rattle.refusals.specs.Answers.{check_of};
 ghost use Rattle.model.specs.AnswerSheet.{answer_length};

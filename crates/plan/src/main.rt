@@ -1,5 +1,7 @@
 // The planner for a person: the windows and the accuracies round by round, the limits for t bad cabinets, and how long
 // may be between rounds. A function that shows something answers whether all that it had to write was written.
+#![tactic(auto)]
+
 use interval_bounds::Scheduled;
 use limits::{Limits, Wider};
 use model::{Refusal, Settings};

@@ -1,4 +1,6 @@
 // The arguments of the program `plan`, as a person types them. A bad one is complained about on standard error.
+#![tactic(auto)]
+
 use model::{AVERAGE, CCA, FCA, MEDIAN, MIDPOINT, Settings, TRIMMED_MEAN, TRIMMED_MIDPOINT};
 
 // The first five arguments: the settings, and N as it was typed. Numbers that no settings hold are cut to the highest

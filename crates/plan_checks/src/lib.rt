@@ -1,4 +1,6 @@
 // Document 01, "Numbers of refusal": the checks of the planner and of its step, 2 to 5 and then 11.
+#![tactic(auto)]
+
 ghost use Rattle.std.specs.Prelude.{◌||◌, ◌≡◌, leb, ltb};
 ghost use Rattle.model.specs.Planner.{max_accuracy, max_rounds, max_step_accuracy};
 ghost use Rattle.model.specs.Refusals.{first_of, planning_checks, plan_checks, step_checks};

@@ -1,4 +1,6 @@
 // The plan of a run from round to round.
+#![tactic(auto)]
+
 ghost use Rattle.std.specs.Prelude.{◌≡◌};
 ghost use Rattle.model.specs.Calls.{step};
 ghost use Rattle.planner.specs.Answers.{plan_of};

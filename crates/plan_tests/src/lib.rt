@@ -1,4 +1,6 @@
 // The tests of the count of rounds for a target.
+#![tactic(auto)]
+
 ghost use Rattle.std.specs.Prelude.{◌≡◌, leb, ltb};
 ghost use Rattle.model.specs.Planner.{max_rounds};
 

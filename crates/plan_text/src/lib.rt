@@ -1,4 +1,6 @@
 // What the program `plan` says to a person: its usage, numbers of ticks, refusals.
+#![tactic(auto)]
+
 use model::{BAD_CABINETS, BAD_FAULTS, BAD_INTERVAL, BAD_METHOD, BAD_PLAN, BAD_WINDOW, Refusal};
 
 // Writes to standard output, as each function below that answers whether all that it had to write was written.

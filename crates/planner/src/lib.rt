@@ -1,4 +1,6 @@
 // Document 01, "The planner": the window and the accuracy after some rounds, and the rounds that reach a target.
+#![tactic(auto)]
+
 ghost use Rattle.std.specs.Prelude.{◌≡◌, ◌≤◌, ◌<◌};
 ghost use Rattle.std.proofs.Math.Option.{none};
 ghost use Rattle.model.specs.Planner.{plan_from, advance, after, max_rounds, max_step_accuracy};

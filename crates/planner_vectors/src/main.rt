@@ -1,6 +1,8 @@
 // Prints what the planner answers to the vectors of the file stdin (see the crate vectors): the window, the
 // accuracy and the rounds, or that a count of rounds reaches the target, which count is free; and the least and the
 // greatest interval between rounds.
+#![tactic(auto)]
+
 use interval_bounds::Scheduled;
 use model::Settings;
 use planner::{Counted, Plan, Planned};

@@ -1,5 +1,7 @@
 // Plays a trace: its checks, and its rounds one after the other. What sound cabinets hold is held as ticks moved up by
 // 2^31.
+#![tactic(auto)]
+
 ghost use Rattle.std.specs.Prelude.{◌≡◌, cond, ◌+◌, ◌≤◌, ◌<◌, min, eqb, length, get_or};
 ghost use Rattle.arithmetic.specs.Naturals.{up};
 ghost use Rattle.arithmetic.specs.Words.{two_to31};

@@ -1,6 +1,8 @@
 // How many come before each of at most 64 numbers, ordered by value and then by place. Of each number those below it
 // are counted, in one pass without a branch. Two numbers have equally many below them only where they are equal, so
 // what was seen before says which of equal ones it is.
+#![tactic(auto)]
+
 ghost use Rattle.std.specs.Prelude.{◌≡◌, ◌≤◌, length};
 ghost use Rattle.arithmetic.specs.Writing.{table, overwrite};
 ghost use Rattle.model.specs.Ensemble.{max_cabinets};

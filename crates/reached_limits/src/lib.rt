@@ -1,5 +1,7 @@
 // Whether a round is known that reaches the exact limits for more than m bad cabinets (crates/sharpness has it), of any
 // settings.
+#![tactic(auto)]
+
 ghost use Rattle.std.specs.Prelude.{◌≡◌};
 ghost use Rattle.reached_limits.specs.Reached.{reachable};
 

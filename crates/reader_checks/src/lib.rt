@@ -1,4 +1,6 @@
 // Document 01, "Numbers of refusal": checks 1 to 9 of the reader.
+#![tactic(auto)]
+
 ghost use Rattle.std.specs.Prelude.{◌≡◌};
 ghost use Rattle.model.specs.RoundSheet.{settings_at, entry_count};
 ghost use Rattle.model.specs.Refusals.{or_next, first_of, no_room, read_checks};

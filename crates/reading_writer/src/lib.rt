@@ -1,4 +1,6 @@
 // Document 01, "The round sheet": readings, stored.
+#![tactic(auto)]
+
 ghost use Rattle.std.specs.Prelude.{◌≡◌};
 ghost use Rattle.reading_writer.specs.Readings.{readings_put};
 

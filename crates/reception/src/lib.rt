@@ -1,5 +1,7 @@
 // What a cabinet reads of the others: the readings of a sheet, by FCA as sent, by CCA as decided. They are held as
 // marks and as values of 32 bits beside them.
+#![tactic(auto)]
+
 ghost use Rattle.std.specs.Prelude.{◌≡◌, cond, eqb, length};
 ghost use Rattle.model.specs.RoundSheet.{cca};
 ghost use Rattle.reception.specs.Receiving.{fitting, fitting_direct, marks_received, values_received};

@@ -1,1 +1,2 @@
 // Laws of the table of refusals. No function.
+#![tactic(auto)]

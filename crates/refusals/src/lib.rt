@@ -1,4 +1,6 @@
 // Document 01, "Numbers of refusal": how the code makes a refusal, and takes the first of several checks.
+#![tactic(auto)]
+
 ghost use Rattle.std.specs.Prelude.{◌≡◌};
 ghost use Rattle.model.specs.Refusals.{refusal, refuse_if, or_next};
 ghost use Rattle.refusals.specs.Answers.{check_of};

@@ -1,4 +1,6 @@
 // The text of a refusal, by what a call answers.
+#![tactic(auto)]
+
 ghost use Rattle.std.specs.Prelude.{◌≡◌};
 ghost use Rattle.text.specs.Text.{refusal_written};
 

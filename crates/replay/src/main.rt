@@ -1,5 +1,7 @@
 // Document 02, program `replay`: reads a trace from standard input, at most 655,690 bytes, and writes its listing; on
 // request the values after each round first.
+#![tactic(auto)]
+
 ghost use Rattle.std.specs.Prelude.{◌≡◌, length};
 ghost use Rattle.trace.specs.ReplayText.{max_trace_input};
 ghost use Rattle.replay_text.specs.Final.{final_capacity};

@@ -1,4 +1,6 @@
 // Document 02, program `replay`: from the bytes of a trace to the text that the program writes.
+#![tactic(auto)]
+
 ghost use Rattle.std.specs.Prelude.{◌≡◌, ◌≤◌, length};
 ghost use Rattle.trace.specs.ReplayText.{listed_room};
 ghost use Rattle.replay_text.specs.Final.{final_capacity};

@@ -1,5 +1,7 @@
 // How the call for C and for Rust answers a replay: an answer below 2^32 is a grant, any other is number × 2^32 + place
 // of a refusal.
+#![tactic(auto)]
+
 ghost use Rattle.std.specs.Prelude.{◌≡◌};
 ghost use Rattle.replaying.specs.Answers.{replayed_of};
 ghost use Rattle.packed_refusals.specs.Answers.{packed};

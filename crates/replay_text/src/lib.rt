@@ -1,4 +1,6 @@
 // Document 02, program `replay`: the text of final values, from a trace's bytes and theirs, written into a lent buffer.
+#![tactic(auto)]
+
 ghost use Rattle.std.specs.Prelude.{[], ◌∷◌, ◌≡◌};
 ghost use Rattle.model.specs.Listing.{decimal, line};
 ghost use Rattle.trace.specs.ReplayText.{replay_word};

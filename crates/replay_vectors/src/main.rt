@@ -1,5 +1,7 @@
 // Prints what a replay answers to the vectors of the file stdin (see the crate vectors): the length of the final
 // values, the values, and what stands behind them in the buffer, which holds 165 everywhere before the call.
+#![tactic(auto)]
+
 use replaying::Replayed;
 
 fn show_values(buffer: &[u8], size: usize) {

@@ -1,4 +1,6 @@
 // Document 02, "Paper 1. Replay of a station run": from a trace to the final values, or one numbered refusal.
+#![tactic(auto)]
+
 ghost use Rattle.std.specs.Prelude.{◌≡◌, min, length};
 ghost use Rattle.model.specs.Ensemble.{max_cabinets};
 ghost use Rattle.trace.specs.Trace.{rounds_at};

@@ -1,5 +1,7 @@
 // Document 02, "Paper 1. Replay of a station run": check 14 of a list of roles, and of marks in rows of as many marks
 // as there are roles.
+#![tactic(auto)]
+
 ghost use Rattle.std.specs.Prelude.{◌≡◌};
 ghost use Rattle.refusals.specs.Answers.{check_of};
 ghost use Rattle.role_checks.specs.Roles.{strange_in, roles_in};

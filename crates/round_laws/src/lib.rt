@@ -1,1 +1,2 @@
 // Laws of document 01's steps of a round. It has no function.
+#![tactic(auto)]

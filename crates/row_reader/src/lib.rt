@@ -1,4 +1,6 @@
 // Document 01, "The round sheet": the row accessor.
+#![tactic(auto)]
+
 ghost use Rattle.std.specs.Prelude.{◌≡◌};
 ghost use Rattle.model.specs.Calls.{row};
 

@@ -1,4 +1,6 @@
 // Document 01, "One cabinet's row of readings is shown as the part of the sheet that holds it": the part, of any sheet.
+#![tactic(auto)]
+
 ghost use Rattle.std.specs.Prelude.{◌≡◌};
 ghost use Rattle.model.specs.RoundSheet.{row_entries, row_start};
 ghost use Rattle.rows.specs.Parts.{part_at};

@@ -1,4 +1,6 @@
 // Ticks as a person reads them: in seconds, with nine decimals.
+#![tactic(auto)]
+
 ghost use Rattle.std.specs.Prelude.{◌≡◌};
 ghost use Rattle.seconds.specs.Seconds.{whole_seconds, billionths, billionths_up, decimals};
 

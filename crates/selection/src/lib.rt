@@ -1,4 +1,6 @@
 // The present reading that is numbered h from below, found by counting: nothing is sorted.
+#![tactic(auto)]
+
 ghost use Rattle.std.specs.Prelude.{◌≡◌, ◌&&◌, ◌+◌, ◌-◌, min, ◌≤◌, leb, eqb, length};
 ghost use Rattle.arithmetic.specs.Words.{two_to32};
 ghost use Rattle.model.specs.Ensemble.{max_cabinets};

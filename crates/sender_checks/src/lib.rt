@@ -1,5 +1,7 @@
 // Document 02, "Paper 1. Replay of a station run": whether a sound sender's entry is present, of a list of roles, and
 // of marks in rows of as many marks as there are roles, one row for each sender in turn.
+#![tactic(auto)]
+
 ghost use Rattle.std.specs.Prelude.{◌≡◌, cond, ◌&&◌, ◌+◌, ◌<◌, min, eqb, ltb};
 ghost use Rattle.sender_checks.specs.Senders.{present_in, sent_in};
 

@@ -1,4 +1,6 @@
 // The readings of a sheet as sent, held as marks and as values of 32 bits beside them.
+#![tactic(auto)]
+
 ghost use Rattle.std.specs.Prelude.{◌≡◌, length};
 ghost use Rattle.held_laws.specs.Stored.{Stored};
 ghost use Rattle.decisions.specs.Rows.{copy_at};

@@ -1,5 +1,7 @@
 // Document 01, "The ensemble", and document 02, "Paper 5. Trimming rules": the settings that pass checks 2 to 5 or are
 // refused, those of a sheet and those of a plan.
+#![tactic(auto)]
+
 ghost use Rattle.std.specs.Prelude.{◌≡◌, cond, ◌||◌, ℕ, ◌+◌, ◌*◌, eqb, ltb};
 ghost use Rattle.model.specs.RoundSheet.{trims, average, midpoint};
 ghost use Rattle.model.specs.Refusals.{first_of, settings_checks, planner_checks, unknown_method, unplanned_method};

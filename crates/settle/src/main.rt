@@ -1,5 +1,7 @@
 // Document 01, "Program `settle`": reads one round sheet from standard input, at most 20,489 bytes, and writes its
 // listing.
+#![tactic(auto)]
+
 ghost use Rattle.std.specs.Prelude.{◌≡◌, length};
 ghost use Rattle.model.specs.Listing.{max_input};
 ghost use Rattle.text.specs.Text.{round_capacity};

@@ -1,6 +1,8 @@
 // Prints what settling answers to the vectors of the file stdin (see the crate vectors), without a spread and with one:
 // the length of the answer sheet, N, the accepted count, the estimate and the new value, the marks, the used values,
 // and what stands behind the answer in the buffer, which holds 165 everywhere before the call.
+#![tactic(auto)]
+
 use model::ANSWER_HEADER_SIZE;
 use settling::Settled;
 

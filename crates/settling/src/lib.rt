@@ -1,5 +1,7 @@
 // Settling: from a round sheet to its answer sheet, or one numbered refusal. Document 02, "Paper 2. Cable runs differ":
 // with a spread, which a caller without one has as 0.
+#![tactic(auto)]
+
 ghost use Rattle.std.specs.Prelude.{◌≡◌, length, ℕ, ◌≤◌, ◌<◌};
 ghost use Rattle.model.specs.Ensemble.{max_cabinets, max_window, max_spread};
 ghost use Rattle.model.specs.RoundSheet.{cca};

@@ -1,5 +1,7 @@
 // Document 01, "The planner", and document 02, "Paper 4": the window's shares for some of N cabinets, rounded up, or
 // their whole part plus one, of any settings.
+#![tactic(auto)]
+
 ghost use Rattle.std.specs.Prelude.{cond, ◌&&◌, ◌≡◌, ◌*◌, ◌-◌, ◌≤◌, eqb};
 ghost use Rattle.arithmetic.specs.Words.{two_to32};
 ghost use Rattle.model.specs.Planner.{ceil_div, past_div, next_window, growth};

@@ -1,4 +1,6 @@
 // Document 01, "The round sheet" and "Numbers of refusal": the checks of a sheet.
+#![tactic(auto)]
+
 ghost use Rattle.std.specs.Prelude.{◌≡◌};
 ghost use Rattle.refusals.specs.Answers.{check_of};
 ghost use Rattle.model.specs.RoundSheet.{settings_at};

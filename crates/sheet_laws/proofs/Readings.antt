@@ -35,7 +35,7 @@ bits_fit z h = Fits-lt-pow (Fits-of_z h)
 
 -- such a number is that of its bits
 pub bits_again : (z : ℤ) → mag z < two_to31 → to_z w32 (of_z w32 z) ≡ z
-bits_again z h = to_z-of_z (record { sfits = h })
+bits_again z h = to_z-of_z {w = w32} (record { sfits = h })
 
 pub length-bytes4 : (x : ℕ) → length (bytes4 x) ≡ 4
 unfolding bytes4

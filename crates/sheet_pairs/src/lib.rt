@@ -1,1 +1,2 @@
 // Definitions and laws alone: document 02, "Paper 7. Fall back to the direct sheet". It has no function.
+#![tactic(auto)]

@@ -1,5 +1,7 @@
 // Document 01, "The round sheet" and "The answer sheet": the sizes that the first bytes say, and the lengths that
 // follow.
+#![tactic(auto)]
+
 ghost use Rattle.std.specs.Prelude.{◌≡◌};
 ghost use Rattle.model.specs.RoundSheet.{settings_at, entry_count, sheet_length};
 ghost use Rattle.model.specs.AnswerSheet.{answer_length};

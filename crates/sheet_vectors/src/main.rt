@@ -1,5 +1,7 @@
 // Prints what the reader, the row accessor and the writer answer to the vectors of the file stdin (see the crate
 // vectors), and what they leave in what they are lent, which holds 7 everywhere before each call.
+#![tactic(auto)]
+
 use sheet_checks::Opened;
 use sheet_writer::Filled;
 use tick::Tick;

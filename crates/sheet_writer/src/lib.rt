@@ -1,4 +1,6 @@
 // Document 01, "The round sheet": the writer.
+#![tactic(auto)]
+
 ghost use Rattle.std.specs.Prelude.{◌++◌, ◌≡◌, ◌+◌, ◌*◌, ◌≤◌, length};
 ghost use Rattle.arithmetic.specs.Writing.{overwrite};
 ghost use Rattle.model.specs.RoundSheet.{reading_bytes};

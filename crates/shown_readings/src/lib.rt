@@ -1,4 +1,6 @@
 // Document 02, "Paper 7. Fall back to the direct sheet": "shows the readings of whichever sheet settled the round".
+#![tactic(auto)]
+
 ghost use Rattle.std.specs.Prelude.{◌≡◌, min, take, drop};
 ghost use Rattle.sheet_pairs.specs.Fallback.{readings_start, readings_length, readings_part, shown_by, fallback};
 ghost use Rattle.falling_back.specs.Answers.{pair_settled_of};

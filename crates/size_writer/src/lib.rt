@@ -1,4 +1,6 @@
 // Document 01, "The round sheet": the sizes, stored.
+#![tactic(auto)]
+
 ghost use Rattle.std.specs.Prelude.{◌≡◌};
 ghost use Rattle.size_writer.specs.Sizes.{sizes_put};
 

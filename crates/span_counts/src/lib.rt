@@ -1,5 +1,7 @@
 // How many readings a span holds. A mark of 1 is a present reading, any other is none; the values are ticks moved up by
 // 2^31.
+#![tactic(auto)]
+
 ghost use Rattle.std.specs.Prelude.{◌≡◌, length};
 ghost use Rattle.arithmetic.specs.Counting.{count};
 ghost use Rattle.spans.specs.Spans.{held_at};

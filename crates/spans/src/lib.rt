@@ -1,5 +1,7 @@
 // Whether a value lies in a span, all values from a start to a width above it. A mark of 1 is a present reading, any
 // other is none; the values are ticks moved up by 2^31.
+#![tactic(auto)]
+
 ghost use Rattle.std.specs.Prelude.{◌≡◌, min, ◌==◌};
 ghost use Rattle.spans.specs.Spans.{in_span};
 

@@ -1,5 +1,7 @@
 // Who is heard to say what it holds in a round of a recorded run, what an entry is heard as, and which of the round's
 // entries it is.
+#![tactic(auto)]
+
 ghost use Rattle.std.specs.Prelude.{◌≡◌, ◌+◌, ◌*◌, eqb};
 ghost use Rattle.held.specs.Held.{entry_reading, held_mark, held_value};
 

@@ -1,4 +1,6 @@
 // What the programs read: standard input or a file, until a lent buffer is full or the input ends.
+#![tactic(auto)]
+
 ghost use Rattle.std.specs.Prelude.{length};
 ghost use Rattle.standard_input.specs.Sizes.{Within};
 

@@ -1,4 +1,6 @@
 // What is found of the starts of spans, and of a reading by the start that accepts it.
+#![tactic(auto)]
+
 ghost use Rattle.std.specs.Prelude.{◌≡◌, ◌&&◌, ◌+◌, leb, ltb, length, get_or};
 ghost use Rattle.arithmetic.specs.Counting.{bit};
 ghost use Rattle.spans.specs.Spans.{in_span};

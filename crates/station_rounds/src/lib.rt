@@ -1,4 +1,6 @@
 // One round of a recorded run: each sound cabinet settles what it hears. Values are ticks moved up by 2^31.
+#![tactic(auto)]
+
 ghost use Rattle.std.specs.Prelude.{◌≡◌, true, false, ◌≤◌, ◌<◌, length};
 ghost use Rattle.hearing.specs.Heard.{audible};
 ghost use Rattle.station_rounds.specs.Rounds.{meets_too_many, next_value, first_refused};

@@ -1,5 +1,7 @@
 // The tests of one cabinet in a round of a recorded run: whether it is faulty, how many must agree, and whether it
 // meets too many faults.
+#![tactic(auto)]
+
 ghost use Rattle.std.specs.Prelude.{◌≡◌, not, ◌-◌, eqb};
 
 // The role of a sound cabinet.

@@ -1,5 +1,7 @@
 // What is gathered of readings: how many are present, the lowest, the highest, and the sum of their distances from the
 // lowest. Readings are held by their marks and by their ticks moved up by 2^31.
+#![tactic(auto)]
+
 ghost use Rattle.std.specs.Prelude.{◌≡◌, ℕ, ◌+◌, ◌-◌, ◌*◌, ◌%◌, ◌<◌, ◌≤◌, min, max, ◌||◌, ◌==◌, nat_lt};
 ghost use Rattle.arithmetic.specs.Words.{two_to32};
 ghost use Rattle.model.specs.Ensemble.{max_cabinets};

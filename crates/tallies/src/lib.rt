@@ -1,4 +1,6 @@
 // What the count of one value's copies tells of a row: whether they decide it, or leave too few for any other value.
+#![tactic(auto)]
+
 ghost use Rattle.std.specs.Prelude.{◌≡◌, ◌-◌, leb, ltb};
 
 // Whether a value is decided by its copies.

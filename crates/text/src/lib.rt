@@ -1,4 +1,6 @@
 // Document 01, "Program `settle`": the text of an answer sheet and of a refusal, written into a lent buffer.
+#![tactic(auto)]
+
 ghost use Rattle.std.specs.Prelude.{◌≡◌};
 ghost use Rattle.model.specs.RoundSheet.{byte};
 ghost use Rattle.model.specs.Listing.{cabinet_lines};

@@ -1,5 +1,7 @@
 // Drops the m lowest and the m highest of more readings than are ranked one by one: by the thresholds between which
 // those that are left lie. A number at a threshold is dropped or left by its place.
+#![tactic(auto)]
+
 ghost use Rattle.std.specs.Prelude.{◌≡◌, cond, ◌+◌, ◌*◌, ◌-◌, min, ◌≤◌, ltb, eqb, length, get_or};
 ghost use Rattle.arithmetic.specs.Counting.{count};
 ghost use Rattle.arithmetic.specs.Words.{two_to32};

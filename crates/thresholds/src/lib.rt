@@ -1,6 +1,8 @@
 // Where the numbers that are left start and end when the m lowest and the m highest of a list are dropped, equal ones
 // by index. Nothing is sorted: a range of numbers is narrowed, and those below a number in it are counted, until as
 // many are below its start as are dropped.
+#![tactic(auto)]
+
 ghost use Rattle.std.specs.Prelude.{◌≡◌, ◌+◌, ◌≤◌, ◌<◌, length};
 ghost use Rattle.model.specs.Ensemble.{max_cabinets};
 ghost use Rattle.thresholds.specs.Thresholds.{Bounds, Splits, misfit, Found, max_unit, guessed};

@@ -15,7 +15,7 @@ use Rattle.arithmetic.proofs.Bools.{clash}
 use Rattle.arithmetic.specs.Words.{two_to31, two_to32}
 
 back : (z : ℤ) → mag z < two_to31 → to_z w32 (of_z w32 z) ≡ z
-back z fits = to_z-of_z (record { sfits = fits })
+back z fits = to_z-of_z {w = w32} (record { sfits = fits })
 
 -- what a cast to u32 asks and gives, of bits below 2^31
 low_cast : (x : ℕ) → x < two_to31 → T (non_neg (to_z w32 x)) × Fits w32 (nat_abs (to_z w32 x))

@@ -1,4 +1,6 @@
 // Document 01, "The tick carries its own fixed figures": ticks, their bits, and the figures.
+#![tactic(auto)]
+
 ghost use Rattle.std.specs.Prelude.{◌≡◌};
 ghost use Rattle.std.specs.Int.{w32};
 ghost use Rattle.std.proofs.Common.{to_z, of_z};

@@ -1,4 +1,6 @@
 // The calls for C and for Rust. An answer below 2^32 is a grant, any other is number × 2^32 + place of a refusal.
+#![tactic(auto)]
+
 ghost use Rattle.std.specs.Prelude.{◌≡◌};
 ghost use Rattle.model.specs.Calls.{settle_spread, settle, read, write, plan, step};
 ghost use Rattle.planner.specs.Answers.{plan_of};

@@ -1,4 +1,6 @@
 // Document 02, "Paper 1. Replay of a station run": the checks of a trace, all but 15.
+#![tactic(auto)]
+
 ghost use Rattle.std.specs.Prelude.{◌≡◌};
 ghost use Rattle.model.specs.RoundSheet.{settings_at};
 ghost use Rattle.model.specs.Refusals.{first_of};

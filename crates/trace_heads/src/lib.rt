@@ -1,4 +1,6 @@
 // Document 02, "Paper 1. Replay of a station run": the checks of a trace that come before those of its entries.
+#![tactic(auto)]
+
 ghost use Rattle.std.specs.Prelude.{◌≡◌, not, ◌||◌, ◌*◌, eqb, ltb};
 ghost use Rattle.model.specs.RoundSheet.{fca, settings_at};
 ghost use Rattle.model.specs.Planner.{max_rounds};

@@ -1,5 +1,7 @@
 // Document 02, "Paper 1. Replay of a station run": the parts of a trace that have the roles, and a round's marks and
 // readings. Each is a part of the caller's own slice, and empty where the trace is too short for it.
+#![tactic(auto)]
+
 ghost use Rattle.std.specs.Prelude.{◌≡◌, ◌+◌, ◌*◌};
 ghost use Rattle.trace.specs.Trace.{trace_header_size, trace_entries};
 ghost use Rattle.trace_parts.specs.Parts.{part_from};

@@ -1,4 +1,6 @@
 // How many rounds of a trace are played.
+#![tactic(auto)]
+
 ghost use Rattle.std.specs.Prelude.{◌≡◌, min, ltb};
 
 // The rounds that are asked for, at most as many as the trace has.

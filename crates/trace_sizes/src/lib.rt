@@ -1,5 +1,7 @@
 // Document 02, "Paper 1. Replay of a station run": how many entries a trace has, where its arrays begin, and its
 // length.
+#![tactic(auto)]
+
 ghost use Rattle.std.specs.Prelude.{◌≡◌, ◌+◌, ◌*◌};
 ghost use Rattle.model.specs.Ensemble.{max_cabinets};
 ghost use Rattle.trace.specs.Trace.{trace_header_size, trace_entries, trace_length};

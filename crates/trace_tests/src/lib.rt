@@ -1,4 +1,6 @@
 // The tests of a trace's numbers that checks 1, 13 and 7 make.
+#![tactic(auto)]
+
 ghost use Rattle.std.specs.Prelude.{◌≡◌, not, ◌||◌, ◌*◌, eqb, ltb};
 ghost use Rattle.model.specs.RoundSheet.{fca, header_size};
 ghost use Rattle.model.specs.Planner.{max_rounds};

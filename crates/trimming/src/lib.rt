@@ -1,6 +1,8 @@
 // The round of readings by the rules that drop the m lowest and the m highest (document 02, "Paper 5. Trimming rules").
 // Readings are held by their marks and by their ticks moved up by 2^31; the marks that it leaves are those of the
 // answer sheet.
+#![tactic(auto)]
+
 ghost use Rattle.std.specs.Prelude.{◌≡◌, cond, ◌*◌, ◌-◌, ◌≤◌, ◌<◌, eqb, length};
 ghost use Rattle.arithmetic.specs.Naturals.{up};
 ghost use Rattle.arithmetic.specs.Words.{two_to31, two_to32};

@@ -1,4 +1,6 @@
 // Document 02, program `replay`: the values of the cabinets in one line, put into a lent buffer.
+#![tactic(auto)]
+
 ghost use Rattle.fields.specs.Putting.{Puts};
 ghost use Rattle.value_lines.specs.Values.{value_at};
 ghost use Rattle.value_fields.specs.Spaced.{spaced_values};

@@ -1,1 +1,2 @@
 // Estimates and means lie among the numbers that they are of, so 32 bits hold a round. It has no function.
+#![tactic(auto)]

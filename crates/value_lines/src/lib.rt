@@ -1,5 +1,7 @@
 // Document 02, program `replay`: the lines of the cabinets, from a trace's bytes and those of their values, put into a
 // lent buffer.
+#![tactic(auto)]
+
 ghost use Rattle.trace.specs.Trace.{role_at};
 ghost use Rattle.trace.specs.ReplayText.{value_lines};
 ghost use Rattle.fields.specs.Putting.{Puts};

@@ -1,4 +1,6 @@
 // The values that a replay writes: what sound cabinets hold, and 0 for faulty ones.
+#![tactic(auto)]
+
 ghost use Rattle.std.specs.Prelude.{◌≡◌, cond, eqb, pos};
 ghost use Rattle.std.specs.Int.{w32};
 ghost use Rattle.std.proofs.Common.{of_z};

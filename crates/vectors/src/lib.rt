@@ -7,6 +7,8 @@
 // heading.
 //
 // A program gets a vector as bytes: the first letter of the call's name, and then the numbers.
+#![tactic(auto)]
+
 ghost use Rattle.std.specs.Prelude.{◌≤◌, length};
 
 use model::{Refusal, Settings};

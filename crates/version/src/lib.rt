@@ -1,4 +1,6 @@
 // The version of the library and the programs.
+#![tactic(auto)]
+
 ghost use Rattle.std.specs.Prelude.{◌≡◌};
 ghost use Rattle.version.specs.Version.{version_number, version_text};
 

@@ -1,4 +1,6 @@
 // Numbers of four bytes stored in a slice, least significant byte first. A number that does not fit is not stored.
+#![tactic(auto)]
+
 ghost use Rattle.std.specs.Prelude.{◌≡◌};
 ghost use Rattle.sheet_laws.specs.Storing.{put_word};
 

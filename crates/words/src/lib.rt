@@ -1,5 +1,7 @@
 // Bytes and numbers of four bytes read from a slice, least significant byte first. Every function is total: past the
 // end a byte reads 0.
+#![tactic(auto)]
+
 ghost use Rattle.std.specs.Prelude.{◌≡◌, ◌+◌, ◌*◌};
 ghost use Rattle.model.specs.RoundSheet.{byte, word};
 

@@ -1,10 +1,10 @@
 -- The rank of a number is how many are below it, and how many equal ones come before it; of two numbers as many are
 -- below just where they are equal.
 -- Assumes nothing.
-use mathlib.Core.Bool.{Bool, true, false, cond, ◌&&◌, ◌||◌}
+use mathlib.Core.Bool.{Bool, true, false, ◌&&◌}
 use mathlib.Core.List.{List}
 use mathlib.Core.Logic.{⊎_elim}
-use mathlib.Core.Path.{◌≡◌, refl, sym, ap, ap₂, ◌∙◌}
+use mathlib.Core.Path.{◌≡◌, refl, sym, ap, ◌∙◌}
 use Prim.Native.Nat.{ℕ, zero, suc, ◌+◌, ◌≤◌, ◌<◌}
 use native.Mathlib.Omega.{arith}
 use borrow.Author.Tests.{lt-ltb, le-ltb, ltb-true, ltb-false, eq-eqb, eqb-true, eqb-false, ne_eqb}
@@ -13,11 +13,11 @@ use lib.ListN.{length, get_or, set, replicate, length-set}
 use lib.Seq.{get_or-set_same, get_or-set_other}
 use Rattle.arithmetic.specs.Counting.{bit, count}
 use Rattle.arithmetic.specs.Writing.{table, overwrite}
-use Rattle.arithmetic.proofs.Bools.{both_ways, and_left, and_right, iff_eq, and_false}
-use Rattle.arithmetic.proofs.Counting.{count_ext, count-both, count-le}
+use Rattle.arithmetic.proofs.Bools.{both_ways, iff_eq, and_false}
+use Rattle.arithmetic.proofs.Counting.{count_ext, count-both}
 use Rattle.loop_laws.proofs.Loops.{count_next, Storing, storing_none, storing_long, storing_next, storing_all}
 use Rattle.model.specs.Ensemble.{max_cabinets}
-use Rattle.round_laws.specs.Naturals.{precedes_nat, rank_nat}
+use Rattle.round_laws.specs.Naturals.{rank_nat}
 use Rattle.value_laws.proofs.Order.{none_pass, count-more, rank-small}
 use Rattle.held.specs.Held.{value_at}
 use Rattle.ranks.specs.Ranks.{below_number, below_of, rank_at, below_at, Seen}

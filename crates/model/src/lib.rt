@@ -85,7 +85,7 @@ pub const BAD_PAIR: u8 = 19;
 
 // What a round sheet's sizes say. Nothing is presumed checked: any bytes may stand here.
 #[repr(C)]
-#[derive(Drop)]
+#[derive(Clone, Copy)]
 pub struct Settings {
     // N, the cabinets.
     pub n: u8,

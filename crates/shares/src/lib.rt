@@ -56,14 +56,12 @@ pub fn next_window(settings: Settings) -> u64
         return 0;
     }
     let factor = window_factor(settings.rule, settings.estimator);
-    let parts = factor * (settings.m as u32);
-    past_share(settings, parts)
+    past_share(settings, factor * (settings.m as u32))
 }
 
 // What a round adds to the accuracy.
 pub fn growth(settings: Settings) -> u64
     ensures { result ≡ growth settings }
 {
-    let parts = settings.m as u32;
-    share(settings, parts)
+    share(settings, settings.m as u32)
 }

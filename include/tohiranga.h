@@ -1,4 +1,4 @@
-/* Tohiranga: Byzantine clock agreement, proved. The calls of libtohiranga.a (built by `rt staticlib tohiranga`).
+/* Tohiranga: Byzantine clock agreement, proved. The calls of libtohiranga.a (built by `tests/build_archive`).
  *
  * Answers. An answer below 2^32 is a grant: a length, a count or a field. Any other is a refusal, number * 2^32 + place;
  * tohiranga_number and tohiranga_place take it apart. After a refusal nothing lent has been written, and settings and

@@ -27,7 +27,7 @@ fn main() {
     println!("cargo:rerun-if-changed={}", archive.display());
     if !archive.is_file() {
         eprintln!(
-            "{} is not there. Run `rt staticlib tohiranga` at the top of Tohiranga's repository, which makes target/staticlib/{ARCHIVE}, \
+            "{} is not there. Run `tests/build_archive` at the top of Tohiranga's repository, which makes target/staticlib/{ARCHIVE}, \
              or `bash install PREFIX`, and set TOHIRANGA_LIB to the folder that has it.",
             archive.display()
         );

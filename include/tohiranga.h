@@ -56,10 +56,10 @@ extern "C" {
 
 /* The version. tohiranga_version() is that of the archive; as one number it is major * 2^16 + minor * 2^8 + patch. */
 #define TOHIRANGA_VERSION_MAJOR 0
-#define TOHIRANGA_VERSION_MINOR 8
+#define TOHIRANGA_VERSION_MINOR 7
 #define TOHIRANGA_VERSION_PATCH 0
 #define TOHIRANGA_VERSION (TOHIRANGA_VERSION_MAJOR * 65536 + TOHIRANGA_VERSION_MINOR * 256 + TOHIRANGA_VERSION_PATCH)
-#define TOHIRANGA_VERSION_TEXT "0.8.0"
+#define TOHIRANGA_VERSION_TEXT "0.7.0"
 
 #define TOHIRANGA_MAX_CABINETS 64
 #define TOHIRANGA_MAX_WINDOW 1000000

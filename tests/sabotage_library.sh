@@ -79,7 +79,7 @@ sabotage "header: values of 5N" $header "VALUES_SIZE(n) (4 *" "VALUES_SIZE(n) (5
 sabotage "header: the longest trace" $header "MAX_TRACE 655689" "MAX_TRACE 655688"
 sabotage "header: answer sheets of 9 + 5N" $header "ANSWER_SIZE(n) (10 +" "ANSWER_SIZE(n) (9 +"
 sabotage "header: -1 read as -2" $header "(4294967295u - bits) - 1" "(4294967295u - bits) - 2"
-sabotage "header: another version" $header "VERSION_MINOR 8" "VERSION_MINOR 9"
+sabotage "header: another version" $header "VERSION_MINOR 7" "VERSION_MINOR 8"
 sabotage "header: a precision of 100000" $header "MAX_PRECISION 1000000" "MAX_PRECISION 100000"
 sabotage "header: a drift of 1001" $header "MAX_DRIFT 1000" "MAX_DRIFT 1001"
 sabotage "header: refusals 17 and 18 swapped" $header "TOHIRANGA_BAD_INTERVAL = 17,
@@ -166,7 +166,7 @@ sabotage "wrapper: the example of the fallback" $wrapper "assert_eq!(fell.readin
     "assert_eq!(fell.readings, &direct[8..]);"
 sabotage "wrapper: estimate and new value swapped" $wrapper "self.field(tohiranga_answer_value)" "self.field(tohiranga_answer_estimate)"
 sabotage "wrapper: mark and used value swapped" $wrapper "self.field_of(tohiranga_answer_mark, cabinet)" "self.field_of(tohiranga_answer_used, cabinet)"
-sabotage "wrapper: another version" bindings/rust/Cargo.toml 'version = "0.8.0"' 'version = "0.8.1"'
+sabotage "wrapper: another version" bindings/rust/Cargo.toml 'version = "0.7.0"' 'version = "0.7.1"'
 sabotage "README: the text of refusal 8" README.md "| 8 | a mark is not 0 or 1;" "| 8 | a mark is not 1 or 2;"
 sabotage "definitions: a spread of 100001" crates/model/specs/Ensemble.antt "maxSpread = 100_000" "maxSpread = 100_001"
 sabotage "definitions: a drift of 1001" crates/interval/specs/Interval.antt "maxDrift = 1_000" "maxDrift = 1_001"

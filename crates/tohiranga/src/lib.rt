@@ -23,7 +23,7 @@ pub extern "C" fn tohiranga_settle_spread(sheet: &[u8], spread: u32, answer: &mu
     ensures value { result ≡ packed (settle_spread sheet.now spread answer.old).verdict }
     ensures answer_after { answer.new ≡ (settle_spread sheet.now spread answer.old).buffer }
 {
-    packed_settling::settle_packed(sheet, spread, answer)
+    packing::pack_settled(settling::settle_spread(&*sheet, spread, answer))
 }
 
 // The same without a spread.

@@ -1,44 +1,43 @@
 -- What the sizes are where readings are taken, and how many are taken where they fit.
 -- Assumes nothing.
-use mathlib.Core.Bool.{Bool, true, false, cond, ◌&&◌}
-use mathlib.Core.Path.{◌≡◌, refl, sym, ◌∙◌, subst}
-use Prim.Native.Nat.{ℕ, ◌/◌, ◌≤◌, ◌<◌}
+use mathlib.Core.Bool.{Bool, true, false, ◌&&◌}
+use mathlib.Core.Path.{◌≡◌, refl}
+use Prim.Native.Nat.{ℕ, ◌/◌, ◌≤◌}
 use native.Mathlib.Omega.{arith}
 use borrow.Author.Tests.{le-leb, leb-true}
 use lib.Dec.{leb}
-use Rattle.arithmetic.proofs.Bools.{and_intro, and_left, and_right}
+use Rattle.arithmetic.proofs.Bools.{and_left, and_right}
 use Rattle.sent_readings.specs.Sizes.{readings_taken}
 
 module _ (sent row marks values : ℕ) where
   abbrev fits : Bool
   fits = leb sent (row / 4) && (leb sent marks && leb sent values)
 
-  pub record Taken : Type 0 where
-    pub all : readings_taken sent row marks values ≡ sent
-    pub bytes : sent ≤ row / 4
-    pub mark_room : sent ≤ marks
-    pub value_room : sent ≤ values
+  -- n readings lie within the bytes and the lists
+  pub record Room (n : ℕ) : Type 0 where
+    pub marked : n ≤ sent
+    pub bytes : n ≤ row / 4
+    pub mark_room : n ≤ marks
+    pub value_room : n ≤ values
 
   pub all-readings : sent ≤ row / 4 → sent ≤ marks → sent ≤ values → readings_taken sent row marks values ≡ sent
   unfolding readings_taken
   all-readings a b c =
       rw (le-leb sent (row / 4) a, le-leb sent marks b, le-leb sent values c)
 
-  -- one is taken, so all are
-  pub some-taken : (t : ℕ) → t < readings_taken sent row marks values → Taken
+  -- as many as are taken do: all, where all fit, or none
+  pub readings-room : (n : ℕ) → n ≡ readings_taken sent row marks values → Room n
   unfolding readings_taken
-  some-taken t h = go fits refl
+  readings-room n h = go fits refl
     where
-      go : (b : Bool) → fits ≡ b → Taken
+      go : (b : Bool) → fits ≡ b → Room n
       go true e =
+          let all : n ≡ sent = rw e at h in
           let lists = and_right (leb sent (row / 4)) (leb sent marks && leb sent values) e in
-          record {
-            all = rw e;
-            bytes = leb-true sent (row / 4) (and_left (leb sent (row / 4)) _ e);
-            mark_room = leb-true sent marks (and_left (leb sent marks) _ lists);
-            value_room = leb-true sent values (and_right (leb sent marks) (leb sent values) lists);
-          }
-      go false e = absurd (nothing (rw e at h))
-        where
-          nothing : t < 0 → ⊥
-          nothing l = omega arith
+          let bytes : sent ≤ row / 4 = leb-true sent (row / 4) (and_left (leb sent (row / 4)) _ e) in
+          let mark_room : sent ≤ marks = leb-true sent marks (and_left (leb sent marks) _ lists) in
+          let value_room : sent ≤ values = leb-true sent values (and_right (leb sent marks) (leb sent values) lists) in
+          record { marked = omega arith; bytes = omega arith; mark_room = omega arith; value_room = omega arith }
+      go false e =
+          let none : n ≡ 0 = rw e at h in
+          record { marked = omega arith; bytes = omega arith; mark_room = omega arith; value_room = omega arith }

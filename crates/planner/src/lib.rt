@@ -14,7 +14,7 @@ use refusals::Screened;
 // The settings with the next round's window, the accuracy planned by then, the rounds done. Any contents may stand
 // here.
 #[repr(C)]
-#[derive(Drop)]
+#[derive(Clone, Copy)]
 pub struct Plan {
     pub settings: Settings,
     pub accuracy: u32,
@@ -37,8 +37,8 @@ pub enum Counted {
 
 // The plan one round on.
 fn advance(current: Plan) -> Plan
-    requires settings_value { first_of (planner_checks current.settings) ≡ none }
-    requires rounds_lt_max_rounds { (current.rounds < max_rounds) × (current.accuracy ≤ max_step_accuracy) }
+    requires settings_pass { first_of (planner_checks current.settings) ≡ none }
+    requires may_step { (current.rounds < max_rounds) × (current.accuracy ≤ max_step_accuracy) }
     ensures { plan_of result ≡ advance (plan_of current) }
 {
     let settings = current.settings;
@@ -66,8 +66,8 @@ impl Plan {
 
 // The plan some rounds on from a fresh plan.
 fn run(start: Plan, rounds: u32) -> Plan
-    requires rounds_value { first_of (plan_checks start.settings start.accuracy rounds) ≡ none }
-    requires rounds_value_2 { start.rounds ≡ 0 }
+    requires start_passes { first_of (plan_checks start.settings start.accuracy rounds) ≡ none }
+    requires start_fresh { start.rounds ≡ 0 }
     ensures { plan_of result ≡ after rounds (plan_from start.settings start.accuracy) }
 {
     let mut reached = start;
@@ -98,8 +98,8 @@ pub fn plan_for(settings: Settings, accuracy: u32, rounds: u32) -> Planned
 
 // Goes forward from a fresh plan until its window is at or below the target.
 fn reach(start: Plan, target: u32) -> Counted
-    requires accuracy_value { first_of (plan_checks start.settings start.accuracy 0) ≡ none }
-    requires rounds_value { start.rounds ≡ 0 }
+    requires start_passes { first_of (plan_checks start.settings start.accuracy 0) ≡ none }
+    requires start_fresh { start.rounds ≡ 0 }
     ensures { Target start.settings start.accuracy target (counted_of result) }
 {
     let mut reached = start;

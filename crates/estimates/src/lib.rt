@@ -12,7 +12,7 @@ use summaries::Summary;
 
 // The count of the present readings, their estimate and the new value; all 0 where none is present, two lie farther
 // apart than twice the widest span, there are more than 64, or there are not as many numbers as marks.
-#[derive(Drop)]
+#[derive(Clone, Copy)]
 pub struct Estimated {
     pub estimate: u32,
     pub count: u32,

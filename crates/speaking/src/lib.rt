@@ -9,7 +9,7 @@ ghost use Rattle.held.specs.Held.{entry_reading, held_mark, held_value};
 const SOUND: u8 = 1;
 
 // A reading as it is held.
-#[derive(Drop)]
+#[derive(Clone, Copy)]
 pub struct Held {
     pub mark: u8,
     pub value: u32,

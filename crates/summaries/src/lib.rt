@@ -24,7 +24,7 @@ struct Gathered {
 }
 
 // The same, with the sum of their distances from the lowest.
-#[derive(Drop)]
+#[derive(Clone, Copy)]
 pub struct Summary {
     pub count: u32,
     pub sum: u32,

@@ -1,6 +1,6 @@
 -- A row more is passed, of the sender whose turn it is.
-use Rattle.std.proofs.Common.{length, arith}
-use Rattle.sender_checks.proofs.Rows.{Passed, no_sender, passed_none, passed-row, passed-all}
+use Rattle.std.proofs.Common.{arith}
+use Rattle.sender_checks.proofs.Rows.{no_sender, passed_none, passed-row, passed-all}
 use Rattle.sender_checks.proofs.sound_sent.Goals as goal
 
 pub returns-then-roles-eq0 : goal.returns-then-roles-eq0

@@ -18,7 +18,7 @@ cabinets-preserved c = (
     )
 
 pub returns : goal.returns
-returns c =
-    let whole : c.cabinets.passed ≡ c.args.n
-        whole = omega arith in
-    rw whole at c.cabinets.invariant.1
+returns c = rw whole at c.cabinets.invariant.1
+  where
+    whole : c.cabinets.passed ≡ c.args.n
+    whole = omega arith

@@ -8,19 +8,24 @@ use Rattle.text.proofs.Texts.{text_refused, text_written}
 use Rattle.text.proofs.Answers.{round_lines, length-round}
 use Rattle.text.proofs.round_text.Goals as goal
 
-pub returns-then-text-lt5138 : goal.returns-then-text-lt5138
+pub returns-then-text-lt-ROUND_CAPACITY : goal.returns-then-text-lt-ROUND_CAPACITY
 unfolding round_written
-returns-then-text-lt5138 c =
+returns-then-text-lt-ROUND_CAPACITY c =
     let answer = c.args.answer.now in
-    text_refused round_capacity (round_text (byte answer 0) (answer_round answer)) c.args.text.now c.if-text-lt5138.true
+    let left =
+        text_refused round_capacity (round_text (byte answer 0) (answer_round answer)) c.args.text.now
+        c.if-text-lt-ROUND_CAPACITY.true in
+    record { value = left.0; text_after = left.1 }
 
 pub returns : goal.returns
 unfolding round_written
 returns c =
     let answer = c.args.answer.now in
-    text_written round_capacity (round_text (byte answer 0) (answer_round answer)) c.args.text.now c.if-text-lt5138.false
-    (length-round answer c.type_inv.answer)
-    (rw
-    (round_lines answer c.byte_at-n.result c.byte_at-count.result c.word_at-estimate.result c.word_at-value.result
-    c.byte_at-n.ensures c.byte_at-count.ensures c.word_at-estimate.ensures c.word_at-value.ensures)
-    (puts_then c.put_round-cabinets.ensures c.put_cabinets.ensures))
+    let written =
+        text_written round_capacity (round_text (byte answer 0) (answer_round answer)) c.args.text.now
+        c.if-text-lt-ROUND_CAPACITY.false (length-round answer (λ j. (c.type_inv.answer j).fits))
+        (rw
+        (round_lines answer c.byte_at-n.result c.byte_at-count.result c.word_at-estimate.result c.word_at-value.result
+        c.byte_at-n.ensures c.byte_at-count.ensures c.word_at-estimate.ensures c.word_at-value.ensures)
+        (puts_then c.put_round-cabinets.ensures c.put_cabinets.ensures)) in
+    record { value = written.0; text_after = written.1 }

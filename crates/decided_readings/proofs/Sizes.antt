@@ -1,26 +1,28 @@
 -- What the sizes are where rows are taken, and how many are taken where they fit.
 -- Assumes nothing.
-use mathlib.Core.Bool.{Bool, true, false, cond, ◌&&◌}
-use mathlib.Core.Path.{◌≡◌, refl, sym, ◌∙◌}
-use Prim.Native.Nat.{ℕ, ◌*◌, ◌≤◌, ◌<◌}
+use mathlib.Core.Bool.{Bool, true, false, ◌&&◌}
+use mathlib.Core.Path.{◌≡◌, refl}
+use Prim.Native.Nat.{ℕ, ◌+◌, ◌*◌, ◌≤◌, ◌<◌}
 use native.Mathlib.Omega.{arith}
-use borrow.Author.Tests.{le-leb, lt-leb, leb-true}
+use borrow.Author.Tests.{le-leb, leb-true}
 use lib.Dec.{leb}
 use Rattle.arithmetic.proofs.Bools.{and_left, and_right}
 use Rattle.model.specs.Ensemble.{max_cabinets}
 use Rattle.decided_readings.specs.Rows.{rows_taken}
+use Rattle.decided_readings.proofs.Squares.{row_room, square-most}
 
 module _ (n sent copies marks values : ℕ) where
   abbrev fits : Bool
   fits = leb n max_cabinets && ((leb (n * n) sent && leb (4 * (n * n)) copies) && (leb n marks && leb n values))
 
-  pub record Taken : Type 0 where
-    pub all : rows_taken n sent copies marks values ≡ n
-    pub few : n ≤ max_cabinets
-    pub marked : n * n ≤ sent
-    pub long : 4 * (n * n) ≤ copies
-    pub mark_room : n ≤ marks
-    pub value_room : n ≤ values
+  -- this many rows lie within the square of the copies, its bytes and the lists
+  pub record Room (rows : ℕ) : Type 0 where
+    pub few : rows ≤ max_cabinets
+    pub mark_room : rows ≤ marks
+    pub value_room : rows ≤ values
+    pub low : (r : ℕ) → r < rows → r * n + n ≤ 4096
+    pub marked : (r : ℕ) → r < rows → r * n + n ≤ sent
+    pub long : (r : ℕ) → r < rows → 4 * (r * n + n) ≤ copies
 
   pub all-rows :
       n ≤ max_cabinets
@@ -39,25 +41,37 @@ module _ (n sent copies marks values : ℕ) where
         le-leb n values e,
       )
 
-  -- one is taken, so all are
-  pub some-taken : (t : ℕ) → t < rows_taken n sent copies marks values → Taken
+  -- as many as are taken do: all, where all fit, or none
+  pub rows-room : (rows : ℕ) → rows ≡ rows_taken n sent copies marks values → Room rows
   unfolding rows_taken
-  some-taken t h = go fits refl
+  rows-room rows h = go fits refl
     where
-      go : (b : Bool) → fits ≡ b → Taken
+      go : (b : Bool) → fits ≡ b → Room rows
       go true e =
+          let all : rows ≡ n = rw e at h in
           let later = and_right (leb n max_cabinets) _ e in
           let square = and_left (leb (n * n) sent && leb (4 * (n * n)) copies) (leb n marks && leb n values) later in
           let lists = and_right (leb (n * n) sent && leb (4 * (n * n)) copies) (leb n marks && leb n values) later in
+          let few : n ≤ max_cabinets = leb-true n max_cabinets (and_left (leb n max_cabinets) _ e) in
+          let marked : n * n ≤ sent = leb-true (n * n) sent (and_left (leb (n * n) sent) (leb (4 * (n * n)) copies) square) in
+          let long : 4 * (n * n) ≤ copies =
+          leb-true (4 * (n * n)) copies (and_right (leb (n * n) sent) (leb (4 * (n * n)) copies) square) in
+          let most = square-most n few in
           record {
-            all = rw e;
-            few = leb-true n max_cabinets (and_left (leb n max_cabinets) _ e);
-            marked = leb-true (n * n) sent (and_left (leb (n * n) sent) (leb (4 * (n * n)) copies) square);
-            long = leb-true (4 * (n * n)) copies (and_right (leb (n * n) sent) (leb (4 * (n * n)) copies) square);
-            mark_room = leb-true n marks (and_left (leb n marks) (leb n values) lists);
-            value_room = leb-true n values (and_right (leb n marks) (leb n values) lists);
+            few = omega arith;
+            mark_room = omega (arith, leb-true n marks (and_left (leb n marks) (leb n values) lists));
+            value_room = omega (arith, leb-true n values (and_right (leb n marks) (leb n values) lists));
+            low = λ r l. omega (arith, row_room r n (omega arith));
+            marked = λ r l. omega (arith, row_room r n (omega arith));
+            long = λ r l. omega (arith, row_room r n (omega arith));
           }
-      go false e = absurd (nothing (rw e at h))
-        where
-          nothing : t < 0 → ⊥
-          nothing l = omega arith
+      go false e =
+          let none : rows ≡ 0 = rw e at h in
+          record {
+            few = omega arith;
+            mark_room = omega arith;
+            value_room = omega arith;
+            low = λ r l. absurd (omega arith);
+            marked = λ r l. absurd (omega arith);
+            long = λ r l. absurd (omega arith);
+          }

@@ -22,9 +22,9 @@ struct Held {
 
 // The reading that a row of copies decides.
 fn receive_row(sent: &[u8], row: &[u8], need: u32) -> Held
-    ensures mark_value { result.mark
+    ensures mark { result.mark
         ≡ held_mark (decided_reading (row_decision need sent.now row.now)) }
-    ensures value_value { result.value
+    ensures value { result.value
         ≡ held_value (decided_reading (row_decision need sent.now row.now)) }
 {
     match decisions::decide(sent, row, need) {

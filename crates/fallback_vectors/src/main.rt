@@ -6,6 +6,7 @@
 
 use falling_back::PairSettled;
 use model::ANSWER_HEADER_SIZE;
+use std::io::Write;
 
 // Whether the bytes of a sheet from a place on, so many of them, are these.
 fn is_part(sheet: &[u8], start: u32, length: u32, part: &[u8]) -> bool {
@@ -14,82 +15,81 @@ fn is_part(sheet: &[u8], start: u32, length: u32, part: &[u8]) -> bool {
     if sheet.len() < end {
         return false;
     }
-    check::same(&sheet[from..end], part)
+    &sheet[from..end] == part
 }
 
-fn say_unless(is_so: bool, what: &[u8]) {
+fn say_unless(out: &mut impl Write, is_so: bool, what: &[u8]) {
     if is_so {
         return;
     }
-    io::write_all(1, what);
+    console::write_all(out, what);
 }
 
 // The sheet and the readings that the C call names; and where the part that is shown has other bytes, or is another by
 // `settle_shown`, that it does.
-fn show_part<'a>(crusaders: &'a [u8], direct: &'a [u8], settled: PairSettled) {
+fn show_part<'a>(out: &mut impl Write, crusaders: &'a [u8], direct: &'a [u8], settled: PairSettled) {
     let named = fallback_packing::pack_fallen(crusaders, direct, settled);
     let part = shown_readings::shown(crusaders, direct, settled);
     let mut again = [0u8; 330];
     let once_more = shown_readings::settle_shown(crusaders, direct, &mut again);
-    vectors::number(named.source as u64);
-    io::write_all(1, b"; shown");
-    vectors::number(named.start as u64);
-    vectors::number(named.length as u64);
+    vectors::number(out, named.source as u64);
+    console::write_all(out, b"; shown");
+    vectors::number(out, named.start as u64);
+    vectors::number(out, named.length as u64);
     let by_crusaders = (named.source == 1) & is_part(crusaders, named.start, named.length, part);
     let by_direct = (named.source == 2) & is_part(direct, named.start, named.length, part);
-    say_unless(by_crusaders | by_direct, b", and other bytes are shown");
-    say_unless(
-        check::same(part, once_more),
+    say_unless(out, by_crusaders | by_direct, b", and other bytes are shown");
+    say_unless(out, 
+        part == once_more,
         b", and settle_shown shows others",
     );
 }
 
-fn show_answer(buffer: &[u8], size: usize) {
+fn show_answer(out: &mut impl Write, buffer: &[u8], size: usize) {
     let cabinets = words::byte_at(buffer, 0) as usize;
-    vectors::bytes(b"; round", buffer, 0, 2);
-    vectors::ticks(b"", buffer, 2, 2);
-    vectors::bytes(
-        b"; marks",
+    vectors::bytes(out, b"; round", buffer, 0, 2);
+    vectors::ticks(out, b"", buffer, 2, 2);
+    vectors::bytes(out, b"; marks",
         buffer,
         ANSWER_HEADER_SIZE,
         ANSWER_HEADER_SIZE + cabinets,
     );
-    vectors::ticks(b"; used", buffer, ANSWER_HEADER_SIZE + cabinets, cabinets);
-    vectors::bytes(b"; behind", buffer, size, buffer.len());
-    vectors::end();
+    vectors::ticks(out, b"; used", buffer, ANSWER_HEADER_SIZE + cabinets, cabinets);
+    vectors::bytes(out, b"; behind", buffer, size, buffer.len());
+    vectors::end(out);
 }
 
-fn show<'a>(crusaders: &'a [u8], direct: &'a [u8], settled: PairSettled, buffer: &[u8]) {
+fn show<'a>(out: &mut impl Write, crusaders: &'a [u8], direct: &'a [u8], settled: PairSettled, buffer: &[u8]) {
     match settled {
         PairSettled::Crusaders(size) | PairSettled::Direct(size) => {
-            vectors::granted();
-            vectors::number(size as u64);
-            show_part(crusaders, direct, settled);
-            show_answer(buffer, size);
+            vectors::granted(out);
+            vectors::number(out, size as u64);
+            show_part(out, crusaders, direct, settled);
+            show_answer(out, buffer, size);
         }
         PairSettled::Refused(refusal) => {
-            vectors::refused(refusal);
+            vectors::refused(out, refusal);
             let part = shown_readings::shown(crusaders, direct, settled);
-            say_unless(part.len() == 0, b", and bytes are shown");
-            vectors::bytes(b"; behind", buffer, 0, buffer.len());
-            vectors::end();
+            say_unless(out, part.len() == 0, b", and bytes are shown");
+            vectors::bytes(out, b"; behind", buffer, 0, buffer.len());
+            vectors::end(out);
         }
     }
 }
 
 // Falls back with two sheets that stand one behind the other, of which the first has so many bytes.
-fn fall_back(sheets: &[u8], size: usize, buffer: &mut [u8]) {
+fn fall_back(out: &mut impl Write, sheets: &[u8], size: usize, buffer: &mut [u8]) {
     if sheets.len() < size {
         return;
     }
     let crusaders = &sheets[0..size];
     let direct = &sheets[size..];
     let settled = falling_back::fall_back(crusaders, direct, &mut *buffer);
-    show(crusaders, direct, settled, buffer);
+    show(out, crusaders, direct, settled, buffer);
 }
 
 // A vector of `fall` has the length of the buffer, the length of the crusaders sheet, and then both sheets.
-fn answer(vector: &[u8]) {
+fn answer(out: &mut impl Write, vector: &[u8]) {
     let mut buffer = [165u8; 340];
     let room = (words::word_at(vector, 1) % 341) as usize;
     let size = words::word_at(vector, 5) as usize;
@@ -97,14 +97,16 @@ fn answer(vector: &[u8]) {
         return;
     }
     if words::byte_at(vector, 0) == b'f' {
-        fall_back(&vector[9..], size, &mut buffer[0..room]);
+        fall_back(out, &vector[9..], size, &mut buffer[0..room]);
     }
 }
 
-fn main() {
-    let mut vector = io::large_buffer();
+fn main(rt: HostRuntime) {
+    let mut input = rt.stdin();
+    let mut out = rt.stdout();
+    let mut vector = [0u8; 65_536];
     'lines: for _ in 0..1000u32 {
-        let size = vectors::next(&mut vector);
-        answer(&vector[0..size]);
+        let size = vectors::next(&mut input, &mut out, &mut vector);
+        answer(&mut out, &vector[0..size]);
     }
 }

@@ -6,82 +6,84 @@ use interval_bounds::Scheduled;
 use limits::{Limits, Wider};
 use model::{Refusal, Settings};
 use planner::{Counted, Planned};
+use std::env::Env;
+use std::io::Write;
 
 // The line after some rounds.
-fn show_round(settings: Settings, accuracy: u32, rounds: u32) -> bool {
+fn show_round(out: &mut impl Write, settings: Settings, accuracy: u32, rounds: u32) -> bool {
     match planner::plan_for(settings, accuracy, rounds) {
         Planned::Granted(plan) => {
-            plan_text::show_line(plan.rounds, plan.settings.window, plan.accuracy)
+            plan_text::show_line(out, plan.rounds, plan.settings.window, plan.accuracy)
         }
-        Planned::Refused(refusal) => plan_text::show_refusal(refusal),
+        Planned::Refused(refusal) => plan_text::show_refusal(out, refusal),
     }
 }
 
 // The lines for 0 rounds to `last`.
-fn show_rounds(settings: Settings, accuracy: u32, last: u32) -> bool {
-    let mut is_written = plan_text::say(b"round window accuracy, in ticks (microseconds)\n");
+fn show_rounds(out: &mut impl Write, settings: Settings, accuracy: u32, last: u32) -> bool {
+    let mut is_written = plan_text::say(out, b"round window accuracy, in ticks (microseconds)\n");
     let mut passed: u32 = 0;
     'rounds: while passed < last {
-        let is_shown = show_round(settings, accuracy, passed);
+        let is_shown = show_round(out, settings, accuracy, passed);
         is_written = is_written & is_shown;
         passed += 1;
     }
-    let is_shown = show_round(settings, accuracy, last);
+    let is_shown = show_round(out, settings, accuracy, last);
     is_written & is_shown
 }
 
-fn show_reached(reached: bool) -> bool {
+fn show_reached(out: &mut impl Write, reached: bool) -> bool {
     if reached {
-        return plan_text::say(b"; both can be reached");
+        return plan_text::say(out, b"; both can be reached");
     }
     true
 }
 
-fn show_wider(wider: Wider) -> bool {
-    let is_first = plan_text::say(b"after the first round, of those that do not refuse:\n");
-    let is_stated = plan_text::show_apart(b"  by documents 01 and 02", wider.gap, wider.error);
-    let is_exact = plan_text::show_apart(b"\n  to the tick", wider.widest, wider.farthest);
-    let is_reached = show_reached(wider.reached);
-    let is_later = plan_text::say(b"\n  of later rounds nothing is promised\n");
+fn show_wider(out: &mut impl Write, wider: Wider) -> bool {
+    let is_first = plan_text::say(out, b"after the first round, of those that do not refuse:\n");
+    let is_stated = plan_text::show_apart(out, b"  by documents 01 and 02", wider.gap, wider.error);
+    let is_exact = plan_text::show_apart(out, b"\n  to the tick", wider.widest, wider.farthest);
+    let is_reached = show_reached(out, wider.reached);
+    let is_later = plan_text::say(out, b"\n  of later rounds nothing is promised\n");
     is_first & is_stated & is_exact & is_reached & is_later
 }
 
-fn show_planned() -> bool {
-    plan_text::say(
+fn show_planned(out: &mut impl Write) -> bool {
+    plan_text::say(out, 
         b"no sound cabinet refuses; after each round two are at most its window apart, each within its \
           accuracy of true time\n",
     )
 }
 
-fn show_stated(limits: Limits) -> bool {
+fn show_stated(out: &mut impl Write, limits: Limits) -> bool {
     match limits {
-        Limits::Planned => show_planned(),
-        Limits::Wider(wider) => show_wider(wider),
-        Limits::Nothing => plan_text::say(b"nothing is promised\n"),
-        Limits::Refused(refusal) => plan_text::show_refusal(refusal),
+        Limits::Planned => show_planned(out),
+        Limits::Wider(wider) => show_wider(out, wider),
+        Limits::Nothing => plan_text::say(out, b"nothing is promised\n"),
+        Limits::Refused(refusal) => plan_text::show_refusal(out, refusal),
     }
 }
 
-fn show_limits(settings: Settings, accuracy: u32, t: u32) -> bool {
-    let is_number = plan_text::say_number(b"with ", t as u64);
-    let is_bad = plan_text::say(b" bad: ");
-    let is_told = show_stated(limits::limits_for(settings, accuracy, t));
+fn show_limits(out: &mut impl Write, settings: Settings, accuracy: u32, t: u32) -> bool {
+    let is_number = plan_text::say_number(out, b"with ", t as u64);
+    let is_bad = plan_text::say(out, b" bad: ");
+    let is_told = show_stated(out, limits::limits_for(settings, accuracy, t));
     is_number & is_bad & is_told
 }
 
 // The lines for a number of rounds.
-fn by_rounds(settings: Settings, accuracy: u32, rounds: u32) -> bool {
+fn by_rounds(out: &mut impl Write, settings: Settings, accuracy: u32, rounds: u32) -> bool {
     match planner::plan_for(settings, accuracy, rounds) {
-        Planned::Granted(_) => show_rounds(settings, accuracy, rounds),
-        Planned::Refused(refusal) => plan_text::show_refusal(refusal),
+        Planned::Granted(_) => show_rounds(out, settings, accuracy, rounds),
+        Planned::Refused(refusal) => plan_text::show_refusal(out, refusal),
     }
 }
 
 // The lines up to a target.
-fn by_target(settings: Settings, accuracy: u32, target: u32) -> bool {
+fn by_target(out: &mut impl Write, settings: Settings, accuracy: u32, target: u32) -> bool {
     match planner::rounds_for(settings, accuracy, target) {
-        Counted::Granted(rounds) => show_rounds(settings, accuracy, rounds),
-        Counted::Refused(refusal) => plan_text::show_refusal(refusal),
+        Counted::Granted(rounds) => show_rounds(out, settings, accuracy, rounds),
+        Counted::Refused(refusal) => plan_text::show_refusal(out, refusal),
     }
 }
 
@@ -101,19 +103,19 @@ fn is_granted(settings: Settings, accuracy: u32, aim: u8, last: u32) -> bool {
 }
 
 // The plan's lines.
-fn show_plan(settings: Settings, accuracy: u32, aim: u8, last: u32) -> bool {
+fn show_plan(out: &mut impl Write, settings: Settings, accuracy: u32, aim: u8, last: u32) -> bool {
     if aim == 0 {
-        by_rounds(settings, accuracy, last)
+        by_rounds(out, settings, accuracy, last)
     } else {
-        by_target(settings, accuracy, last)
+        by_target(out, settings, accuracy, last)
     }
 }
 
 // The plan, and then the limits where they are asked for.
-fn answer(settings: Settings, accuracy: u32, aim: u8, last: u32, is_limited: bool, t: u32) -> bool {
-    let is_shown = show_plan(settings, accuracy, aim, last);
+fn answer(out: &mut impl Write, settings: Settings, accuracy: u32, aim: u8, last: u32, is_limited: bool, t: u32) -> bool {
+    let is_shown = show_plan(out, settings, accuracy, aim, last);
     if is_limited & is_granted(settings, accuracy, aim, last) {
-        let is_told = show_limits(settings, accuracy, t);
+        let is_told = show_limits(out, settings, accuracy, t);
         is_shown & is_told
     } else {
         is_shown
@@ -121,13 +123,13 @@ fn answer(settings: Settings, accuracy: u32, aim: u8, last: u32, is_limited: boo
 }
 
 // Reads every argument, so that each bad one is complained about, and then answers.
-fn run(is_limited: bool) -> bool {
-    let ensemble = plan_arguments::read_ensemble();
-    let aim = plan_arguments::read_aim();
-    let bad = plan_arguments::read_bad(is_limited, ensemble.cabinets);
+fn run(env: &impl Env, out: &mut impl Write, errors: &mut impl Write, is_limited: bool) -> bool {
+    let ensemble = plan_arguments::read_ensemble(env, errors);
+    let aim = plan_arguments::read_aim(env, errors);
+    let bad = plan_arguments::read_bad(env, errors, is_limited, ensemble.cabinets);
     if ensemble.is_read & aim.is_read & bad.is_read {
         let settings = ensemble.settings;
-        answer(
+        answer(out, 
             settings,
             aim.accuracy,
             aim.kind,
@@ -141,71 +143,73 @@ fn run(is_limited: bool) -> bool {
 }
 
 // How long may be between rounds.
-fn show_interval(window: u32, precision: u32, drift: u32) -> bool {
+fn show_interval(out: &mut impl Write, window: u32, precision: u32, drift: u32) -> bool {
     match interval_bounds::interval_for(window, precision, drift) {
         Scheduled::Granted(interval) => {
-            plan_text::show_interval(interval.least, interval.greatest)
+            plan_text::show_interval(out, interval.least, interval.greatest)
         }
-        Scheduled::Refused(refusal) => plan_text::show_no_interval(refusal, window, precision),
+        Scheduled::Refused(refusal) => plan_text::show_no_interval(out, refusal, window, precision),
     }
 }
 
 // Four arguments, of which the first is `interval`.
-fn by_interval() -> bool {
-    if plan_arguments::is_word(1, b"interval") {
-        let spacing = plan_arguments::read_spacing();
+fn by_interval(env: &impl Env, out: &mut impl Write, errors: &mut impl Write) -> bool {
+    if plan_arguments::is_word(env, 1, b"interval") {
+        let spacing = plan_arguments::read_spacing(env, errors);
         if spacing.is_read {
-            show_interval(spacing.window, spacing.precision, spacing.drift)
+            show_interval(out, spacing.window, spacing.precision, spacing.drift)
         } else {
             true
         }
     } else {
-        too_few()
+        too_few(errors)
     }
 }
 
 // One argument alone.
-fn by_word() -> bool {
-    if plan_arguments::is_word(1, b"--help") {
-        return plan_text::usage();
+fn by_word(env: &impl Env, out: &mut impl Write, errors: &mut impl Write) -> bool {
+    if plan_arguments::is_word(env, 1, b"--help") {
+        return plan_text::usage(out);
     }
-    if plan_arguments::is_word(1, b"--version") {
-        return plan_text::show_version();
+    if plan_arguments::is_word(env, 1, b"--version") {
+        return plan_text::show_version(out);
     }
-    too_few()
+    too_few(errors)
 }
 
-fn too_few() -> bool {
-    io::write_all(
-        2,
+fn too_few(errors: &mut impl Write) -> bool {
+    console::write_all(
+        errors,
         b"plan: 8 or 9 arguments are wanted, or interval and 3 more; plan --help says which\n",
     );
     true
 }
 
 // Whether all that there was to write was written.
-fn respond(count: usize) -> bool {
+fn respond(env: &impl Env, out: &mut impl Write, errors: &mut impl Write, count: usize) -> bool {
     if count < 2 {
-        return plan_text::usage();
+        return plan_text::usage(out);
     }
     if count == 2 {
-        return by_word();
+        return by_word(env, out, errors);
     }
     if count == 5 {
-        return by_interval();
+        return by_interval(env, out, errors);
     }
     if count == 9 {
-        return run(false);
+        return run(env, out, errors, false);
     }
     if count == 10 {
-        return run(true);
+        return run(env, out, errors, true);
     }
-    too_few()
+    too_few(errors)
 }
 
-fn main() {
-    if respond(os::arg_count()) {
+fn main(rt: HostRuntime) {
+    let mut out = rt.stdout();
+    let mut errors = rt.stderr();
+    if respond(&rt, &mut out, &mut errors, console::argument_count(&rt)) {
         return;
     }
-    io::write_all(2, b"plan: standard output can't be written\n");
+    console::write_all(&mut errors, b"plan: standard output can't be written\n");
 }

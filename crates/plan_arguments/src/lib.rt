@@ -2,6 +2,8 @@
 #![tactic(auto)]
 
 use model::{AVERAGE, CCA, FCA, MEDIAN, MIDPOINT, Settings, TRIMMED_MEAN, TRIMMED_MIDPOINT};
+use std::env::Env;
+use std::io::Write;
 
 // The first five arguments: the settings, and N as it was typed. Numbers that no settings hold are cut to the highest
 // that they do, which the planner refuses likewise. Nothing is read where one of them was complained about.
@@ -37,63 +39,71 @@ pub struct Spacing {
     pub is_read: bool,
 }
 
-// What was given, on standard error. Of an argument that is longer than its buffer `os::arg` leaves the first bytes
-// and answers 0.
-fn show_given(at: usize) {
+// What was given, on standard error. Of an argument that is longer than its buffer `console::argument` leaves
+// the first bytes and answers 0.
+fn show_given(env: &impl Env, errors: &mut impl Write, at: usize) {
     let mut given = [0u8; 60];
-    let n = os::arg(at, &mut given);
+    let n = console::argument(env, at, &mut given);
     if (n == 0) & (given[0] != 0) {
-        io::write_all(2, &given);
-        io::write_all(2, b"..");
+        console::write_all(errors, &given);
+        console::write_all(errors, b"..");
     } else {
-        io::write_all(2, &given[..n]);
+        console::write_all(errors, &given[..n]);
     }
 }
 
 // A bad argument, on standard error: its name, what was given, what is wanted.
-fn complain(name: &[u8], at: usize, wanted: &[u8]) {
-    io::write_all(2, b"plan: ");
-    io::write_all(2, name);
-    io::write_all(2, b" is '");
-    show_given(at);
-    io::write_all(2, b"': ");
-    io::write_all(2, wanted);
-    io::write_all(2, b"\n");
+fn complain(env: &impl Env, errors: &mut impl Write, name: &[u8], at: usize, wanted: &[u8]) {
+    console::write_all(errors, b"plan: ");
+    console::write_all(errors, name);
+    console::write_all(errors, b" is '");
+    show_given(env, errors, at);
+    console::write_all(errors, b"': ");
+    console::write_all(errors, wanted);
+    console::write_all(errors, b"\n");
 }
 
 // The number that an argument is, or `number_parser::LIMIT`, which is complained about.
-fn number_at(at: usize, name: &[u8]) -> u64 {
-    let mut given = io::buffer();
-    let n = os::arg(at, &mut given);
+fn number_at(env: &impl Env, errors: &mut impl Write, at: usize, name: &[u8]) -> u64 {
+    let mut given = [0u8; 4096];
+    let n = console::argument(env, at, &mut given);
     let value = number_parser::number_in(&given[..n]);
     if value >= number_parser::LIMIT {
-        complain(name, at, b"a whole number from 0 to 4294967295 is wanted");
+        complain(
+            env,
+            errors,
+            name,
+            at,
+            b"a whole number from 0 to 4294967295 is wanted",
+        );
     }
     value
 }
 
 // Whether an argument is a word.
-pub fn is_word(at: usize, word: &[u8]) -> bool {
-    let mut given = io::buffer();
-    let n = os::arg(at, &mut given);
-    check::same(&given[..n], word)
+pub fn is_word(env: &impl Env, at: usize, word: &[u8]) -> bool {
+    let mut given = [0u8; 4096];
+    let n = console::argument(env, at, &mut given);
+    &given[..n] == word
 }
 
 // The rule's number, or 255, which is complained about.
-fn rule_at(at: usize) -> u8 {
-    if is_word(at, b"fca") {
+fn rule_at(env: &impl Env, errors: &mut impl Write, at: usize) -> u8 {
+    if is_word(env, at, b"fca") {
         return FCA;
     }
-    if is_word(at, b"cca") {
+    if is_word(env, at, b"cca") {
         return CCA;
     }
-    if is_word(at, b"trimmed-midpoint") {
+    if is_word(env, at, b"trimmed-midpoint") {
         return TRIMMED_MIDPOINT;
     }
-    if is_word(at, b"trimmed-mean") {
+    if is_word(env, at, b"trimmed-mean") {
         return TRIMMED_MEAN;
     }
     complain(
+        env,
+        errors,
         b"RULE",
         at,
         b"fca or cca is wanted (no plan has trimmed-midpoint or trimmed-mean)",
@@ -102,29 +112,41 @@ fn rule_at(at: usize) -> u8 {
 }
 
 // The estimator's number, or 255, which is complained about.
-fn estimator_at(at: usize) -> u8 {
-    if is_word(at, b"average") {
+fn estimator_at(env: &impl Env, errors: &mut impl Write, at: usize) -> u8 {
+    if is_word(env, at, b"average") {
         return AVERAGE;
     }
-    if is_word(at, b"median") {
+    if is_word(env, at, b"median") {
         return MEDIAN;
     }
-    if is_word(at, b"midpoint") {
+    if is_word(env, at, b"midpoint") {
         return MIDPOINT;
     }
-    complain(b"ESTIMATOR", at, b"average, median or midpoint is wanted");
+    complain(
+        env,
+        errors,
+        b"ESTIMATOR",
+        at,
+        b"average, median or midpoint is wanted",
+    );
     255
 }
 
 // 0 for rounds, 1 for a target, or 255, which is complained about.
-fn aim_at(at: usize) -> u8 {
-    if is_word(at, b"rounds") {
+fn aim_at(env: &impl Env, errors: &mut impl Write, at: usize) -> u8 {
+    if is_word(env, at, b"rounds") {
         return 0;
     }
-    if is_word(at, b"target") {
+    if is_word(env, at, b"target") {
         return 1;
     }
-    complain(b"argument 7", at, b"rounds or target is wanted");
+    complain(
+        env,
+        errors,
+        b"argument 7",
+        at,
+        b"rounds or target is wanted",
+    );
     255
 }
 
@@ -146,25 +168,29 @@ fn is_number(value: u64) -> bool {
 }
 
 // The ninth argument, where it is given.
-fn limit_at(is_limited: bool) -> u64 {
-    if is_limited { number_at(9, b"T") } else { 0 }
+fn limit_at(env: &impl Env, errors: &mut impl Write, is_limited: bool) -> u64 {
+    if is_limited {
+        number_at(env, errors, 9, b"T")
+    } else {
+        0
+    }
 }
 
 // Whether at most N cabinets are bad; more are complained about.
-fn is_within(t: u64, n: u64) -> bool {
+fn is_within(env: &impl Env, errors: &mut impl Write, t: u64, n: u64) -> bool {
     if is_number(t) & (n < t) {
-        complain(b"T", 9, b"a number of at most N is wanted");
+        complain(env, errors, b"T", 9, b"a number of at most N is wanted");
         return false;
     }
     true
 }
 
-pub fn read_ensemble() -> Ensemble {
-    let n = number_at(1, b"N");
-    let m = number_at(2, b"M");
-    let rule = rule_at(3);
-    let estimator = estimator_at(4);
-    let window = number_at(5, b"WINDOW");
+pub fn read_ensemble(env: &impl Env, errors: &mut impl Write) -> Ensemble {
+    let n = number_at(env, errors, 1, b"N");
+    let m = number_at(env, errors, 2, b"M");
+    let rule = rule_at(env, errors, 3);
+    let estimator = estimator_at(env, errors, 4);
+    let window = number_at(env, errors, 5, b"WINDOW");
     let settings = Settings {
         n: in_a_byte(n),
         m: in_a_byte(m),
@@ -179,10 +205,10 @@ pub fn read_ensemble() -> Ensemble {
     }
 }
 
-pub fn read_aim() -> Aim {
-    let accuracy = number_at(6, b"ACCURACY");
-    let kind = aim_at(7);
-    let last = number_at(8, b"COUNT or TICKS");
+pub fn read_aim(env: &impl Env, errors: &mut impl Write) -> Aim {
+    let accuracy = number_at(env, errors, 6, b"ACCURACY");
+    let kind = aim_at(env, errors, 7);
+    let last = number_at(env, errors, 8, b"COUNT or TICKS");
     Aim {
         accuracy: in_32_bits(accuracy),
         kind,
@@ -191,19 +217,19 @@ pub fn read_aim() -> Aim {
     }
 }
 
-pub fn read_bad(is_limited: bool, cabinets: u64) -> Bad {
-    let t = limit_at(is_limited);
+pub fn read_bad(env: &impl Env, errors: &mut impl Write, is_limited: bool, cabinets: u64) -> Bad {
+    let t = limit_at(env, errors, is_limited);
     Bad {
         count: in_32_bits(t),
-        is_read: is_number(t) & is_within(t, cabinets),
+        is_read: is_number(t) & is_within(env, errors, t, cabinets),
     }
 }
 
 // The three arguments behind the word `interval`.
-pub fn read_spacing() -> Spacing {
-    let window = number_at(2, b"WINDOW");
-    let precision = number_at(3, b"PRECISION");
-    let drift = number_at(4, b"DRIFT");
+pub fn read_spacing(env: &impl Env, errors: &mut impl Write) -> Spacing {
+    let window = number_at(env, errors, 2, b"WINDOW");
+    let precision = number_at(env, errors, 3, b"PRECISION");
+    let drift = number_at(env, errors, 4, b"DRIFT");
     Spacing {
         window: in_32_bits(window),
         precision: in_32_bits(precision),

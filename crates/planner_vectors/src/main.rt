@@ -6,18 +6,19 @@
 use interval_bounds::Scheduled;
 use model::Settings;
 use planner::{Counted, Plan, Planned};
+use std::io::Write;
 
-fn show(answer: Planned) {
+fn show(out: &mut impl Write, answer: Planned) {
     match answer {
         Planned::Granted(plan) => {
-            vectors::granted();
-            vectors::number(plan.settings.window as u64);
-            vectors::number(plan.accuracy as u64);
-            vectors::number(plan.rounds as u64);
+            vectors::granted(out);
+            vectors::number(out, plan.settings.window as u64);
+            vectors::number(out, plan.accuracy as u64);
+            vectors::number(out, plan.rounds as u64);
         }
-        Planned::Refused(refusal) => vectors::refused(refusal),
+        Planned::Refused(refusal) => vectors::refused(out, refusal),
     }
-    vectors::end();
+    vectors::end(out);
 }
 
 // Whether a count is at most 32 and its window at or below the target.
@@ -28,50 +29,50 @@ fn fits(settings: Settings, accuracy: u32, rounds: u32, target: u32) -> bool {
     }
 }
 
-fn show_target(settings: Settings, accuracy: u32, target: u32) {
+fn show_target(out: &mut impl Write, settings: Settings, accuracy: u32, target: u32) {
     match planner::rounds_for(settings, accuracy, target) {
         Counted::Granted(rounds) => {
             if fits(settings, accuracy, rounds, target) {
-                vectors::granted();
+                vectors::granted(out);
             }
         }
-        Counted::Refused(refusal) => vectors::refused(refusal),
+        Counted::Refused(refusal) => vectors::refused(out, refusal),
     }
-    vectors::end();
+    vectors::end(out);
 }
 
-fn show_interval(answer: Scheduled) {
+fn show_interval(out: &mut impl Write, answer: Scheduled) {
     match answer {
         Scheduled::Granted(interval) => {
-            vectors::granted();
-            vectors::number(interval.least);
-            vectors::number(interval.greatest);
+            vectors::granted(out);
+            vectors::number(out, interval.least);
+            vectors::number(out, interval.greatest);
         }
-        Scheduled::Refused(refusal) => vectors::refused(refusal),
+        Scheduled::Refused(refusal) => vectors::refused(out, refusal),
     }
-    vectors::end();
+    vectors::end(out);
 }
 
 // The window, the precision and the drift of a call for the interval.
-fn answer_interval(vector: &[u8]) {
+fn answer_interval(out: &mut impl Write, vector: &[u8]) {
     let window = words::word_at(vector, 1);
     let precision = words::word_at(vector, 5);
     let drift = words::word_at(vector, 9);
-    show_interval(interval_bounds::interval_for(window, precision, drift));
+    show_interval(out, interval_bounds::interval_for(window, precision, drift));
 }
 
 // The calls are `plan`, `step`, `target` and `interval`.
-fn answer(vector: &[u8]) {
+fn answer(out: &mut impl Write, vector: &[u8]) {
     let call = words::byte_at(vector, 0);
     if call == b'i' {
-        answer_interval(vector);
+        answer_interval(out, vector);
         return;
     }
     let settings = vectors::settings(vector);
     let accuracy = words::word_at(vector, 9);
     let last = words::word_at(vector, 13);
     if call == b'p' {
-        show(planner::plan_for(settings, accuracy, last));
+        show(out, planner::plan_for(settings, accuracy, last));
         return;
     }
     if call == b's' {
@@ -80,18 +81,20 @@ fn answer(vector: &[u8]) {
             accuracy,
             rounds: last,
         };
-        show(plan.step());
+        show(out, plan.step());
         return;
     }
     if call == b't' {
-        show_target(settings, accuracy, last);
+        show_target(out, settings, accuracy, last);
     }
 }
 
-fn main() {
-    let mut vector = io::buffer();
+fn main(rt: HostRuntime) {
+    let mut input = rt.stdin();
+    let mut out = rt.stdout();
+    let mut vector = [0u8; 4096];
     'lines: for _ in 0..1000u32 {
-        let size = vectors::next(&mut vector);
-        answer(&vector[0..size]);
+        let size = vectors::next(&mut input, &mut out, &mut vector);
+        answer(&mut out, &vector[0..size]);
     }
 }

@@ -3,40 +3,43 @@
 #![tactic(auto)]
 
 use replaying::Replayed;
+use std::io::Write;
 
-fn show_values(buffer: &[u8], size: usize) {
-    vectors::granted();
-    vectors::number(size as u64);
-    vectors::ticks(b"; values", buffer, 0, size / 4);
-    vectors::bytes(b"; behind", buffer, size, buffer.len());
-    vectors::end();
+fn show_values(out: &mut impl Write, buffer: &[u8], size: usize) {
+    vectors::granted(out);
+    vectors::number(out, size as u64);
+    vectors::ticks(out, b"; values", buffer, 0, size / 4);
+    vectors::bytes(out, b"; behind", buffer, size, buffer.len());
+    vectors::end(out);
 }
 
-fn show(trace: &[u8], buffer: &mut [u8]) {
+fn show(out: &mut impl Write, trace: &[u8], buffer: &mut [u8]) {
     match replaying::replay(trace, buffer) {
-        Replayed::Granted(size) => show_values(buffer, size),
+        Replayed::Granted(size) => show_values(out, buffer, size),
         Replayed::Refused(refusal) => {
-            vectors::refused(refusal);
-            vectors::bytes(b"; behind", buffer, 0, buffer.len());
-            vectors::end();
+            vectors::refused(out, refusal);
+            vectors::bytes(out, b"; behind", buffer, 0, buffer.len());
+            vectors::end(out);
         }
     }
 }
 
 // A vector has the length of the buffer, and then the trace.
-fn answer(vector: &[u8]) {
+fn answer(out: &mut impl Write, vector: &[u8]) {
     if vector.len() < 5 {
         return;
     }
     let mut buffer = [165u8; 270];
     let room = (words::word_at(vector, 1) % 271) as usize;
-    show(&vector[5..], &mut buffer[0..room]);
+    show(out, &vector[5..], &mut buffer[0..room]);
 }
 
-fn main() {
-    let mut vector = io::large_buffer();
+fn main(rt: HostRuntime) {
+    let mut input = rt.stdin();
+    let mut out = rt.stdout();
+    let mut vector = [0u8; 65_536];
     'lines: for _ in 0..1000u32 {
-        let size = vectors::next(&mut vector);
-        answer(&vector[0..size]);
+        let size = vectors::next(&mut input, &mut out, &mut vector);
+        answer(&mut out, &vector[0..size]);
     }
 }

@@ -7,9 +7,9 @@ ghost use Rattle.model.specs.Listing.{max_input};
 ghost use Rattle.text.specs.Text.{round_capacity};
 
 use input_sizes::MAX_INPUT;
-use libc::{STDERR_FILENO, STDIN_FILENO, STDOUT_FILENO};
 use standard_input::Input;
 use text::ROUND_CAPACITY;
+use std::io::IsTerminal;
 
 // Bytes for what is read.
 fn input_buffer() -> [u8; MAX_INPUT]
@@ -26,48 +26,46 @@ fn text_buffer() -> [u8; ROUND_CAPACITY]
 }
 
 // Says on standard error what is waited for, where a person types the input.
-fn announce() {
-    if libc::isatty(STDIN_FILENO) == 1 {
-        io::write_all(
-            STDERR_FILENO,
+fn announce(rt: HostRuntime) {
+    if rt.stdin().is_terminal() {
+        console::write_all(&mut rt.stderr(),
             b"settle: waiting for a round sheet, in bytes, on standard input; settle --help says more\n",
         );
     }
 }
 
 // Says on standard error that writing failed, where it did.
-fn close_with(is_written: bool) {
+fn close_with(rt: HostRuntime, is_written: bool) {
     if is_written {
         return;
     }
-    io::write_all(STDERR_FILENO, b"settle: standard output can't be written\n");
+    console::write_all(&mut rt.stderr(), b"settle: standard output can't be written\n");
 }
 
 // Writes the listing of a sheet; says on standard error where writing fails.
-fn answer(sheet: &[u8], text: &mut [u8]) {
+fn answer(rt: HostRuntime, sheet: &[u8], text: &mut [u8]) {
     let end = listing::listing(sheet, text);
-    close_with(io::write_all(STDOUT_FILENO, &text[..end]));
+    close_with(rt, console::write_all(&mut rt.stdout(), &text[..end]));
 }
 
 // Answers what is read; says on standard error where reading fails.
-fn run(input: &mut [u8], text: &mut [u8]) {
-    let Input::Read(size) = standard_input::read_from(STDIN_FILENO, input) else {
-        io::write_all(STDERR_FILENO, b"settle: standard input can't be read\n");
+fn run(rt: HostRuntime, input: &mut [u8], text: &mut [u8]) {
+    let Input::Read(size) = standard_input::read_input(rt.stdin(), input) else {
+        console::write_all(&mut rt.stderr(), b"settle: standard input can't be read\n");
         return;
     };
-    answer(&input[..size], text);
+    answer(rt, &input[..size], text);
 }
 
-fn settle_input() {
+fn settle_input(rt: HostRuntime) {
     let mut input = input_buffer();
     let mut text = text_buffer();
-    announce();
-    run(&mut input, &mut text);
+    announce(rt);
+    run(rt, &mut input, &mut text);
 }
 
-fn usage() -> bool {
-    io::write_all(
-        STDOUT_FILENO,
+fn usage(rt: HostRuntime) -> bool {
+    console::write_all(&mut rt.stdout(),
         b"usage: settle <SHEET\n       settle --help, settle --version\nReads one round sheet, in bytes, from \
           standard input and writes its answer: `round`, N, the accepted count, the\nestimate and the new \
           value; then each cabinet's number, mark and used value. Or `refused`, a number and a place.\nIt \
@@ -75,31 +73,30 @@ fn usage() -> bool {
     )
 }
 
-fn show_version() -> bool {
+fn show_version(rt: HostRuntime) -> bool {
     let version = version::text();
-    let is_named = io::write_all(STDOUT_FILENO, b"settle ");
-    let is_shown = io::write_all(STDOUT_FILENO, &version);
-    let is_ended = io::write_all(STDOUT_FILENO, b"\n");
+    let is_named = console::write_all(&mut rt.stdout(), b"settle ");
+    let is_shown = console::write_all(&mut rt.stdout(), &version);
+    let is_ended = console::write_all(&mut rt.stdout(), b"\n");
     is_named & is_shown & is_ended
 }
 
 // Whether the first argument is a word.
-fn is_word(word: &[u8]) -> bool {
-    let mut given = io::buffer();
-    let n = os::arg(1, &mut given);
-    check::same(&given[..n], word)
+fn is_word(rt: HostRuntime, word: &[u8]) -> bool {
+    let mut given = [0u8; 4096];
+    let n = console::argument(&rt, 1, &mut given);
+    &given[..n] == word
 }
 
-fn main() {
-    if os::arg_count() < 2 {
-        settle_input();
-    } else if is_word(b"--help") {
-        close_with(usage());
-    } else if is_word(b"--version") {
-        close_with(show_version());
+fn main(rt: HostRuntime) {
+    if console::argument_count(&rt) < 2 {
+        settle_input(rt);
+    } else if is_word(rt, b"--help") {
+        close_with(rt, usage(rt));
+    } else if is_word(rt, b"--version") {
+        close_with(rt, show_version(rt));
     } else {
-        io::write_all(
-            STDERR_FILENO,
+        console::write_all(&mut rt.stderr(),
             b"settle: no argument is wanted, the sheet comes from standard input; settle --help says more\n",
         );
     }

@@ -1,8 +1,12 @@
 // What the programs read: standard input or a file, until a lent buffer is full or the input ends.
 #![tactic(auto)]
 
-ghost use Rattle.std.specs.Prelude.{length};
+ghost use Rattle.std.specs.Prelude.{IfOk, length, ◌≤◌};
 ghost use Rattle.standard_input.specs.Sizes.{Within};
+
+use std::io;
+use std::io::Read;
+use std::rt::Stdin;
 
 // What reading gave: how many bytes, or that the system refused.
 #[derive(Drop)]
@@ -11,31 +15,35 @@ pub enum Input {
     Failed,
 }
 
-// One read of a descriptor: 0 bytes at its end, and else at most as many as the buffer holds.
-fn read_some(descriptor: i32, buffer: &mut [u8]) -> Input
-    ensures { Within result (length buffer.new) }
+// One read: 0 bytes at the end of the input, and else at most as many as the buffer holds.
+fn read_some<R: Read>(reader: &mut R, buffer: &mut [u8]) -> io::Result<usize>
+    ensures { IfOk result (λ size. size ≤ length buffer.new) }
 {
-    let got = libc::read(descriptor, buffer);
-    if got < 0 {
-        return Input::Failed;
-    }
-    let size = io::count(got, buffer);
-    Input::Read(size)
+    reader.read(buffer)
 }
 
-// Reads a descriptor until the buffer is full or the input ends.
-pub fn read_from(descriptor: i32, buffer: &mut [u8]) -> Input
-    ensures { Within result (length buffer.new) }
+// Reads until the buffer is full or the input ends.
+pub fn read_from<R: Read>(reader: &mut R, buffer: &mut [u8]) -> io::Result<usize>
+    ensures { IfOk result (λ size. size ≤ length buffer.new) }
 {
     let mut size: usize = 0;
     'reads: while size < buffer.len() {
-        let Input::Read(more) = read_some(descriptor, &mut buffer[size..]) else {
-            return Input::Failed;
-        };
+        let more = read_some(reader, &mut buffer[size..])?;
         if more == 0 {
             break 'reads;
         }
         size += more;
     }
-    Input::Read(size)
+    Ok(size)
+}
+
+// Reads standard input until the buffer is full or the input ends.
+pub fn read_input(input: Stdin, buffer: &mut [u8]) -> Input
+    ensures { Within result (length buffer.new) }
+{
+    let mut reader = input;
+    match read_from(&mut reader, buffer) {
+        Ok(size) => Input::Read(size),
+        Err(_) => Input::Failed,
+    }
 }

@@ -12,6 +12,7 @@
 ghost use Rattle.std.specs.Prelude.{◌≤◌, length};
 
 use model::{Refusal, Settings};
+use std::io::{Read, Write};
 
 // What a word is so far. A digit makes nothing a byte, and leaves the others, which are odd.
 const NOTHING: u8 = 0;
@@ -28,7 +29,7 @@ const MODULUS: u64 = 4_294_967_296;
 
 // How many bytes were put, and the word that is being read: what it is so far, the number of its digits, and how
 // many times it is put.
-#[derive(Drop)]
+#[derive(Clone, Copy)]
 struct Word {
     size: usize,
     kind: u8,
@@ -36,11 +37,11 @@ struct Word {
     times: u64,
 }
 
-// The next byte of standard input, which is printed too; 0 at the end of the input.
-fn read_byte() -> u8 {
+// The next byte of the input, which is printed too; 0 at the end of the input.
+fn read_byte(input: &mut impl Read, out: &mut impl Write) -> u8 {
     let mut byte = [0u8; 1];
-    let size = io::read_full(0, &mut byte);
-    io::write_all(1, &byte[0..size]);
+    let size = input.read(&mut byte).unwrap_or(0);
+    console::write_all(out, &byte[0..size]);
     byte[0]
 }
 
@@ -145,12 +146,12 @@ fn take(vector: &mut [u8], word: Word, character: u8) -> Word {
 
 // Reads and prints the next line, at most 65,536 characters of it, and answers how many bytes its vector has:
 // none for a heading, and at the end of the input.
-pub fn next(vector: &mut [u8]) -> usize
+pub fn next(input: &mut impl Read, out: &mut impl Write, vector: &mut [u8]) -> usize
     ensures { result ≤ length vector.new }
 {
     let mut word = fresh(0);
     'characters: for _ in 0..65_536u32 {
-        let character = read_byte();
+        let character = read_byte(input, out);
         if character < b' ' {
             break 'characters;
         }
@@ -173,62 +174,62 @@ pub fn settings(vector: &[u8]) -> Settings {
 }
 
 // Ends a line.
-pub fn end() {
-    io::write_all(1, b"\n");
+pub fn end(out: &mut impl Write) {
+    console::write_all(out, b"\n");
 }
 
-pub fn number(value: u64) {
-    io::write_all(1, b" ");
-    io::print_decimal(1, value);
+pub fn number(out: &mut impl Write, value: u64) {
+    console::write_all(out, b" ");
+    console::write_decimal(out, value);
 }
 
-pub fn byte(value: u8) {
-    number(value as u64);
+pub fn byte(out: &mut impl Write, value: u8) {
+    number(out, value as u64);
 }
 
 // A signed number, given its bits.
-pub fn signed(bits: u32) {
+pub fn signed(out: &mut impl Write, bits: u32) {
     if bits < 2_147_483_648 {
-        number(bits as u64);
+        number(out, bits as u64);
     } else {
-        io::write_all(1, b" -");
-        io::print_decimal(1, MODULUS - (bits as u64));
+        console::write_all(out, b" -");
+        console::write_decimal(out, MODULUS - (bits as u64));
     }
 }
 
-pub fn granted() {
-    io::write_all(1, b"  granted");
+pub fn granted(out: &mut impl Write) {
+    console::write_all(out, b"  granted");
 }
 
-pub fn refused(refusal: Refusal) {
-    io::write_all(1, b"  refused");
-    byte(refusal.number);
-    number(refusal.place as u64);
+pub fn refused(out: &mut impl Write, refusal: Refusal) {
+    console::write_all(out, b"  refused");
+    byte(out, refusal.number);
+    number(out, refusal.place as u64);
 }
 
 // The bytes from a place up to another.
-pub fn bytes(name: &[u8], s: &[u8], from: usize, to: usize) {
-    io::write_all(1, name);
+pub fn bytes(out: &mut impl Write, name: &[u8], s: &[u8], from: usize, to: usize) {
+    console::write_all(out, name);
     let mut i = from;
     'bytes: while i < to {
         if s.len() <= i {
             return;
         }
-        byte(s[i]);
+        byte(out, s[i]);
         i += 1;
     }
 }
 
 // So many signed numbers of four bytes from a place on.
-pub fn ticks(name: &[u8], s: &[u8], from: usize, count: usize) {
-    io::write_all(1, name);
+pub fn ticks(out: &mut impl Write, name: &[u8], s: &[u8], from: usize, count: usize) {
+    console::write_all(out, name);
     let mut at = from;
     let mut left = count;
     'numbers: while 0 < left {
         if s.len() <= at {
             return;
         }
-        signed(words::word_at(s, at));
+        signed(out, words::word_at(s, at));
         at += 4;
         left -= 1;
     }

@@ -1,7 +1,7 @@
 -- What `inspect`, `check_room` and `check_parts` answer says which of checks 1 to 9 refuses first.
-use Rattle.std.proofs.Common.{ℕ, ◌≡◌, ◌+◌, ◌*◌, ◌≤◌, length, sym, ap, ◌∙◌, arith}
+use Rattle.std.proofs.Common.{◌≤◌, sym, ap, ◌∙◌, arith}
 use Rattle.refusals.specs.Answers.{check_of}
-use Rattle.model.specs.RoundSheet.{settings_at, header_size}
+use Rattle.model.specs.RoundSheet.{settings_at}
 use Rattle.model.specs.Refusals.{first_of, sheet_checks}
 use Rattle.sheet_checks.specs.Answers.{opened_of}
 use Rattle.entry_checks.proofs.Body.{body-parts, body-entries}

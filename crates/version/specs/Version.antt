@@ -1,4 +1,4 @@
--- The version of this repository, 0.8.0, as the library and the programs give it.
+-- The version of this repository, 0.7.0, as the library and the programs give it.
 --   major, minor, patch    its three numbers
 --   version_number          major × 2^16 + minor × 2^8 + patch
 --   version_text            its text, a digit for each, parted by full stops
@@ -8,7 +8,7 @@ abbrev pub major : ℕ
 major = 0
 
 abbrev pub minor : ℕ
-minor = 8
+minor = 7
 
 abbrev pub patch : ℕ
 patch = 0

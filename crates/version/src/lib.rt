@@ -8,12 +8,12 @@ ghost use Rattle.version.specs.Version.{version_number, version_text};
 pub fn number() -> u32
     ensures { result ≡ version_number }
 {
-    2_048
+    1_792
 }
 
 // Major, minor and patch, parted by full stops.
 pub fn text() -> [u8; 5]
     ensures { result ≡ version_text }
 {
-    [b'0', b'.', b'8', b'.', b'0']
+    [b'0', b'.', b'7', b'.', b'0']
 }

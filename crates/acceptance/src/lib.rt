@@ -76,11 +76,11 @@ fn accepts(
 ) -> usize
     requires alike { Alike marks.now values.now known.old }
     requires remembered { Remembered span need marks.now values.now known.old }
-    ensures upper_bound { (result ≤ length marks.now)
+    ensures admitted { (result ≤ length marks.now)
         × (ltb result (length marks.now)
         ≡ admitted span need marks.now values.now value) }
     ensures holds { Holds span need marks.now values.now result }
-    ensures remembered_2 { Remembered span need marks.now values.now known.new }
+    ensures remembered_after { Remembered span need marks.now values.now known.new }
 {
     let mut s = 0;
     'starts: while s < marks.len() {
@@ -127,12 +127,12 @@ fn find_start(
     r: usize,
 ) -> usize
     requires alike { Alike marks.now values.now known.old × (r < length marks.now) }
-    requires before_value { before ≡ count (accepted_in span need marks.now values.now) r }
+    requires before { before ≡ count (accepted_in span need marks.now values.now) r }
     requires remembered { Remembered span need marks.now values.now known.old }
-    ensures marks_value { ltb result (length marks.now)
+    ensures accepted { ltb result (length marks.now)
         ≡ accepted_in span need marks.now values.now r }
     ensures holds { Holds span need marks.now values.now result }
-    ensures remembered_2 { Remembered span need marks.now values.now known.new }
+    ensures remembered_after { Remembered span need marks.now values.now known.new }
 {
     if marks[r] != PRESENT {
         return marks.len();

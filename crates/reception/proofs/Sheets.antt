@@ -8,7 +8,7 @@ use Prim.Native.Nat.{ℕ, ◌+◌, ◌*◌, ◌-◌, ◌/◌, ◌≤◌, ◌<◌
 use native.Mathlib.Nat.{le_of_eq}
 use native.Mathlib.Omega.{arith}
 use borrow.Author.Rules.{part_to_end}
-use borrow.Author.Tests.{eq-eqb, lt-ltb, le-ltb, le-leb, lt-leb, eqb-true, leb-true, ltb-true}
+use borrow.Author.Tests.{eq-eqb, le-ltb, lt-leb, eqb-true, leb-true, ltb-true}
 use lib.Dec.{eqb, leb, ltb}
 use lib.ListN.{length, take, drop, length-drop}
 use lib.Seq.{get_or-take, get_or-drop, length-take-le}
@@ -321,3 +321,45 @@ entries-relayed c b = rw b
 pub entries-direct : (c : Settings) → eqb c.rule cca ≡ false → entry_count c ≡ c.n
 unfolding entry_count
 entries-direct c b = rw b
+
+-- a sheet that fits has its parts
+module _ (s : List ℕ) (c : Settings) (marks₀ values₀ : List ℕ)
+    (e : fitting c (length s) (length marks₀) (length values₀) ≡ true) where
+  here : Fit c (length s) (length marks₀) (length values₀)
+  here = fit c (length s) (length marks₀) (length values₀) e
+
+  pub fit-few : c.m ≤ c.n
+  fit-few = omega (arith, here.few)
+
+  pub direct-long : eqb c.rule cca ≡ false → header_size + c.n + 4 * c.n ≤ length s
+  direct-long b = omega (arith, here.long, entries-direct c b)
+
+  pub relayed-long : eqb c.rule cca ≡ true → length s ≡ header_size + 5 * (c.n * c.n)
+  relayed-long b = omega (arith, here.long, entries-relayed c b)
+
+  module _ (marks values : List ℕ) where
+    pub direct-received :
+        eqb c.rule cca ≡ false
+        → Stored (copy_at (sent_marks s c.n) (sent_bytes s c.n))
+        (readings_taken (length (sent_marks s c.n)) (length (sent_bytes s c.n)) (length marks₀) (length values₀))
+        marks₀
+        values₀
+        marks
+        values
+        → Filled s c marks values
+    direct-received b =
+        direct-filled s c marks₀ values₀ marks values here.mark_room here.value_room b (direct-long b)
+
+    pub relayed-received :
+        eqb c.rule cca ≡ true
+        → Stored (row_reading (relayed_marks s c.n) (relayed_bytes s c.n) c.n (c.n - c.m))
+        (rows_taken c.n (length (relayed_marks s c.n)) (length (relayed_bytes s c.n)) (length marks₀)
+        (length values₀))
+        marks₀
+        values₀
+        marks
+        values
+        → Filled s c marks values
+    relayed-received b =
+        relayed-filled s c marks₀ values₀ marks values here.mark_room here.value_room b here.few here.small
+        (relayed-long b)

@@ -27,7 +27,7 @@ fn strike(marks: &mut [u8], accepted: &[bool])
 // The same, where so many are accepted: where all are, nothing is struck out.
 fn strike_others(marks: &mut [u8], accepted: &[bool], count: u32)
     requires marks_in_bounds { length marks.old ≤ length accepted.now }
-    requires marks_value { count ≡ length marks.old
+    requires all_kept { count ≡ length marks.old
         → table (λ r. kept_mark (get_or accepted.now r false) (get_or marks.old r 0)) (length marks.old)
         ≡ marks.old }
     ensures { marks.new

@@ -24,8 +24,8 @@ pub fn is_sound(role: u8) -> bool
 
 // What a faulty sender is heard to say, which sent the entry of this mark and bits.
 pub fn hear_entry(mark: u8, bits: u32) -> Held
-    ensures mark_value { result.mark ≡ held_mark (entry_reading mark bits) }
-    ensures value_value { result.value ≡ held_value (entry_reading mark bits) }
+    ensures mark { result.mark ≡ held_mark (entry_reading mark bits) }
+    ensures value { result.value ≡ held_value (entry_reading mark bits) }
 {
     Held {
         mark: held::entry_mark(mark, bits),

@@ -41,7 +41,7 @@ abbrev spliced : ℕ → List ℕ → List ℕ → List ℕ
 spliced k b t = take k b ++ (t ++ drop (length b - k) (drop k b))
 
 -- the part from k on, as it is lent
-abbrev lent : ℕ → List ℕ → List ℕ
+abbrev pub lent : ℕ → List ℕ → List ℕ
 lent k b = take (length b - k) (drop k b)
 
 module _ (marks values old : List ℕ) (count e v : ℕ) where

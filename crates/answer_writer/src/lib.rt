@@ -1,7 +1,7 @@
 // Writes the answer sheet of a settled round, of which the marks and the values are held beside each other.
 #![tactic(auto)]
 
-ghost use Rattle.std.specs.Prelude.{◌≡◌, ◌+◌, ◌*◌, ◌≤◌, length};
+ghost use Rattle.std.specs.Prelude.{◌≡◌, ◌+◌, ◌*◌, ◌≤◌, ◌++◌, length, drop};
 ghost use Rattle.arithmetic.specs.Writing.{table, overwrite};
 ghost use Rattle.model.specs.RoundSheet.{reading_bytes};
 ghost use Rattle.sheet_laws.specs.Storing.{put_word};
@@ -24,10 +24,18 @@ fn store(tail: &mut [u8], r: usize, x: u32)
     tail[i + 3] = (x / 16777216 % 256) as u8;
 }
 
+// Puts the marks at the front of a list that has room for them.
+fn copy(marks: &[u8], tail: &mut [u8])
+    requires { length marks.now ≤ length tail.old }
+    ensures { tail.new ≡ marks.now ++ drop (length marks.now) tail.old }
+{
+    tail[..marks.len()].copy_from_slice(marks);
+}
+
 // Fills the tail of the answer sheet with the used values.
 fn put_used(marks: &[u8], values: &[u32], estimate: u32, tail: &mut [u8])
-    requires marks_len_bound { (length marks.now ≤ max_cabinets) × (length values.now ≡ length marks.now) }
-    requires marks_in_bounds { 4 * length marks.now ≤ length tail.old }
+    requires few_marks { (length marks.now ≤ max_cabinets) × (length values.now ≡ length marks.now) }
+    requires room { 4 * length marks.now ≤ length tail.old }
     ensures { tail.new
         ≡ overwrite
         (reading_bytes
@@ -43,8 +51,8 @@ fn put_used(marks: &[u8], values: &[u32], estimate: u32, tail: &mut [u8])
 
 // The header, the marks behind it, and the used values in the tail from byte 10 + N on.
 fn put_parts(count: u8, estimate: u32, value: u32, marks: &[u8], values: &[u32], answer: &mut [u8])
-    requires marks_len_bound { (length marks.now ≤ max_cabinets) × (length values.now ≡ length marks.now) }
-    requires marks_in_bounds { answer_length (length marks.now) ≤ length answer.old }
+    requires few_marks { (length marks.now ≤ max_cabinets) × (length values.now ≡ length marks.now) }
+    requires room { answer_length (length marks.now) ≤ length answer.old }
     ensures { answer.new
         ≡ overwrite
         (answer_bytes
@@ -60,7 +68,7 @@ fn put_parts(count: u8, estimate: u32, value: u32, marks: &[u8], values: &[u32],
         held::unbias(value),
         answer,
     );
-    bytes::copy(marks, &mut answer[ANSWER_HEADER_SIZE..]);
+    copy(marks, &mut answer[ANSWER_HEADER_SIZE..]);
     let tail = ANSWER_HEADER_SIZE + n;
     put_used(marks, values, estimate, &mut answer[tail..]);
 }

@@ -18,7 +18,7 @@ pub fn conclude(
     values: &[u32],
     answer: &mut [u8],
 ) -> Screened
-    ensures result_value { check_of result ≡ too_many_faults count }
+    ensures check_10 { check_of result ≡ too_many_faults count }
     ensures answer_after { answer.new
         ≡ concluded count estimate value marks.now values.now answer.old }
 {

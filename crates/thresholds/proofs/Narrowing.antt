@@ -14,7 +14,7 @@ use borrow.Author.Count.{below_none, below_more}
 use borrow.Author.Tests.{lt-ltb, le-ltb, le-leb, ltb-true, ltb-false, leb-true, leb-false, eqb-true}
 use lib.Dec.{ltb, leb, eqb}
 use lib.ListN.{length}
-use Rattle.arithmetic.proofs.Bools.{both_ways, clash, and_intro, or_left, or_right, iff_eq}
+use Rattle.arithmetic.proofs.Bools.{both_ways, clash, and_intro, and_left, or_left, or_right, iff_eq}
 use Rattle.arithmetic.proofs.Counting.{initial, last, count_ext, count-le, count-not}
 use Rattle.arithmetic.specs.Counting.{bit, count}
 use Rattle.arithmetic.specs.Words.{two_to32}
@@ -205,6 +205,17 @@ guessed-within low high unit left right wide = go (leb left right)
         ≤ high)
     go true = (omega arith, omega arith)
     go false = (omega arith, omega arith)
+
+-- where the range is not one number yet, what is looked at is above its start, and no higher than its end
+pub looked-within :
+    (low high k below unit left right mid : ℕ)
+    → (ltb low high && not (eqb below k)) ≡ true
+    → mid ≡ guessed low high unit left right
+    → (low < high) × (low < mid) × (mid ≤ high)
+looked-within low high k below unit left right mid test e =
+    let wide = ltb-true low high (and_left (ltb low high) (not (eqb below k)) test) in
+    let within = guessed-within low high unit left right wide in
+    (wide, omega (arith, within.0), omega (arith, within.1))
 
 -- ---- lists that fit
 

@@ -3,7 +3,7 @@
 use mathlib.Core.Bool.{Bool, true, false, ◌&&◌}
 use mathlib.Core.List.{List}
 use mathlib.Core.Path.{◌≡◌, sym, ap, ◌∙◌}
-use Prim.Native.Nat.{ℕ, ◌+◌, ◌*◌, ◌≤◌, ◌<◌}
+use Prim.Native.Nat.{ℕ, ◌*◌, ◌≤◌, ◌<◌}
 use native.Mathlib.Nat.{mul-le-mul}
 use native.Mathlib.Omega.{arith}
 use borrow.Author.Tests.{leb-true, ltb-true, eqb-true, lt-leb}
@@ -11,11 +11,11 @@ use lib.Dec.{leb, ltb, eqb}
 use lib.ListN.{length}
 use Rattle.arithmetic.specs.Naturals.{down}
 use Rattle.arithmetic.specs.Words.{two_to31}
-use Rattle.arithmetic.specs.Writing.{table, overwrite}
+use Rattle.arithmetic.specs.Writing.{table}
 use Rattle.arithmetic.proofs.Bools.{and_left, and_right}
 use Rattle.arithmetic.proofs.Shift.{up-down}
 use Rattle.arithmetic.proofs.Writing.{length-table, overwrite-whole}
-use Rattle.model.specs.Ensemble.{Reading, present, max_cabinets}
+use Rattle.model.specs.Ensemble.{present, max_cabinets}
 use Rattle.held.specs.Held.{entry_reading, held_mark, held_value}
 use Rattle.model.specs.RoundSheet.{byte, word}
 use Rattle.held_laws.specs.Stored.{Stored}

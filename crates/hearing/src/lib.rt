@@ -15,8 +15,8 @@ use speaking::Held;
 // What one sender is heard to say: a sound one the value that it holds, a faulty one the entry numbered e.
 fn hear_one(role: u8, value: u32, sent: &[u8], readings: &[u8], e: usize) -> Held
     requires { (e < length sent.now) × (length readings.now ≡ 4 * length sent.now) }
-    ensures mark_value { result.mark ≡ held_mark (spoken role value sent.now readings.now e) }
-    ensures value_value { result.value ≡ held_value (spoken role value sent.now readings.now e) }
+    ensures mark { result.mark ≡ held_mark (spoken role value sent.now readings.now e) }
+    ensures value { result.value ≡ held_value (spoken role value sent.now readings.now e) }
 {
     if speaking::is_sound(role) {
         return Held {

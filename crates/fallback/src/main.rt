@@ -11,9 +11,8 @@ use input_sizes::MAX_INPUT;
 use model::Refusal;
 use standard_input::Input;
 use std::fs::File;
-use std::io;
 use std::io::{Cursor, Write};
-use std::str;
+use std::{io, str};
 use text::ROUND_CAPACITY;
 
 // Bytes for a sheet.
@@ -43,7 +42,8 @@ fn close_with(rt: HostRuntime, is_written: bool) {
     if is_written {
         return;
     }
-    console::write_all(&mut rt.stderr(),
+    console::write_all(
+        &mut rt.stderr(),
         b"fallback: standard output can't be written\n",
     );
 }
@@ -113,12 +113,14 @@ fn write_refusal(rt: HostRuntime, refusal: Refusal, text: &mut [u8]) -> bool {
 fn answer(rt: HostRuntime, crusaders: &[u8], direct: &[u8], text: &mut [u8]) {
     let mut answer = [0u8; 330];
     match falling_back::fall_back(crusaders, direct, &mut answer) {
-        PairSettled::Crusaders(_) => close_with(rt, write_round(rt, 
-            b"settled by crusaders\n",
-            &answer,
-            text,
-        )),
-        PairSettled::Direct(_) => close_with(rt, write_round(rt, b"settled by direct\n", &answer, text)),
+        PairSettled::Crusaders(_) => close_with(
+            rt,
+            write_round(rt, b"settled by crusaders\n", &answer, text),
+        ),
+        PairSettled::Direct(_) => close_with(
+            rt,
+            write_round(rt, b"settled by direct\n", &answer, text),
+        ),
         PairSettled::Refused(refusal) => close_with(rt, write_refusal(rt, refusal, text)),
     }
 }
@@ -131,7 +133,8 @@ fn run(rt: HostRuntime, crusaders: &mut [u8], direct: &mut [u8], text: &mut [u8]
     let Input::Read(second) = read_sheet(rt, 2, direct) else {
         return;
     };
-    answer(rt, 
+    answer(
+        rt,
         first_bytes(&*crusaders, first),
         first_bytes(&*direct, second),
         text,
@@ -146,7 +149,8 @@ fn settle_files(rt: HostRuntime) {
 }
 
 fn usage(rt: HostRuntime) -> bool {
-    console::write_all(&mut rt.stdout(),
+    console::write_all(
+        &mut rt.stdout(),
         b"usage: fallback CRUSADERS DIRECT\n       fallback --help, fallback --version\nReads two round sheets, in \
           bytes, from the files so named: a CCA sheet, and the FCA sheet of what was heard directly.\nIt settles the \
           first, or the second where the first has too many faults (10), and writes `settled by crusaders` or\n\
@@ -179,7 +183,8 @@ fn main(rt: HostRuntime) {
     } else if is_word(rt, b"--version") {
         close_with(rt, show_version(rt));
     } else {
-        console::write_all(&mut rt.stderr(),
+        console::write_all(
+            &mut rt.stderr(),
             b"fallback: two files are wanted, a CCA sheet and an FCA sheet; fallback --help says more\n",
         );
     }

@@ -27,7 +27,12 @@ fn say_unless(out: &mut impl Write, is_so: bool, what: &[u8]) {
 
 // The sheet and the readings that the C call names; and where the part that is shown has other bytes, or is another by
 // `settle_shown`, that it does.
-fn show_part<'a>(out: &mut impl Write, crusaders: &'a [u8], direct: &'a [u8], settled: PairSettled) {
+fn show_part<'a>(
+    out: &mut impl Write,
+    crusaders: &'a [u8],
+    direct: &'a [u8],
+    settled: PairSettled,
+) {
     let named = fallback_packing::pack_fallen(crusaders, direct, settled);
     let part = shown_readings::shown(crusaders, direct, settled);
     let mut again = [0u8; 330];
@@ -38,28 +43,43 @@ fn show_part<'a>(out: &mut impl Write, crusaders: &'a [u8], direct: &'a [u8], se
     vectors::number(out, named.length as u64);
     let by_crusaders = (named.source == 1) & is_part(crusaders, named.start, named.length, part);
     let by_direct = (named.source == 2) & is_part(direct, named.start, named.length, part);
-    say_unless(out, by_crusaders | by_direct, b", and other bytes are shown");
-    say_unless(out, 
-        part == once_more,
-        b", and settle_shown shows others",
+    say_unless(
+        out,
+        by_crusaders | by_direct,
+        b", and other bytes are shown",
     );
+    say_unless(out, part == once_more, b", and settle_shown shows others");
 }
 
 fn show_answer(out: &mut impl Write, buffer: &[u8], size: usize) {
     let cabinets = words::byte_at(buffer, 0) as usize;
     vectors::bytes(out, b"; round", buffer, 0, 2);
     vectors::ticks(out, b"", buffer, 2, 2);
-    vectors::bytes(out, b"; marks",
+    vectors::bytes(
+        out,
+        b"; marks",
         buffer,
         ANSWER_HEADER_SIZE,
         ANSWER_HEADER_SIZE + cabinets,
     );
-    vectors::ticks(out, b"; used", buffer, ANSWER_HEADER_SIZE + cabinets, cabinets);
+    vectors::ticks(
+        out,
+        b"; used",
+        buffer,
+        ANSWER_HEADER_SIZE + cabinets,
+        cabinets,
+    );
     vectors::bytes(out, b"; behind", buffer, size, buffer.len());
     vectors::end(out);
 }
 
-fn show<'a>(out: &mut impl Write, crusaders: &'a [u8], direct: &'a [u8], settled: PairSettled, buffer: &[u8]) {
+fn show<'a>(
+    out: &mut impl Write,
+    crusaders: &'a [u8],
+    direct: &'a [u8],
+    settled: PairSettled,
+    buffer: &[u8],
+) {
     match settled {
         PairSettled::Crusaders(size) | PairSettled::Direct(size) => {
             vectors::granted(out);

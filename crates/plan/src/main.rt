@@ -40,7 +40,10 @@ fn show_reached(out: &mut impl Write, reached: bool) -> bool {
 }
 
 fn show_wider(out: &mut impl Write, wider: Wider) -> bool {
-    let is_first = plan_text::say(out, b"after the first round, of those that do not refuse:\n");
+    let is_first = plan_text::say(
+        out,
+        b"after the first round, of those that do not refuse:\n",
+    );
     let is_stated = plan_text::show_apart(out, b"  by documents 01 and 02", wider.gap, wider.error);
     let is_exact = plan_text::show_apart(out, b"\n  to the tick", wider.widest, wider.farthest);
     let is_reached = show_reached(out, wider.reached);
@@ -49,7 +52,8 @@ fn show_wider(out: &mut impl Write, wider: Wider) -> bool {
 }
 
 fn show_planned(out: &mut impl Write) -> bool {
-    plan_text::say(out, 
+    plan_text::say(
+        out,
         b"no sound cabinet refuses; after each round two are at most its window apart, each within its \
           accuracy of true time\n",
     )
@@ -112,7 +116,15 @@ fn show_plan(out: &mut impl Write, settings: Settings, accuracy: u32, aim: u8, l
 }
 
 // The plan, and then the limits where they are asked for.
-fn answer(out: &mut impl Write, settings: Settings, accuracy: u32, aim: u8, last: u32, is_limited: bool, t: u32) -> bool {
+fn answer(
+    out: &mut impl Write,
+    settings: Settings,
+    accuracy: u32,
+    aim: u8,
+    last: u32,
+    is_limited: bool,
+    t: u32,
+) -> bool {
     let is_shown = show_plan(out, settings, accuracy, aim, last);
     if is_limited & is_granted(settings, accuracy, aim, last) {
         let is_told = show_limits(out, settings, accuracy, t);
@@ -129,7 +141,8 @@ fn run(env: &impl Env, out: &mut impl Write, errors: &mut impl Write, is_limited
     let bad = plan_arguments::read_bad(env, errors, is_limited, ensemble.cabinets);
     if ensemble.is_read & aim.is_read & bad.is_read {
         let settings = ensemble.settings;
-        answer(out, 
+        answer(
+            out,
             settings,
             aim.accuracy,
             aim.kind,

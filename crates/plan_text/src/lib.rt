@@ -78,7 +78,7 @@ fn explain(out: &mut impl Write, number: u8) -> bool {
 }
 
 // A refusal's number and place.
-fn show_number(out: &mut impl Write, refusal: Refusal) -> bool {
+fn show_number(out: &mut impl Write, refusal: &Refusal) -> bool {
     let is_number = say_number(out, b"refused ", refusal.number as u64);
     let is_place = say_number(out, b" ", refusal.place as u64);
     let is_parted = say(out, b": ");
@@ -86,7 +86,7 @@ fn show_number(out: &mut impl Write, refusal: Refusal) -> bool {
 }
 
 pub fn show_refusal(out: &mut impl Write, refusal: Refusal) -> bool {
-    let is_number = show_number(out, refusal);
+    let is_number = show_number(out, &refusal);
     let is_explained = explain(out, refusal.number);
     let is_ended = say(out, b"\n");
     is_number & is_explained & is_ended
@@ -115,7 +115,7 @@ pub fn show_no_interval(
     window: u32,
     precision: u32,
 ) -> bool {
-    let is_number = show_number(out, refusal);
+    let is_number = show_number(out, &refusal);
     let is_explained = explain_interval(out, refusal.number, window, precision);
     let is_ended = say(out, b"\n");
     is_number & is_explained & is_ended

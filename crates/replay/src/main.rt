@@ -31,7 +31,8 @@ fn text_buffer() -> [u8; FINAL_CAPACITY]
 // Says on standard error what is waited for, where a person types the input.
 fn announce(rt: HostRuntime) {
     if rt.stdin().is_terminal() {
-        console::write_all(&mut rt.stderr(),
+        console::write_all(
+            &mut rt.stderr(),
             b"replay: waiting for a trace, in bytes, on standard input; replay --help says more\n",
         );
     }
@@ -42,7 +43,10 @@ fn close_with(rt: HostRuntime, is_written: bool) {
     if is_written {
         return;
     }
-    console::write_all(&mut rt.stderr(), b"replay: standard output can't be written\n");
+    console::write_all(
+        &mut rt.stderr(),
+        b"replay: standard output can't be written\n",
+    );
 }
 
 // Writes the text of a trace, and says whether it is written.
@@ -93,7 +97,8 @@ fn replay_input(rt: HostRuntime, each_round: bool) {
 }
 
 fn usage(rt: HostRuntime) -> bool {
-    console::write_all(&mut rt.stdout(),
+    console::write_all(
+        &mut rt.stdout(),
         b"usage: replay [--rounds] <TRACE\n       replay --help, replay --version\nReads the trace of a recorded run, \
           in bytes, from standard input, replays it and writes `replay`, N, rounds;\nthen each cabinet's number, role \
           (1 sound, 0 faulty) and final value (0 for faulty). Or `refused`, a number and a place.\nWith --rounds it \
@@ -124,7 +129,8 @@ fn explain(rt: HostRuntime) {
     } else if is_word(rt, b"--version") {
         close_with(rt, show_version(rt));
     } else {
-        console::write_all(&mut rt.stderr(),
+        console::write_all(
+            &mut rt.stderr(),
             b"replay: --rounds is the one argument, the trace comes from standard input; replay --help says more\n",
         );
     }

@@ -8,8 +8,8 @@ ghost use Rattle.text.specs.Text.{round_capacity};
 
 use input_sizes::MAX_INPUT;
 use standard_input::Input;
-use text::ROUND_CAPACITY;
 use std::io::IsTerminal;
+use text::ROUND_CAPACITY;
 
 // Bytes for what is read.
 fn input_buffer() -> [u8; MAX_INPUT]
@@ -28,7 +28,8 @@ fn text_buffer() -> [u8; ROUND_CAPACITY]
 // Says on standard error what is waited for, where a person types the input.
 fn announce(rt: HostRuntime) {
     if rt.stdin().is_terminal() {
-        console::write_all(&mut rt.stderr(),
+        console::write_all(
+            &mut rt.stderr(),
             b"settle: waiting for a round sheet, in bytes, on standard input; settle --help says more\n",
         );
     }
@@ -39,7 +40,10 @@ fn close_with(rt: HostRuntime, is_written: bool) {
     if is_written {
         return;
     }
-    console::write_all(&mut rt.stderr(), b"settle: standard output can't be written\n");
+    console::write_all(
+        &mut rt.stderr(),
+        b"settle: standard output can't be written\n",
+    );
 }
 
 // Writes the listing of a sheet; says on standard error where writing fails.
@@ -65,7 +69,8 @@ fn settle_input(rt: HostRuntime) {
 }
 
 fn usage(rt: HostRuntime) -> bool {
-    console::write_all(&mut rt.stdout(),
+    console::write_all(
+        &mut rt.stdout(),
         b"usage: settle <SHEET\n       settle --help, settle --version\nReads one round sheet, in bytes, from \
           standard input and writes its answer: `round`, N, the accepted count, the\nestimate and the new \
           value; then each cabinet's number, mark and used value. Or `refused`, a number and a place.\nIt \
@@ -96,7 +101,8 @@ fn main(rt: HostRuntime) {
     } else if is_word(rt, b"--version") {
         close_with(rt, show_version(rt));
     } else {
-        console::write_all(&mut rt.stderr(),
+        console::write_all(
+            &mut rt.stderr(),
             b"settle: no argument is wanted, the sheet comes from standard input; settle --help says more\n",
         );
     }

@@ -30,10 +30,10 @@ fn settle_one(
     requires fits { Fits settings roles.now held.now sent.now readings.now
         (length marks.old) (length values.old) }
     requires p_in_bounds { p < length roles.now }
-    ensures refused_value { result.refused
+    ensures refused { result.refused
         ≡ meets_too_many
         settings roles.now held.now sent.now readings.now p }
-    ensures value_value { result.refused ≡ false
+    ensures value { result.refused ≡ false
         → result.value
         ≡ next_value settings roles.now held.now sent.now readings.now p }
 {

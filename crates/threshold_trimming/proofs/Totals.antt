@@ -4,6 +4,7 @@
 --   kept-between       the sum of those that are left
 -- Assumes nothing.
 use mathlib.Core.Bool.{Bool, true, false, cond, ◌&&◌}
+use mathlib.Core.List.{List}
 use mathlib.Core.Logic.{⊎_elim}
 use mathlib.Core.Path.{◌≡◌, sym, ap, ◌∙◌}
 use Prim.Native.Nat.{ℕ, ◌+◌, ◌*◌, ◌-◌, ◌≤◌, ◌<◌}
@@ -19,6 +20,7 @@ use Rattle.arithmetic.proofs.Counting.{count_ext, count_mono}
 use Rattle.arithmetic.proofs.Sums.{total_ext, total_mono, total_add, total_const, total_scale, count-total}
 use Rattle.model.specs.Ensemble.{max_cabinets}
 use Rattle.round_laws.specs.Naturals.{rank_nat, kept_nat, kept-total}
+use Rattle.held.specs.Held.{value_at}
 use Rattle.value_laws.proofs.Order as order
 use Rattle.thresholds.specs.Thresholds.{Split}
 use Rattle.threshold_trimming.specs.Trimming.{between, between_total}
@@ -45,6 +47,10 @@ under-parted f x a b n l =
     (λ r. cond (ltb (f r) a) (x r) 0 + cond (leb a (f r) && ltb (f r) b) (x r) 0) n
     (λ r _. parted (f r) (x r) a b l)
     ∙ total_add (λ r. cond (ltb (f r) a) (x r) 0) (λ r. cond (leb a (f r) && ltb (f r) b) (x r) 0) n
+
+-- what is added of a number
+abbrev pub taken_of : List ℕ → ℕ → ℕ → ℕ → ℕ
+taken_of numbers low high r = cond (between low high (value_at numbers r)) (value_at numbers r) 0
 
 -- ---- what is between fits 64 bits, and so does so many times a number
 

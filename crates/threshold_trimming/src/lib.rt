@@ -18,9 +18,9 @@ use thresholds::Thresholds;
 // The place behind the first `ties` numbers equal to one, or behind all where there are fewer.
 fn find_place(numbers: &[u32], at: u32, ties: u32) -> u32
     requires { length numbers.now ≤ max_cabinets }
-    ensures result_value { count (λ s. eqb (value_at numbers.now s) at) result
+    ensures passed { count (λ s. eqb (value_at numbers.now s) at) result
         ≡ min ties (count (λ s. eqb (value_at numbers.now s) at) (length numbers.now)) }
-    ensures upper_bound { result ≤ length numbers.now }
+    ensures up_to { result ≤ length numbers.now }
 {
     let mut left = ties;
     let mut r = 0;

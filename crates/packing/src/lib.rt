@@ -3,12 +3,24 @@
 #![tactic(auto)]
 
 ghost use Rattle.std.specs.Prelude.{◌≡◌};
+ghost use Rattle.settling.specs.Answers.{settled_of};
 ghost use Rattle.sheet_writer.specs.Answers.{filled_of};
 ghost use Rattle.planner.specs.Answers.{counted_of};
 ghost use Rattle.packed_refusals.specs.Answers.{packed};
 
 use planner::Counted;
+use settling::Settled;
 use sheet_writer::Filled;
+
+// An answer sheet's length.
+pub fn pack_settled(settled: Settled) -> u64
+    ensures { result ≡ packed (settled_of settled) }
+{
+    match settled {
+        Settled::Granted(size) => size as u64,
+        Settled::Refused(refusal) => packed_refusals::pack_refusal(refusal),
+    }
+}
 
 // A round sheet's length.
 pub fn pack_filled(filled: Filled) -> u64

@@ -93,15 +93,24 @@ module _ (marks values : List ℕ) where
         mean-by true q = rw q
         mean-by false q = rw q
 
+    -- a number is a value of 32 bits, or 0 ticks
+    number-small :
+        ((i : ℕ) → value_at values i < two_to32) → (r : ℕ) → r < length marks → value_at numbers r < two_to32
+    number-small small r l = rw (number_at r l) (go (present_in marks r))
+      where
+        go : (b : Bool) → cond b (value_at values r) two_to31 < two_to32
+        go true = small r
+        go false = omega arith
+
     -- the sum is of so many numbers of 32 bits
     pub sum-small :
-        ((i : ℕ) → value_at numbers i < two_to32) → (rule sum : ℕ) → sum ≡ dropped_sum rule m marks numbers
+        ((i : ℕ) → value_at values i < two_to32) → (rule sum : ℕ) → sum ≡ dropped_sum rule m marks numbers
         → sum ≤ summed_by rule (length numbers - 2 * m) * (two_to32 - 1)
     sum-small small rule sum s =
         rw (s ∙ sym (sum-some m marks numbers fit rule), numbers-long) (by (eqb rule trimmed_midpoint) refl)
       where
         each : (r : ℕ) → r < length marks → kept_nat (length marks) m (value_at numbers) r ≡ true → Between 0 (two_to32 - 1) (value_at numbers r)
-        each r _ _ = record { low = omega arith; high = omega (arith, small r) }
+        each r l _ = record { low = omega arith; high = omega (arith, number-small small r l) }
 
         ranked-small : (h : ℕ) → m ≤ h → h < length marks - m → ranked_nat (length marks) (value_at numbers) h ≤ two_to32 - 1
         ranked-small h low high = (ranked-within (length marks) m rest (value_at numbers) 0 (two_to32 - 1) each h low high).high

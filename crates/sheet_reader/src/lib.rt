@@ -36,6 +36,14 @@ fn decode(sheet: &[u8], entries: usize, readings: &mut [i32])
     }
 }
 
+// Copies a part to the front of a list that has room for it.
+fn copy(part: &[u8], list: &mut [u8])
+    requires { length part.now ≤ length list.old }
+    ensures { list.new ≡ overwrite part.now list.old }
+{
+    list[..part.len()].copy_from_slice(part);
+}
+
 // The reader: the settings, with the first entries of marks and readings filled from the sheet, or the first refusal
 // of checks 1 to 9, which fills nothing.
 pub fn read(sheet: &[u8], marks: &mut [u8], readings: &mut [i32]) -> Opened
@@ -47,7 +55,7 @@ pub fn read(sheet: &[u8], marks: &mut [u8], readings: &mut [i32]) -> Opened
         Opened::Granted(settings) => {
             let entries = sheet_sizes::entry_count(settings);
             let body = HEADER_SIZE + entries;
-            bytes::copy(&sheet[HEADER_SIZE..body], marks);
+            copy(&sheet[HEADER_SIZE..body], marks);
             decode(sheet, entries, readings);
             Opened::Granted(settings)
         }

@@ -17,13 +17,22 @@ pub enum Filled {
     Refused(Refusal),
 }
 
+// Copies a part to the front of a list that has room for it.
+fn copy(part: &[u8], list: &mut [u8])
+    requires { length part.now ≤ length list.old }
+    ensures { list.new ≡ overwrite part.now list.old }
+{
+    list[..part.len()].copy_from_slice(part);
+}
+
 // Stores marks and, behind them, readings, from byte 0 on.
 fn put_entries(marks: &[u8], readings: &[i32], buffer: &mut [u8])
     requires { length marks.now + 4 * length readings.now ≤ length buffer.old }
     ensures { buffer.new
         ≡ overwrite (marks.now ++ reading_bytes readings.now) buffer.old }
 {
-    let at = bytes::copy(marks, buffer);
+    let at = marks.len();
+    copy(marks, buffer);
     reading_writer::put_readings(readings, &mut buffer[at..]);
 }
 

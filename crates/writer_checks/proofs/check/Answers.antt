@@ -8,8 +8,8 @@ pub check_missing-requires : goal.check_missing-requires
 check_missing-requires c =
     let a = c.args in
     let w =
-        writable a.settings (length a.marks.now) (length a.readings.now) a.room
-        (sym c.check_lengths.ensures ∙ ap check_of c.in-Passed.is) in
+    writable a.settings (length a.marks.now) (length a.readings.now) a.room
+    (sym c.check_lengths.ensures ∙ ap check_of c.in-Passed.is) in
     (w.readings_long ∙ sym w.marks_long, few-marks a.settings a.marks.now a.readings.now a.room w)
 
 pub returns-in-Refused : goal.returns-in-Refused

@@ -27,13 +27,12 @@ returns-then-not_zero c =
 
 pub entries-preserved : goal.entries-preserved
 entries-preserved c =
-    let a = c.args in
-    (
+    let a = c.args in (
       omega arith,
       search_more (fault a.marks.now a.readings.now) c.entries.e c.entries.invariant.1
           (ap (λ (z : ℤ). not_zero (byte a.marks.now c.entries.e) (of_z w32 z))
-    (sym (bits_again (get_or a.readings.now c.entries.e (pos 0)) (omega arith)))
-    ∙ sym c.not_zero.ensures ∙ c.if-not_zero.false),
+          (sym (bits_again (get_or a.readings.now c.entries.e (pos 0)) (omega arith)))
+          ∙ sym c.not_zero.ensures ∙ c.if-not_zero.false),
     )
 
 pub returns : goal.returns

@@ -1,0 +1,59 @@
+-- A refusal leaves the buffer, and else the sizes and the tail written are the sheet.
+use Rattle.std.proofs.Common.{◌-◌, ◌++◌, length, take, drop, sym, ap, ◌∙◌, arith}
+use Rattle.refusals.specs.Answers.{check_of}
+use Rattle.model.specs.RoundSheet.{header_size, reading_bytes, size_bytes}
+use Rattle.sheet_laws.proofs.Written.{length-size_bytes}
+use Rattle.sheet_laws.proofs.Storing.{tail_written}
+use Rattle.writer_checks.proofs.Writing.{written-within}
+use Rattle.size_writer.proofs.Stores.{sizes-put}
+use Rattle.sheet_writer.proofs.Filling.{writer-refuses, writer_fills}
+use Rattle.sheet_writer.proofs.Stores.{length_tail}
+use Rattle.sheet_writer.proofs.write.Goals as goal
+
+pub slice_bounds-put_entries-count : goal.slice_bounds-put_entries-count
+slice_bounds-put_entries-count c =
+    let a = c.args in
+    let within =
+    written-within a.settings a.marks.now a.readings.now (length a.buffer.now)
+    (sym c.check.ensures ∙ ap check_of c.in-Passed.is) in
+    omega (arith, c.put_sizes.auto.buffer, within)
+
+pub slice_bounds-put_entries-start : goal.slice_bounds-put_entries-start
+slice_bounds-put_entries-start c =
+    let a = c.args in
+    let within =
+    written-within a.settings a.marks.now a.readings.now (length a.buffer.now)
+    (sym c.check.ensures ∙ ap check_of c.in-Passed.is) in
+    omega (arith, c.put_sizes.auto.buffer, within)
+
+pub put_entries-requires : goal.put_entries-requires
+put_entries-requires c =
+    let a = c.args in
+    let within =
+    written-within a.settings a.marks.now a.readings.now (length a.buffer.now)
+    (sym c.check.ensures ∙ ap check_of c.in-Passed.is) in
+    omega (arith, c.put_sizes.auto.buffer, length_tail c.put_sizes.new.buffer header_size, within)
+
+pub returns-in-Refused : goal.returns-in-Refused
+returns-in-Refused c =
+    let a = c.args in
+    writer-refuses a.settings a.marks.now a.readings.now a.buffer.now c.in-Refused.r
+    (sym c.check.ensures ∙ ap check_of c.in-Refused.is)
+
+pub returns-in-Passed : goal.returns-in-Passed
+returns-in-Passed c =
+    let a = c.args in
+    let checks = sym c.check.ensures ∙ ap check_of c.in-Passed.is in
+    let within = written-within a.settings a.marks.now a.readings.now (length a.buffer.now) checks in
+    let sized = c.put_sizes.new.buffer in
+    writer_fills a.settings a.marks.now a.readings.now a.buffer.now
+    (take header_size sized
+    ++ (c.put_entries.new.buffer ++ drop (length sized - header_size) (drop header_size sized)))
+    c.sheet_length-size.result
+    checks
+    c.sheet_length-size.ensures
+    (tail_written (size_bytes a.settings) (a.marks.now ++ reading_bytes a.readings.now) a.buffer.now
+    sized c.put_entries.new.buffer header_size
+    (length-size_bytes a.settings)
+    (c.put_sizes.ensures ∙ sizes-put a.settings a.buffer.now (omega (arith, within)))
+    c.put_entries.ensures)

@@ -41,36 +41,36 @@ readings-preserved c =
     let l = c.readings in
     let below = c.readings-test.true in
     elim c.if-joins.branch [
-    | then-joins w ↦
-        rw (w.known-is, w.accepted-is, w.count-is, w.earlier-is)
-        (test-joined a.span a.need a.marks.now a.values.now a.accepted.now l.known l.accepted
-        l.count
-        l.earlier
-        l.r
-        l.invariant
-        below
-        (joined-accepted a.span a.need a.marks.now a.values.now l.earlier l.r l.invariant.alike.0
-        l.invariant.start
-        c.joins.ensures
-        w.if-joins.true))
-    | else-joins w ↦
-        rw (w.known-is, w.accepted-is, w.count-is, w.earlier-is)
-        (test-one a.span a.need a.marks.now a.values.now a.accepted.now l.known l.accepted
-        l.count
-        l.earlier
-        l.r
-        l.invariant
-        below
-        w.find_start-start.new.known
-        w.find_start-start.auto.known
-        w.find_start-start.ensures.remembered_after
-        w.find_start-start.result
-        w.find_start-start.ensures.accepted
-        w.find_start-start.ensures.holds
-        w.later-earlier.result
-        w.later-earlier.ensures
-        w.passes-count.result
-        w.passes-count.ensures)
+      | then-joins w ↦
+          rw (w.known-is, w.accepted-is, w.count-is, w.earlier-is)
+          (test-joined a.span a.need a.marks.now a.values.now a.accepted.now l.known l.accepted
+          l.count
+          l.earlier
+          l.r
+          l.invariant
+          below
+          (joined-accepted a.span a.need a.marks.now a.values.now l.earlier l.r l.invariant.alike.0
+          l.invariant.start
+          c.joins.ensures
+          w.if-joins.true))
+      | else-joins w ↦
+          rw (w.known-is, w.accepted-is, w.count-is, w.earlier-is)
+          (test-one a.span a.need a.marks.now a.values.now a.accepted.now l.known l.accepted
+          l.count
+          l.earlier
+          l.r
+          l.invariant
+          below
+          w.find_start-start.new.known
+          w.find_start-start.auto.known
+          w.find_start-start.ensures.remembered_after
+          w.find_start-start.result
+          w.find_start-start.ensures.accepted
+          w.find_start-start.ensures.holds
+          w.later-earlier.result
+          w.later-earlier.ensures
+          w.passes-count.result
+          w.passes-count.ensures)
     ]
 
 pub returns-clause-value : goal.returns-clause-value

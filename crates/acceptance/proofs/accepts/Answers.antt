@@ -15,20 +15,20 @@ starts-preserved c =
     let s = c.starts in
     let below = c.starts-test.true in
     elim c.if-tries.branch [
-    | then-tries+else-so_far-eq-ENOUGH+else-readings-test w ↦
-        rw w.known-is
-        (pass-counted a.span a.need a.marks.now a.values.now a.value s.known s.s below s.invariant
-        w.readings.count
-        w.readings.t
-        w.judged.result
-        w.readings.invariant
-        w.readings-test.false
-        w.judged.ensures)
-    | else-tries w ↦
-        rw w.known-is
-        (pass-untried a.span a.need a.marks.now a.values.now a.value s.known s.s below s.invariant
-        c.tries.ensures
-        w.if-tries.false)
+      | then-tries+else-so_far-eq-ENOUGH+else-readings-test w ↦
+          rw w.known-is
+          (pass-counted a.span a.need a.marks.now a.values.now a.value s.known s.s below s.invariant
+          w.readings.count
+          w.readings.t
+          w.judged.result
+          w.readings.invariant
+          w.readings-test.false
+          w.judged.ensures)
+      | else-tries w ↦
+          rw w.known-is
+          (pass-untried a.span a.need a.marks.now a.values.now a.value s.known s.s below s.invariant
+          c.tries.ensures
+          w.if-tries.false)
     ]
 
 pub returns-after-starts-clause-admitted : goal.returns-after-starts-clause-admitted
@@ -54,11 +54,11 @@ returns-then-need-count-clause-admitted c =
     let s = c.starts in
     let i = c.readings in
     let enough =
-        count-enough a.span a.need a.marks.now a.values.now s.s i.count i.t i.invariant
-        c.readings-test.true
-        c.counted-count.result
-        c.counted-count.ensures
-        c.if-need-count.true in
+    count-enough a.span a.need a.marks.now a.values.now s.s i.count i.t i.invariant
+    c.readings-test.true
+    c.counted-count.result
+    c.counted-count.ensures
+    c.if-need-count.true in
     (answered a.span a.need a.marks.now a.values.now a.value s.known s.s c.starts-test.true
     s.invariant
     c.tries.ensures
@@ -71,11 +71,11 @@ returns-then-need-count-clause-holds c =
     let s = c.starts in
     let i = c.readings in
     let enough =
-        count-enough a.span a.need a.marks.now a.values.now s.s i.count i.t i.invariant
-        c.readings-test.true
-        c.counted-count.result
-        c.counted-count.ensures
-        c.if-need-count.true in
+    count-enough a.span a.need a.marks.now a.values.now s.s i.count i.t i.invariant
+    c.readings-test.true
+    c.counted-count.result
+    c.counted-count.ensures
+    c.if-need-count.true in
     (answered a.span a.need a.marks.now a.values.now a.value s.known s.s c.starts-test.true
     s.invariant
     c.tries.ensures

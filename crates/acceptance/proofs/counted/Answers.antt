@@ -22,7 +22,7 @@ pub one_more-requires : goal.one_more-requires
 one_more-requires c =
     let a = c.args in
     let few =
-        counted-few a.span a.marks.now a.values.now a.start a.found a.t c.requires.counting.0 c.requires.counting.1 in
+    counted-few a.span a.marks.now a.values.now a.start a.found a.t c.requires.counting.0 c.requires.counting.1 in
     (c.requires.values_len.0, c.requires.counting.1, omega (arith, few, c.requires.values_len.1))
 
 pub returns-then-marks-ge-WIDE : goal.returns-then-marks-ge-WIDE

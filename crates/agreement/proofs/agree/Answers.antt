@@ -23,8 +23,8 @@ strike_others-requires-clause-marks_in_bounds c =
     let a = c.args in
     let n = c.accept-count in
     let few =
-        few-marks a.span a.need a.marks.now a.values.now (replicate 64 false) refl n.result n.ensures.value
-        c.if-count-eq0.false in
+    few-marks a.span a.need a.marks.now a.values.now (replicate 64 false) refl n.result n.ensures.value
+    c.if-count-eq0.false in
     omega (arith, n.auto.accepted)
 
 pub strike_others-requires-clause-all_kept : goal.strike_others-requires-clause-all_kept

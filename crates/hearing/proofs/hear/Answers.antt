@@ -19,50 +19,50 @@ pub hear_each-requires-clause-roles_len_bound : goal.hear_each-requires-clause-r
 hear_each-requires-clause-roles_len_bound c =
     let a = c.args in
     let f =
-        audible-fits (length a.roles.now) (length a.held.now) (length a.sent.now) (length a.readings.now) a.p
-        (length a.marks.now)
-        (length a.values.now)
-        (sym c.fits.ensures ∙ c.if-not-fits.false) in
+    audible-fits (length a.roles.now) (length a.held.now) (length a.sent.now) (length a.readings.now) a.p
+    (length a.marks.now)
+    (length a.values.now)
+    (sym c.fits.ensures ∙ c.if-not-fits.false) in
     (f.few, f.one)
 
 pub hear_each-requires-clause-held_len : goal.hear_each-requires-clause-held_len
 hear_each-requires-clause-held_len c =
     let a = c.args in
     let f =
-        audible-fits (length a.roles.now) (length a.held.now) (length a.sent.now) (length a.readings.now) a.p
-        (length a.marks.now)
-        (length a.values.now)
-        (sym c.fits.ensures ∙ c.if-not-fits.false) in
+    audible-fits (length a.roles.now) (length a.held.now) (length a.sent.now) (length a.readings.now) a.p
+    (length a.marks.now)
+    (length a.values.now)
+    (sym c.fits.ensures ∙ c.if-not-fits.false) in
     f.values-held
 
 pub hear_each-requires-clause-sent_len : goal.hear_each-requires-clause-sent_len
 hear_each-requires-clause-sent_len c =
     let a = c.args in
     let f =
-        audible-fits (length a.roles.now) (length a.held.now) (length a.sent.now) (length a.readings.now) a.p
-        (length a.marks.now)
-        (length a.values.now)
-        (sym c.fits.ensures ∙ c.if-not-fits.false) in
+    audible-fits (length a.roles.now) (length a.held.now) (length a.sent.now) (length a.readings.now) a.p
+    (length a.marks.now)
+    (length a.values.now)
+    (sym c.fits.ensures ∙ c.if-not-fits.false) in
     f.pairs
 
 pub hear_each-requires-clause-readings_len : goal.hear_each-requires-clause-readings_len
 hear_each-requires-clause-readings_len c =
     let a = c.args in
     let f =
-        audible-fits (length a.roles.now) (length a.held.now) (length a.sent.now) (length a.readings.now) a.p
-        (length a.marks.now)
-        (length a.values.now)
-        (sym c.fits.ensures ∙ c.if-not-fits.false) in
+    audible-fits (length a.roles.now) (length a.held.now) (length a.sent.now) (length a.readings.now) a.p
+    (length a.marks.now)
+    (length a.values.now)
+    (sym c.fits.ensures ∙ c.if-not-fits.false) in
     omega (arith, f.bytes, f.pairs)
 
 pub hear_each-requires-clause-roles_in_bounds : goal.hear_each-requires-clause-roles_in_bounds
 hear_each-requires-clause-roles_in_bounds c =
     let a = c.args in
     let f =
-        audible-fits (length a.roles.now) (length a.held.now) (length a.sent.now) (length a.readings.now) a.p
-        (length a.marks.now)
-        (length a.values.now)
-        (sym c.fits.ensures ∙ c.if-not-fits.false) in
+    audible-fits (length a.roles.now) (length a.held.now) (length a.sent.now) (length a.readings.now) a.p
+    (length a.marks.now)
+    (length a.values.now)
+    (sym c.fits.ensures ∙ c.if-not-fits.false) in
     (omega (arith, f.mark-room), omega (arith, f.value_room))
 
 pub returns-clause-marks_after : goal.returns-clause-marks_after

@@ -17,7 +17,7 @@ returns-clause-value c =
     let mark = byte a.sent.now a.e in
     let read = word-joined a.readings.now (4 * a.e) c.join-bits.result c.join-bits.ensures in
     let spoke =
-        faulty_speaks a.role a.value a.sent.now a.readings.now a.e (sym c.is_sound.ensures ∙ c.if-is_sound.false) in
+    faulty_speaks a.role a.value a.sent.now a.readings.now a.e (sym c.is_sound.ensures ∙ c.if-is_sound.false) in
     c.hear_entry.ensures.value
     ∙ ap (λ (bits : ℕ). held_value (entry_reading mark bits)) read
     ∙ ap held_value (sym spoke)

@@ -1,9 +1,7 @@
 -- The whole part, and 1 more by the remainder, is how far the nearest is above low, and fits.
-use Rattle.std.proofs.Common.{ℕ, ◌≡◌, ◌+◌, ◌*◌, ◌/◌, ◌%◌, ap, ◌∙◌, ltb}
-use mir.Val.{bool_byte}
+use Rattle.std.proofs.Common.{ℕ, ◌+◌, ◌*◌, ◌/◌, ◌%◌, ap, ◌∙◌, ltb}
 use Rattle.arithmetic.specs.Counting.{bit}
 use Rattle.loop_laws.proofs.Loops.{flag}
-use Rattle.value_laws.proofs.Means.{rounds-up}
 use Rattle.means.proofs.Means.{odd-sum, nearest_none, nearest_split}
 use Rattle.means.proofs.nearest_mean.Goals as goal
 

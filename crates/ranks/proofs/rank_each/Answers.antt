@@ -21,7 +21,7 @@ overflow_cast-ranks c =
     let a = c.args in
     let m = c.numbers in
     let h = found a.values.now a.ranks.now m.seen m.ranks m.r m.invariant c.numbers-test.true c.count_below-below.result
-        (c.count_below-below.ensures ∙ below_of_lem a.values.now _ m.invariant.few) in
+    (c.count_below-below.ensures ∙ below_of_lem a.values.now _ m.invariant.few) in
     omega (arith, h.1, h.2)
 
 pub overflow_add-ranks : goal.overflow_add-ranks
@@ -29,7 +29,7 @@ overflow_add-ranks c =
     let a = c.args in
     let m = c.numbers in
     let h = found a.values.now a.ranks.now m.seen m.ranks m.r m.invariant c.numbers-test.true c.count_below-below.result
-        (c.count_below-below.ensures ∙ below_of_lem a.values.now _ m.invariant.few) in
+    (c.count_below-below.ensures ∙ below_of_lem a.values.now _ m.invariant.few) in
     omega (arith, h.1, h.2)
 
 pub overflow_add-seen : goal.overflow_add-seen
@@ -37,7 +37,7 @@ overflow_add-seen c =
     let a = c.args in
     let m = c.numbers in
     let h = found a.values.now a.ranks.now m.seen m.ranks m.r m.invariant c.numbers-test.true c.count_below-below.result
-        (c.count_below-below.ensures ∙ below_of_lem a.values.now _ m.invariant.few) in
+    (c.count_below-below.ensures ∙ below_of_lem a.values.now _ m.invariant.few) in
     omega (arith, h.1, h.2)
 
 pub bounds-seen-below-in-numbers : goal.bounds-seen-below-in-numbers

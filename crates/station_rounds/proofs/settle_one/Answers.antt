@@ -1,5 +1,5 @@
 -- A faulty cabinet passes with 0, and what a sound one hears is agreed on as its round.
-use Rattle.std.proofs.Common.{ℕ, ◌-◌, sym, ap, ◌∙◌, eqb, get_or, eqb-true, rules, tests}
+use Rattle.std.proofs.Common.{ℕ, sym, ap, ◌∙◌, eqb, get_or, eqb-true, rules, tests}
 use Rattle.std.proofs.lemmas.Bool.{eqb-false}
 use borrow.Author.Tests.{not-true, not-false}
 use Rattle.agreement.specs.Values.{agreed_of}

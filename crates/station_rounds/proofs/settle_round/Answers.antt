@@ -23,40 +23,40 @@ pub slice_bounds-marks-end : goal.slice_bounds-marks-end
 slice_bounds-marks-end c =
     let a = c.args in
     let fit =
-        sym (tested-fits a.settings a.roles.now a.held.now a.sent.now a.readings.now a.next.now c.fits-sized.ensures)
-        ∙ c.if-not-cabinets-n.false in
+    sym (tested-fits a.settings a.roles.now a.held.now a.sent.now a.readings.now a.next.now c.fits-sized.ensures)
+    ∙ c.if-not-cabinets-n.false in
     few a.settings a.roles.now a.held.now a.sent.now a.readings.now a.next.now fit
 
 pub slice_bounds-settle_each-end : goal.slice_bounds-settle_each-end
 slice_bounds-settle_each-end c =
     let a = c.args in
     let fit =
-        sym (tested-fits a.settings a.roles.now a.held.now a.sent.now a.readings.now a.next.now c.fits-sized.ensures)
-        ∙ c.if-not-cabinets-n.false in
+    sym (tested-fits a.settings a.roles.now a.held.now a.sent.now a.readings.now a.next.now c.fits-sized.ensures)
+    ∙ c.if-not-cabinets-n.false in
     sym (first-places (length a.roles.now) (few a.settings a.roles.now a.held.now a.sent.now a.readings.now a.next.now fit))
 
 pub slice_bounds-values-end : goal.slice_bounds-values-end
 slice_bounds-values-end c =
     let a = c.args in
     let fit =
-        sym (tested-fits a.settings a.roles.now a.held.now a.sent.now a.readings.now a.next.now c.fits-sized.ensures)
-        ∙ c.if-not-cabinets-n.false in
+    sym (tested-fits a.settings a.roles.now a.held.now a.sent.now a.readings.now a.next.now c.fits-sized.ensures)
+    ∙ c.if-not-cabinets-n.false in
     few a.settings a.roles.now a.held.now a.sent.now a.readings.now a.next.now fit
 
 pub slice_bounds-settle_each-end-2 : goal.slice_bounds-settle_each-end-2
 slice_bounds-settle_each-end-2 c =
     let a = c.args in
     let fit =
-        sym (tested-fits a.settings a.roles.now a.held.now a.sent.now a.readings.now a.next.now c.fits-sized.ensures)
-        ∙ c.if-not-cabinets-n.false in
+    sym (tested-fits a.settings a.roles.now a.held.now a.sent.now a.readings.now a.next.now c.fits-sized.ensures)
+    ∙ c.if-not-cabinets-n.false in
     sym (first-places (length a.roles.now) (few a.settings a.roles.now a.held.now a.sent.now a.readings.now a.next.now fit))
 
 pub settle_each-requires-clause-fits : goal.settle_each-requires-clause-fits
 settle_each-requires-clause-fits c =
     let a = c.args in
     let fit =
-        sym (tested-fits a.settings a.roles.now a.held.now a.sent.now a.readings.now a.next.now c.fits-sized.ensures)
-        ∙ c.if-not-cabinets-n.false in
+    sym (tested-fits a.settings a.roles.now a.held.now a.sent.now a.readings.now a.next.now c.fits-sized.ensures)
+    ∙ c.if-not-cabinets-n.false in
     let long = first-places (length a.roles.now) (few a.settings a.roles.now a.held.now a.sent.now a.readings.now a.next.now fit) in
     fits-round a.settings a.roles.now a.held.now a.sent.now a.readings.now a.next.now fit _ _ long long
 
@@ -64,16 +64,16 @@ pub settle_each-requires-clause-next_len : goal.settle_each-requires-clause-next
 settle_each-requires-clause-next_len c =
     let a = c.args in
     let fit =
-        sym (tested-fits a.settings a.roles.now a.held.now a.sent.now a.readings.now a.next.now c.fits-sized.ensures)
-        ∙ c.if-not-cabinets-n.false in
+    sym (tested-fits a.settings a.roles.now a.held.now a.sent.now a.readings.now a.next.now c.fits-sized.ensures)
+    ∙ c.if-not-cabinets-n.false in
     next-room a.settings a.roles.now a.held.now a.sent.now a.readings.now a.next.now fit
 
 pub returns-clause-value : goal.returns-clause-value
 returns-clause-value c =
     let a = c.args in
     let fit =
-        sym (tested-fits a.settings a.roles.now a.held.now a.sent.now a.readings.now a.next.now c.fits-sized.ensures)
-        ∙ c.if-not-cabinets-n.false in
+    sym (tested-fits a.settings a.roles.now a.held.now a.sent.now a.readings.now a.next.now c.fits-sized.ensures)
+    ∙ c.if-not-cabinets-n.false in
     first-given a.settings a.roles.now a.held.now a.sent.now a.readings.now a.next.now fit c.settle_each.result c.settle_each.new.next
     c.settle_each.ensures
 
@@ -81,7 +81,7 @@ pub returns-clause-next_after : goal.returns-clause-next_after
 returns-clause-next_after c =
     let a = c.args in
     let fit =
-        sym (tested-fits a.settings a.roles.now a.held.now a.sent.now a.readings.now a.next.now c.fits-sized.ensures)
-        ∙ c.if-not-cabinets-n.false in
+    sym (tested-fits a.settings a.roles.now a.held.now a.sent.now a.readings.now a.next.now c.fits-sized.ensures)
+    ∙ c.if-not-cabinets-n.false in
     next-given a.settings a.roles.now a.held.now a.sent.now a.readings.now a.next.now fit c.settle_each.result c.settle_each.new.next
     c.settle_each.ensures

@@ -22,16 +22,16 @@ readings-preserved c =
     let room = c.readings-test.true in
     let mark = get_or marks r.t 0 in
     elim c.if-marks-t-eq-PRESENT.branch [
-    | then-marks-t-eq-PRESENT w ↦
-        rw (w.count-is, w.total-is, w.low-is, w.high-is)
-        (gather_present marks values r.count r.total r.low r.high r.t r.invariant room
-        (eq-eqb mark 1 w.if-marks-t-eq-PRESENT.true)
-        w.wrapping_add_u32-total.result w.lower-low.result w.higher-high.result
-        w.wrapping_add_u32-total.ensures.value w.lower-low.ensures w.higher-high.ensures)
-    | else-marks-t-eq-PRESENT w ↦
-        rw (w.count-is, w.total-is, w.low-is, w.high-is)
-        (gather_missing marks values r.count r.total r.low r.high r.t r.invariant room
-        (ne_eqb mark 1 w.if-marks-t-eq-PRESENT.false))
+      | then-marks-t-eq-PRESENT w ↦
+          rw (w.count-is, w.total-is, w.low-is, w.high-is)
+          (gather_present marks values r.count r.total r.low r.high r.t r.invariant room
+          (eq-eqb mark 1 w.if-marks-t-eq-PRESENT.true)
+          w.wrapping_add_u32-total.result w.lower-low.result w.higher-high.result
+          w.wrapping_add_u32-total.ensures.value w.lower-low.ensures w.higher-high.ensures)
+      | else-marks-t-eq-PRESENT w ↦
+          rw (w.count-is, w.total-is, w.low-is, w.high-is)
+          (gather_missing marks values r.count r.total r.low r.high r.t r.invariant room
+          (ne_eqb mark 1 w.if-marks-t-eq-PRESENT.false))
     ]
 
 pub returns : goal.returns

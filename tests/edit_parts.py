@@ -4,7 +4,8 @@ import collections
 import hashlib
 import re
 
-HEAD = re.compile(r'(?m)^ *(?:#\[\w+\]\n *)?(?P<public>pub )?(?:extern "C" )?(?P<kind>fn|const) (?P<name>\w+)')
+# its attributes stand before it, as `#[unsafe(no_mangle)]` and `#[tactic(auto, using(..))]`
+HEAD = re.compile(r'(?m)^ *(?:#\[[^\[\]]*\]\n *)*(?P<public>pub )?(?:extern "C" )?(?P<kind>fn|const) (?P<name>\w+)')
 
 # a function or a constant of a file, from its head to the next one's
 Item = collections.namedtuple("Item", "name kind is_public promises start end text")
@@ -103,34 +104,60 @@ def changes_below(edit):
     return found
 
 
-def errors(log):
-    """Each error and each fact that is not proved, in the order in which the prover says them: the file, from the crate's folder on, the line, what."""
-    # the edited crate's folder, wherever the log was written
-    folder = rf"\S*/must-fail/{log.parent.parent.name}/{log.parent.name}/"
-    for line in log.read_text(encoding="utf-8", errors="replace").split("\n"):
-        match = re.match(rf"(?:note: )?(?:{folder})?(\S+?):(\d+):\d+: (error.*|it is not proved that.*)", line)
-        if match:
-            yield match[1], int(match[2]), match[3]
-        elif line.startswith("error"):
-            yield "", 0, line
+# what rt ci and rt must-fail print of an edit; `test` puts the seconds before it
+TRIED = re.compile(r"^(?:\d+ )?rt: must-fail (\S+)/(\S+)\.edit: (.*)$", re.M)
+# the word that is said first of an edit that is refused because of a fact, and where and what that fact is
+REASON = re.compile(r"refused, as it must be: (?:note: )?(?:\./)?(\S+?):(\d+):\d+: (.*)")
+OUT_OF_DATE = re.compile(
+    r"is not in scope|that can be named from here|has no field|does not parse|error\[|no `mod` line names this file|is not a constructor of|"
+    r"is not a function or extension|too many arguments|has no definition|is already declared|was not admitted"
+)
 
 
-def reasons(log):
-    """The errors but for those that only say that an earlier one stands in their way, which are no reason."""
-    return [(place, line, what) for place, line, what in errors(log) if not re.search(r"was not admitted \(", what)]
+def said(log):
+    """What rt says of each edit, by crate/label."""
+    return {f"{crate}/{label}": what for crate, label, what in TRIED.findall(log)}
 
 
-def facts(log, crate):
-    """Where the proofs of a crate are refused: each place as its file, the declaration and how many lines below its head."""
+def functions_at(place, line, code):
+    """The functions that a proof file, or a line of code, is of; none for a lemma's file."""
+    if place in code:
+        starts = [(code[place].count("\n", 0, item.start) + 1, item.name) for item in items(code[place])]
+        return {max(one for one in starts if one[0] <= line)[1]} if any(at <= line for at, _ in starts) else set()
+    return {part.removeprefix("+") for part in place.split("/")[1:-1]}
+
+
+def touched(changes, code):
+    """The functions that may be refused where these changes are made: those that are changed; of a constant, those that name it; of a promise, those
+    that call the function too. None where a definition is changed: then it may be any."""
+    every = {item.name: item for text in code.values() for item in items(text)}
     found = set()
-    for place, line, what in reasons(log):
-        name = re.match(r"error: `(\S+?)`:", what)
-        if name and place.startswith("proofs/"):
-            text = (crate / place).read_text(encoding="utf-8").split("\n")
-            head = re.compile(rf" *(?:(?:pub|abbrev|unfoldable) )*{re.escape(name[1])} ")
-            start = max((at for at in range(line) if head.match(text[at])), default=0)
-            found.add(f"{place}:{name[1]}+{line - 1 - start}")
+    for change in changes:
+        item = item_at(change, code)
+        if item is None:
+            if not change.old.lstrip().startswith(("ghost use ", "use ")):
+                return None
+            continue
+        found.add(item.name)
+        if item.kind == "const" or not changes_code(change, code):
+            found |= {other.name for other in every.values() if re.search(rf"\b{item.name}\b", other.text)}
     return found
+
+
+def fault(what, changes, code):
+    """What is wrong with that rt says this of some changes, if anything is: they must be refused because a fact is not proved that is one of theirs."""
+    told = REASON.match(what)
+    if told is None:
+        return what[:300] if what != "refused, as it must be" else "no fact is named"
+    place, line, why = told[1], int(told[2]), told[3]
+    if not re.match(r"it is not proved that |error: `[^`]+`: " if place.startswith("proofs/") else "it is not proved that ", why):
+        return f"what is edited is not well-formed: {place}: {why}"
+    if OUT_OF_DATE.search(why):
+        return f"{place}: {why}"
+    own, refused = touched(changes, code), functions_at(place, line, code)
+    if own is not None and refused and not own & refused:
+        return f"it changes {', '.join(sorted(own))}, and {', '.join(sorted(refused))} is refused: {why}"
+    return None
 
 
 def remarks(edit):

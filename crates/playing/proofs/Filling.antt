@@ -1,9 +1,11 @@
 -- A list filled from its start: the first p places hold f, and the others what they held.
 -- Assumes nothing.
+use mathlib.Core.Bool.{cond}
 use mathlib.Core.List.{List, ◌++◌}
-use mathlib.Core.Path.{◌≡◌, refl, sym, ap, ◌∙◌}
+use mathlib.Core.Path.{◌≡◌, refl, ap, ◌∙◌}
 use Prim.Native.Nat.{ℕ, ◌+◌, ◌≤◌, ◌<◌, zero-le}
 use native.Mathlib.Omega.{arith}
+use lib.Dec.{eqb}
 use lib.ListN.{length, get_or, set, drop, length-set}
 use lib.Seq.{get_or-append-add, get_or-drop}
 use Rattle.arithmetic.specs.Writing.{table, overwrite}
@@ -43,3 +45,7 @@ module _ (f : ℕ → ℕ) (old : List ℕ) where
         ∙ get_or-append-add (table f p) (drop (length (table f p)) old) 0 0
         ∙ get_or-drop (length (table f p)) old 0 0
         ∙ ap (λ (i : ℕ). get_or old i 0) (let t = length-table f p in omega arith)
+
+-- what a cabinet holds after the sound ones have taken their next values over
+abbrev pub taking : List ℕ → List ℕ → List ℕ → ℕ → ℕ
+taking roles next held q = cond (eqb (get_or roles q 0) 1) (get_or next q 0) (get_or held q 0)

@@ -1,13 +1,12 @@
 -- What playing a trace gives, by what its checks say, on plain values.
 -- Assumes nothing.
-use mathlib.Core.Bool.{true}
 use mathlib.Core.List.{List, ◌++◌}
 use mathlib.Core.Option.{none, some}
 use mathlib.Core.Path.{◌≡◌, refl, sym, ap, ◌∙◌}
 use Prim.Native.Nat.{ℕ, zero, suc, ◌≤◌, ◌<◌, min}
 use native.Mathlib.Omega.{arith}
 use borrow.Author.Tests.{lt-ltb, le-ltb, ne_eqb}
-use lib.ListN.{length, get_or, get_or-append}
+use lib.ListN.{length, get_or-append}
 use Rattle.arithmetic.specs.Naturals.{down}
 use Rattle.arithmetic.specs.Words.{two_to31}
 use Rattle.model.specs.declared.Settings.{Settings}
@@ -18,7 +17,7 @@ use Rattle.model.specs.Refusals.{Check, refusal, or_next, first_of, no_room_numb
 use Rattle.model.specs.Calls.{Verdict, granted, refused, verdict}
 use Rattle.refusal_laws.proofs.Checks.{first_snoc}
 use Rattle.refusal_laws.proofs.Limits.{limits, limits-pass}
-use Rattle.sheet_laws.proofs.Outcomes.{granted-none, refused-some}
+use Rattle.sheet_laws.proofs.Outcomes.{refused-some}
 use Rattle.trace.specs.Trace.{rounds_at}
 use Rattle.trace.specs.Replay.{run_stopped, trace_checks, replay_checks}
 use Rattle.trace_heads.proofs.Heads.{Headed}

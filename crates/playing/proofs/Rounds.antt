@@ -1,17 +1,15 @@
 -- Rounds played one after the other: what is passed did not stop, a round that stops stands for all later ones, and the
 -- plan is the run's. What sound cabinets hold before the first round.
 -- Assumes nothing.
-use mathlib.Core.Bool.{true}
 use mathlib.Core.List.{List}
 use mathlib.Core.Logic.{⊎_elim}
-use mathlib.Core.Option.{Option, none, some}
+use mathlib.Core.Option.{none, some}
 use mathlib.Core.Path.{◌≡◌, refl, sym, ap, ap₂, ◌∙◌}
 use Prim.Native.Nat.{ℕ, zero, suc, ◌+◌, ◌*◌, ◌≤◌, ◌<◌, zero-le}
 use native.Mathlib.Numerals.{add-one}
 use native.Mathlib.Omega.{arith}
 use borrow.Author.Tests.{lt-ltb, le-ltb, ne_eqb}
 use lib.ListN.{length, get_or}
-use Rattle.arithmetic.specs.Counting.{lowest}
 use Rattle.arithmetic.specs.Naturals.{down, up}
 use Rattle.arithmetic.specs.Words.{two_to31}
 use Rattle.arithmetic.specs.Writing.{table}
@@ -26,8 +24,8 @@ use Rattle.model.specs.Planner.{Plan, plan_from}
 use Rattle.model.specs.Refusals.{Check, refusal, or_next, run_stopped_number}
 use Rattle.model.specs.Calls.{step}
 use Rattle.run.specs.Run.{stepped, next, state_after}
-use Rattle.trace.specs.Trace.{rounds_at, first_at, sound_at}
-use Rattle.trace.specs.Replay.{state_to, refused_in, at_round, in_round, run_stopped}
+use Rattle.trace.specs.Trace.{first_at}
+use Rattle.trace.specs.Replay.{state_to, at_round, in_round, run_stopped}
 use Rattle.trace.proofs.Traced.{bits_fit}
 use Rattle.playing.specs.Playing.{HeldTo, below, RoundPlayed, stopped_at, RoundsPlayed}
 

@@ -1,0 +1,91 @@
+-- What settling a round leaves on the trace's parts is the run's round.
+use Rattle.std.proofs.Common.{◌≡◌, sym, ap, ◌∙◌, ℕ, List, ◌+◌, ◌*◌, arith}
+use Rattle.trace.specs.Trace.{trace_header_size, rounds_at, trace_entries}
+use Rattle.trace_parts.specs.Parts.{part_from}
+use Rattle.playing.proofs.Turn.{roles-room, next-long, round-stops, round-passes}
+use Rattle.playing.proofs.play_in.Goals as goal
+
+-- the readings, of as many rounds as the trace has
+readings-are :
+    (trace : List ℕ) (n rounds k : ℕ) (readings : List ℕ) → rounds ≡ rounds_at trace
+    → readings
+    ≡ part_from trace (trace_header_size + 5 * n + trace_entries n rounds + 4 * trace_entries n k)
+    (4 * trace_entries n 1)
+    → readings
+    ≡ part_from trace (trace_header_size + 5 * n + trace_entries n (rounds_at trace) + 4 * trace_entries n k)
+    (4 * trace_entries n 1)
+readings-are trace n rounds k readings all e =
+    e
+    ∙ ap
+    (λ (r : ℕ).
+    part_from trace (trace_header_size + 5 * n + trace_entries n r + 4 * trace_entries n k) (4 * trace_entries n 1))
+    all
+
+pub returns-then-refused-settings : goal.returns-then-refused-settings
+returns-then-refused-settings c =
+    let a = c.args in
+    let r = c.settle_round-refused in
+    round-stops a.trace.now (λ j. (c.type_inv.trace j).fits) c.requires.playable.0 a.k
+    (omega (arith, c.requires.rounds_value.0, c.requires.rounds_value.1)) a.settings c.requires.playable.1
+    c.roles-roles.result.now c.marks-sent.result.now c.readings-readings.result.now
+    c.roles-roles.ensures c.marks-sent.ensures
+    (readings-are a.trace.now a.settings.n a.rounds a.k _ c.requires.rounds_value.0 c.readings-readings.ensures)
+    a.held.now
+    a.next.now
+    c.requires.next_len.1
+    c.requires.next_len.0
+    c.requires.held_to
+    r.result
+    r.new.next
+    r.ensures.value
+    r.ensures.next_after
+    c.if-refused-settings.true
+
+pub take_over-requires : goal.take_over-requires
+take_over-requires c =
+    let a = c.args in
+    let r = c.settle_round-refused in
+    let room =
+    roles-room a.trace.now (λ j. (c.type_inv.trace j).fits) c.requires.playable.0 a.k
+    (omega (arith, c.requires.rounds_value.0, c.requires.rounds_value.1)) a.settings c.requires.playable.1
+    c.roles-roles.result.now c.marks-sent.result.now c.readings-readings.result.now
+    c.roles-roles.ensures c.marks-sent.ensures
+    (readings-are a.trace.now a.settings.n a.rounds a.k _ c.requires.rounds_value.0 c.readings-readings.ensures) in
+    let long =
+    next-long a.trace.now (λ j. (c.type_inv.trace j).fits) c.requires.playable.0 a.k
+    (omega (arith, c.requires.rounds_value.0, c.requires.rounds_value.1)) a.settings c.requires.playable.1
+    c.roles-roles.result.now c.marks-sent.result.now c.readings-readings.result.now
+    c.roles-roles.ensures c.marks-sent.ensures
+    (readings-are a.trace.now a.settings.n a.rounds a.k _ c.requires.rounds_value.0 c.readings-readings.ensures)
+    a.held.now
+    a.next.now
+    c.requires.next_len.1
+    c.requires.next_len.0
+    c.requires.held_to
+    r.result
+    r.new.next
+    r.ensures.value
+    r.ensures.next_after in
+    (long ∙ sym room, c.requires.next_len.1 ∙ sym room)
+
+pub returns : goal.returns
+returns c =
+    let a = c.args in
+    let r = c.settle_round-refused in
+    round-passes a.trace.now (λ j. (c.type_inv.trace j).fits) c.requires.playable.0 a.k
+    (omega (arith, c.requires.rounds_value.0, c.requires.rounds_value.1)) a.settings c.requires.playable.1
+    c.roles-roles.result.now c.marks-sent.result.now c.readings-readings.result.now
+    c.roles-roles.ensures c.marks-sent.ensures
+    (readings-are a.trace.now a.settings.n a.rounds a.k _ c.requires.rounds_value.0 c.readings-readings.ensures)
+    a.held.now
+    a.next.now
+    c.requires.next_len.1
+    c.requires.next_len.0
+    c.requires.held_to
+    r.result
+    r.new.next
+    r.ensures.value
+    r.ensures.next_after
+    c.if-refused-settings.false
+    c.take_over.new.held
+    c.take_over.ensures

@@ -1,0 +1,75 @@
+-- A round that is played is the run's next one, at the plan's window.
+use Rattle.std.proofs.Common.{sym, ap, ◌∙◌, ◌<◌, length, arith}
+use Rattle.model.specs.declared.Settings.{Settings}
+use Rattle.model.specs.Planner.{Plan}
+use Rattle.planner.specs.Answers.{plan_of}
+use Rattle.trace.specs.Trace.{rounds_at}
+use Rattle.playing.proofs.Parting.{cabinets, few}
+use Rattle.playing.proofs.Rounds.{going_first, going_next, stops-here, played-all}
+use Rattle.playing.proofs.play_rounds.Goals as goal
+
+pub rounds-init : goal.rounds-init
+rounds-init c =
+    let a = c.args in
+    going_first a.trace.now a.most a.settings a.held.now c.requires.playable.1 c.requires.held_to
+
+pub play_round-refused-requires-clause-rounds_value : goal.play_round-refused-requires-clause-rounds_value
+play_round-refused-requires-clause-rounds_value c =
+    let a = c.args in
+    let asked = c.requires.rounds_value in
+    let early = c.rounds-test.true in
+    let soon : c.rounds.k < rounds_at a.trace.now = omega (arith, early, asked.0, asked.1) in
+    let own = ap (λ (p : Plan). p.settings) c.rounds.invariant.planned in
+    let same =
+    cabinets a.trace.now (λ j. (c.type_inv.trace j).fits) c.requires.playable.0 c.rounds.k soon
+    c.rounds.plan.settings own in
+    let long =
+    c.rounds.invariant.long ∙ asked.2 ∙ ap (λ (d : Settings). d.n) c.requires.playable.1 ∙ sym same in
+    (asked.0, omega (arith, early, asked.1), long)
+
+pub play_round-refused-requires-clause-n_le_max_cabinets : goal.play_round-refused-requires-clause-n_le_max_cabinets
+play_round-refused-requires-clause-n_le_max_cabinets c =
+    let a = c.args in
+    let asked = c.requires.rounds_value in
+    let early = c.rounds-test.true in
+    let soon : c.rounds.k < rounds_at a.trace.now = omega (arith, early, asked.0, asked.1) in
+    let own = ap (λ (p : Plan). p.settings) c.rounds.invariant.planned in
+    let small =
+    few a.trace.now (λ j. (c.type_inv.trace j).fits) c.requires.playable.0 c.rounds.k soon
+    c.rounds.plan.settings own in
+    (small, c.rounds.invariant.holds)
+
+pub returns-then-refused-settings : goal.returns-then-refused-settings
+returns-then-refused-settings c =
+    let a = c.args in
+    rw c.stop_place.ensures
+    (stops-here a.trace.now c.rounds.k c.play_round-refused.result a.most
+    c.play_round-refused.new.held
+    c.play_round-refused.ensures
+    (omega (arith, c.if-refused-settings.true, ap (λ (d : Settings). d.n) c.requires.playable.1))
+    c.rounds.invariant.before
+    c.rounds-test.true)
+
+pub rounds-preserved : goal.rounds-preserved
+rounds-preserved c =
+    let a = c.args in
+    going_next a.trace.now a.most (length a.held.now) (plan_of c.rounds.plan) (plan_of c.stepped-plan.result)
+    c.rounds.k
+    c.play_round-refused.result
+    c.rounds.held
+    c.play_round-refused.new.held
+    c.rounds.invariant
+    c.rounds-test.true
+    c.play_round-refused.ensures
+    (omega (arith, c.if-refused-settings.false, ap (λ (d : Settings). d.n) c.requires.playable.1))
+    c.stepped-plan.ensures
+    c.play_round-refused.auto.held
+
+pub returns : goal.returns
+returns c =
+    let a = c.args in
+    played-all a.trace.now c.rounds.k a.most c.rounds.held
+    c.rounds.invariant.before
+    c.rounds.invariant.holds
+    c.rounds.invariant.up_to
+    c.rounds-test.false

@@ -73,7 +73,7 @@ def main():
                 if changes is None or edit_parts.total(changes) != total:
                     sys.exit(f"{commit}: the row {edit} {name} is not of the edit that stands there")
                 # the unfinished work had the row too, or the change in another edit or function
-                if (edit, name) in seen or total in seen.values():
+                if commit != BEFORE[0] and ((edit, name) in seen or total in seen.values() and name not in today.get(edit, ())):
                     continue
                 seen[edit, name] = total
                 if edit not in today:

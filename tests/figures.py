@@ -51,45 +51,45 @@ LAST = 19
 
 
 def entries(n, rule):
-    defined(MODEL / "RoundSheet.antt", "entryCount c = cond (eqb (c .rule) cca) (c .n * c .n) (c .n)")
+    defined(MODEL / "RoundSheet.antt", "entry_count c = cond (eqb c.rule cca) (c.n * c.n) c.n")
     return n * n if rule == FIGURES["cca"] else n
 
 
 def sheet_size(n, rule):
-    defined(MODEL / "RoundSheet.antt", "sheetLength c = headerSize + 5 * entryCount c")
-    return FIGURES["headerSize"] + 5 * entries(n, rule)
+    defined(MODEL / "RoundSheet.antt", "sheet_length c = header_size + 5 * entry_count c")
+    return FIGURES["header_size"] + 5 * entries(n, rule)
 
 
 def answer_size(n):
-    defined(MODEL / "AnswerSheet.antt", "answerLength n = answerHeaderSize + 5 * n")
-    return FIGURES["answerHeaderSize"] + 5 * n
+    defined(MODEL / "AnswerSheet.antt", "answer_length n = answer_header_size + 5 * n")
+    return FIGURES["answer_header_size"] + 5 * n
 
 
 def trace_size(n, rounds):
-    defined(TRACE / "Trace.antt", "traceEntries n rounds = rounds * (n * n)")
-    defined(TRACE / "Trace.antt", "traceLength n rounds = traceHeaderSize + 5 * n + 5 * traceEntries n rounds")
-    return FIGURES["traceHeaderSize"] + 5 * n + 5 * rounds * n * n
+    defined(TRACE / "Trace.antt", "trace_entries n rounds = rounds * (n * n)")
+    defined(TRACE / "Trace.antt", "trace_length n rounds = trace_header_size + 5 * n + 5 * trace_entries n rounds")
+    return FIGURES["trace_header_size"] + 5 * n + 5 * rounds * n * n
 
 
 def values_size(n):
-    defined(TRACE / "Replay.antt", "    ∷ noRoom buffer (4 * settingsAt s .n)")
+    defined(TRACE / "Replay.antt", "    ∷ no_room buffer (4 * (settings_at s).n)")
     return 4 * n
 
 
 def constant(name):
-    """tooShort as TOO_SHORT"""
-    return re.sub(r"([A-Z])", r"_\1", name).upper()
+    """too_short as TOO_SHORT"""
+    return name.upper()
 
 
 def refusals():
     """The checks of the table: number and name."""
     page = text(MODEL / "Refusals.antt")
-    checks = re.findall(r"^(\w+)Number = (\d+)$", page, flags=re.M)
+    checks = re.findall(r"^(\w+)_number = (\d+)$", page, flags=re.M)
     if [int(number) for _, number in checks] != list(range(1, LAST + 1)):
         sys.exit(f"figures: crates/model/specs/Refusals.antt does not have the numbers 1 to {LAST}")
     pages = page + text(TRACE / "Replay.antt") + text(INTERVAL / "Interval.antt") + text(PAIRS / "Fallback.antt")
     for name, _ in checks:
-        if not re.search(rf"^unfoldable pub {name} :", pages, flags=re.M) or not re.search(rf"(?<!= )\b{name}Number\b(?! [:=])", pages):
+        if not re.search(rf"^unfoldable pub {name} :", pages, flags=re.M) or not re.search(rf"(?<!= )\b{name}_number\b(?! [:=])", pages):
             sys.exit(f"figures: no page defines the check {name} with its number")
     return [(int(number), constant(name)) for name, number in checks]
 
@@ -114,9 +114,9 @@ def sources():
 
 def shown_part(n, rule):
     """Where the readings of a sheet start, and how many bytes they are."""
-    defined(PAIRS / "Fallback.antt", "readingsStart c = headerSize + entryCount c")
-    defined(PAIRS / "Fallback.antt", "readingsLength c = 4 * entryCount c")
-    return FIGURES["headerSize"] + entries(n, rule), 4 * entries(n, rule)
+    defined(PAIRS / "Fallback.antt", "readings_start c = header_size + entry_count c")
+    defined(PAIRS / "Fallback.antt", "readings_length c = 4 * entry_count c")
+    return FIGURES["header_size"] + entries(n, rule), 4 * entries(n, rule)
 
 
 def version():
@@ -129,19 +129,19 @@ def version_number():
 
 def shared():
     """What C and Rust both have."""
-    yield f"MAX_CABINETS {FIGURES['maxCabinets']}"
-    yield f"MAX_WINDOW {FIGURES['maxWindow']}"
-    yield f"MAX_SPREAD {FIGURES['maxSpread']}"
-    yield f"MAX_PRECISION {FIGURES['maxPrecision']}"
-    yield f"MAX_DRIFT {FIGURES['maxDrift']}"
-    yield f"MAX_ACCURACY {FIGURES['maxAccuracy']}"
-    yield f"MAX_ROUNDS {FIGURES['maxRounds']}"
-    yield f"TICKS_PER_SECOND {FIGURES['ticksPerSecond']}"
-    yield f"MAX_SHEET {sheet_size(FIGURES['maxCabinets'], FIGURES['cca'])}"
-    yield f"MAX_ANSWER {answer_size(FIGURES['maxCabinets'])}"
-    yield f"MAX_TRACE {trace_size(FIGURES['maxCabinets'], FIGURES['maxRounds'])}"
-    yield f"MAX_VALUES {values_size(FIGURES['maxCabinets'])}"
-    for name in ("fca", "cca", "trimmedMidpoint", "trimmedMean", "average", "median", "midpoint"):
+    yield f"MAX_CABINETS {FIGURES['max_cabinets']}"
+    yield f"MAX_WINDOW {FIGURES['max_window']}"
+    yield f"MAX_SPREAD {FIGURES['max_spread']}"
+    yield f"MAX_PRECISION {FIGURES['max_precision']}"
+    yield f"MAX_DRIFT {FIGURES['max_drift']}"
+    yield f"MAX_ACCURACY {FIGURES['max_accuracy']}"
+    yield f"MAX_ROUNDS {FIGURES['max_rounds']}"
+    yield f"TICKS_PER_SECOND {FIGURES['ticks_per_second']}"
+    yield f"MAX_SHEET {sheet_size(FIGURES['max_cabinets'], FIGURES['cca'])}"
+    yield f"MAX_ANSWER {answer_size(FIGURES['max_cabinets'])}"
+    yield f"MAX_TRACE {trace_size(FIGURES['max_cabinets'], FIGURES['max_rounds'])}"
+    yield f"MAX_VALUES {values_size(FIGURES['max_cabinets'])}"
+    for name in ("fca", "cca", "trimmed_midpoint", "trimmed_mean", "average", "median", "midpoint"):
         yield f"{constant(name)} {FIGURES[name]}"
     for number, name in sources():
         yield f"{name} {number}"
@@ -157,7 +157,7 @@ def shared():
         for estimator, wanted in (("AVERAGE", 3), ("MEDIAN", 1), ("MIDPOINT", 5)):
             yield f"estimate of {rule} {estimator} {sheet_size(4, FIGURES[rule.lower()])} {wanted}"
     # 1, 2 and 10 are left: 11/2 to the even neighbour, 13/3 to the nearest
-    for rule, wanted in (("trimmedMidpoint", 6), ("trimmedMean", 4)):
+    for rule, wanted in (("trimmed_midpoint", 6), ("trimmed_mean", 4)):
         yield f"new value of {constant(rule)} {sheet_size(5, FIGURES[rule])} {wanted}"
     # every copy of the CCA sheet is 0 and every reading of the FCA sheet 100; then no copy is there
     (by_crusaders, _), (by_direct, _) = sources()
@@ -176,7 +176,7 @@ def in_c():
     for n in range(0, 256, 7):
         yield f"bytes of {n} {sheet_size(n, FIGURES['fca'])} {sheet_size(n, FIGURES['cca'])} {answer_size(n)}"
     for n in range(0, 256, 7):
-        yield f"bytes of a replay of {n} {trace_size(n, 0)} {trace_size(n, FIGURES['maxRounds'])} {values_size(n)}"
+        yield f"bytes of a replay of {n} {trace_size(n, 0)} {trace_size(n, FIGURES['max_rounds'])} {values_size(n)}"
 
     def ticks(bits):
         return bits - 2**32 if bits >= 2**31 else bits

@@ -1,9 +1,9 @@
 -- By rules 2 and 3: what is kept of a sheet's readings, and the new value, are those of the sheet's round.
 -- Assumes nothing.
-use mathlib.Core.Bool.{Bool, true, false, cond, ◌&&◌, ◌||◌}
+use mathlib.Core.Bool.{Bool, true, false, cond, ◌&&◌}
 use mathlib.Core.List.{List}
 use mathlib.Core.Option.{none}
-use mathlib.Core.Path.{◌≡◌, refl, sym, ap, ap₂, ◌∙◌, subst}
+use mathlib.Core.Path.{◌≡◌, refl, sym, ap, ◌∙◌, subst}
 use Prim.Native.Nat.{ℕ, ◌*◌, ◌-◌, ◌<◌}
 use native.Mathlib.Omega.{arith}
 use borrow.Author.Tests.{lt-leb}
@@ -16,18 +16,18 @@ use Rattle.arithmetic.specs.Words.{two_to31}
 use Rattle.arithmetic.proofs.Bools.{or_false}
 use Rattle.arithmetic.proofs.Writing.{length-table, get_d_table}
 use Rattle.model.specs.declared.Settings.{Settings}
-use Rattle.model.specs.Ensemble.{Readings, is_present, ticks}
+use Rattle.model.specs.Ensemble.{is_present, ticks}
 use Rattle.model.specs.RoundSheet.{trims, settings_at}
-use Rattle.model.specs.Steps.{Round, mark_of, is_kept, kept_count, trimmed_value, trimmed_used, trimmed_with, trimmed_round, round_at}
+use Rattle.model.specs.Steps.{Round, mark_of, is_kept, trimmed_value, trimmed_with, trimmed_round, round_at}
 use Rattle.model.specs.Refusals.{first_of, row_checks}
 use Rattle.refusal_laws.proofs.Limits.{Limits}
 use Rattle.round_laws.specs.Naturals.{shift}
-use Rattle.round_laws.proofs.Local.{EqualBelow, EqualRounds, rounds_trans, round-by_trimming}
+use Rattle.round_laws.proofs.Local.{EqualRounds, rounds_trans, round-by_trimming}
 use Rattle.value_laws.proofs.Trimmed.{trimmed_local}
-use Rattle.held.specs.Held.{value_at, present_in, readings_in, unfit}
+use Rattle.held.specs.Held.{value_at, present_in, readings_in}
 use Rattle.estimates.specs.declared.Estimated.{Estimated}
 use Rattle.reception.specs.Receiving.{reading_at}
-use Rattle.answer_writer.specs.Answers.{used_in, round_held}
+use Rattle.answer_writer.specs.Answers.{round_held}
 use Rattle.dropping.specs.Dropping.{unfit_for}
 use Rattle.trimming.specs.Values.{trimmed_in, trimmed_of, mark_at, trimmed_marks}
 use Rattle.trimming.proofs.Values.{value-back}

@@ -41,8 +41,8 @@ fn settle_trimmed(
     values: &mut [u32],
 ) -> Estimated
     requires { cca < settings.rule }
-    ensures by_index { (w : ℕ) → result ≡ numbers_of sheet.now settings w marks.old values.old }
-    ensures by_index_2 { (w : ℕ)
+    ensures value { (w : ℕ) → result ≡ numbers_of sheet.now settings w marks.old values.old }
+    ensures marks_after { (w : ℕ)
         → marks.new ≡ marks_of sheet.now settings w marks.old values.old }
     ensures values_after { values.new
         ≡ values_received sheet.now settings marks.old values.old }

@@ -19,8 +19,9 @@ cd "$room/repo" || exit 2
 git add -A && git -c user.name=sabotage -c user.email=none commit -q --allow-empty -m "as it is"
 cp -R "$top/target" target || exit 2
 mkdir -p outside/target
-# the library stays as it is: no sabotage here is of what it does
-keep_library() { [ ! -f target/staticlib/libtohiranga.a ] || touch target/staticlib/libtohiranga.a; }
+[ ! -f target/ci.log ] || cp target/ci.log "$room/ci.log"
+# the library and the programs stay as they are: no sabotage here is of what they do
+keep_built() { find target/staticlib target/bin -type f -exec touch {} + 2>/dev/null; }
 
 asked() { # NAME
     local word
@@ -32,6 +33,7 @@ asked() { # NAME
 again() {
     git reset -q --hard
     git clean -q -fd -e target -e outside/target
+    [ ! -f "$room/ci.log" ] || cp "$room/ci.log" target/ci.log
 }
 
 # sabotage NAME CHANGE TEST [TEXT]: after the change the test must fail, and say the text
@@ -41,7 +43,7 @@ sabotage() {
     if ! eval "$2" || git diff --quiet && [ -z "$(git status --porcelain)" ]; then
         echo "$1: NOTHING WAS CHANGED"
         missed+=("$1")
-    elif keep_library && eval "$3" >"$room/said" 2>&1; then
+    elif keep_built; eval "$3" >"$room/said" 2>&1; then
         echo "$1: NOT FOUND by $3"
         missed+=("$1")
     elif [ -n "${4:-}" ] && ! grep -q -- "$4" "$room/said"; then
@@ -122,7 +124,7 @@ sabotage "numbers: the kit" "sed -i 's/rattle-kit-5b-plain/rattle-kit-5c-plain/'
 sabotage "numbers: a half of docs/FORMAT.md" "sed -i 's|3/2 becomes 2,|3/2 becomes 1,|' docs/FORMAT.md" tests/check_answer "3/2 becomes 2"
 sabotage "numbers: the next window of docs/FORMAT.md" "sed -i 's|⌊2mδ/N⌋ + 1, or|⌈2mδ/N⌉, or|' docs/FORMAT.md" tests/check_answer "the window becomes"
 sabotage "numbers: a run that does not need the tick more" "sed -i 's/window 2$/window 3/' examples/halves.run && python3 examples/trace.py examples/halves.run examples/halves.trace" tests/check_answer "halves.trace"
-sabotage "numbers: a definition" "sed -i 's/^maxRounds = 32/maxRounds = 31/' crates/model/specs/Planner.antt" tests/check_answer "31"
+sabotage "numbers: a definition" "sed -i 's/^max_rounds = 32/max_rounds = 31/' crates/model/specs/Planner.antt" tests/check_answer "31"
 if asked "numbers: each in turn"; then
     tried=$((tried + 1))
     tests/sabotage_numbers.py 2>/dev/null || missed+=("numbers: each in turn")
@@ -170,28 +172,27 @@ old: if i < s.len() { s[i] } else { 0 }
 new: if i >= s.len() { 0 } else { s[i] }'
 ill_typed='# an ill-typed contract
 file: src/lib.rt
-old: r ≡ byte (now (s .entry)) i
-new: r ≡ byte (now (s .entry)) byte'
-# the prover is asked of this edit alone; the logs of the others are those of the last gate
+old: result ≡ byte s.now i
+new: result ≡ byte s.now byte'
+# the prover is asked of this edit alone; of the others it said what the last gate has
 edited() { # TEXT
-    mkdir -p crates/words/must-fail "$room/edits"
+    mkdir -p "$room/edits"
+    mv crates/words/must-fail/*.edit "$room/edits"
     echo "$1" >crates/words/must-fail/sabotage.edit
-    cp -R target/must-fail "$room/logs" 2>/dev/null
-    find crates -name '*.edit' ! -name sabotage.edit -print0 | xargs -0 cp --parents -t "$room/edits"
-    find crates -name '*.edit' ! -name sabotage.edit -delete
-    rt must-fail words >"$room/rt" 2>&1
-    cp -R "$room/edits/." .
-    [ ! -d "$room/logs" ] || cp -R "$room/logs/." target/must-fail/
+    rt must-fail words >>target/ci.log 2>&1
+    mv "$room"/edits/*.edit crates/words/must-fail
     tests/edits_differ words/sabotage >/dev/null 2>&1
     return 0
 }
 sabotage "edits: a correct rewrite" 'edited "$rewrite"' tests/check_must_fail_reasons "words/sabotage, byte_at: no program tells it from the engine"
-sabotage "edits: an ill-typed contract" 'edited "$ill_typed"' tests/check_must_fail_reasons "words/sabotage: what is edited is not well-formed"
+sabotage "edits: an ill-typed contract" 'edited "$ill_typed"' tests/check_must_fail_reasons "words/sabotage: BAD EDIT"
 sabotage "edits: one not tried" "sed -i 's/^new: /new: 0 + /' crates/words/must-fail/base_255.edit" tests/check_must_fail_reasons "words/base_255, word_at: not tried as it is"
-sabotage "edits: a wrong definition that is refused elsewhere" "sed -i 's/^\(demand_1_2.last_refusal_that_applies -2 .*+\)9$/\10/' tests/edits.txt" \
-    tests/check_must_fail_reasons "last_refusal_that_applies: its wrong definition 2 is not refused for itself"
-sabotage "edits: a definition that nothing refuses" "printf '# nothing\nfile: specs/Demand2.antt\nold: {length, getD, take}\nnew: {length, take, getD}\n' >>crates/demand_1_2/must-fail/midpoint_rounded_up.edit
-    tests/edits_differ demand_1_2/midpoint_rounded_up || true" tests/check_must_fail_reasons "midpoint_rounded_up, -3: alone it is not refused"
+sabotage "edits: a wrong definition that is not refused alone" "sed -i 's/^\(demand_1_2.last_refusal_that_applies -2 [0-9a-f]*\) .*/\1 NOT REFUSED: it is proved/' tests/alone.txt" \
+    tests/check_must_fail_reasons "last_refusal_that_applies, -2: alone: NOT REFUSED"
+sabotage "edits: one that a limit of the prover refuses" "sed -i 's/\(must-fail words.base_255.edit: refused, as it must be\): .*/\1 (only by a limit of the prover): x/' target/ci.log; echo >>README.md" \
+    tests/check_must_fail_reasons "words/base_255: refused, as it must be (only by a limit"
+sabotage "edits: a definition that nothing refuses" "printf '# nothing\nfile: specs/Demand2.antt\nold: {le_z, lt_z}\nnew: {lt_z, le_z}\n' >>crates/demand_1_2/must-fail/midpoint_rounded_up.edit
+    tests/edits_alone || true" tests/check_must_fail_reasons "midpoint_rounded_up, -3: alone: NOT REFUSED"
 sabotage "edits: one not in the table" "sed -i '/words.base_255/d' docs/MUST-FAIL.md" tests/check_must_fail_table "words/base_255"
 
 # ---- sheets and plans
@@ -224,8 +225,8 @@ sabotage "pairs: another pair" \
 sabotage "pairs: 7 before 19" "sed -i '/^| 19 | both /{h;d};/^| 7 | neither /{G}' docs/FORMAT.md" \
     tests/check_answer "Of which sheet"
 sabotage "pairs: the direct sheet is always looked at" \
-    "sed -i 's/^ownChecks crusaders b = \[\]/ownChecks crusaders b = entryChecks b/' crates/sheet_pairs/specs/*.antt" \
-    tests/check_answer "the definitions no longer say: ownChecks crusaders"
+    "sed -i 's/^own_checks crusaders b = \[\]/own_checks crusaders b = entry_checks b/' crates/sheet_pairs/specs/*.antt" \
+    tests/check_answer "the definitions no longer say: own_checks crusaders"
 sabotage "pairs: another example" "sed -i 's/^6 apart/5 apart/' examples/fallback.stdout" \
     tests/check_answer "examples/fallback.c"
 sabotage "pairs: planned limits where nobody is told" \

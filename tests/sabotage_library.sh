@@ -168,14 +168,14 @@ sabotage "wrapper: estimate and new value swapped" $wrapper "self.field(tohirang
 sabotage "wrapper: mark and used value swapped" $wrapper "self.field_of(tohiranga_answer_mark, cabinet)" "self.field_of(tohiranga_answer_used, cabinet)"
 sabotage "wrapper: another version" bindings/rust/Cargo.toml 'version = "0.7.0"' 'version = "0.7.1"'
 sabotage "README: the text of refusal 8" README.md "| 8 | a mark is not 0 or 1;" "| 8 | a mark is not 1 or 2;"
-sabotage "definitions: a spread of 100001" crates/model/specs/Ensemble.antt "maxSpread = 100_000" "maxSpread = 100_001"
-sabotage "definitions: a drift of 1001" crates/interval/specs/Interval.antt "maxDrift = 1_000" "maxDrift = 1_001"
+sabotage "definitions: a spread of 100001" crates/model/specs/Ensemble.antt "max_spread = 100_000" "max_spread = 100_001"
+sabotage "definitions: a drift of 1001" crates/interval/specs/Interval.antt "max_drift = 1_000" "max_drift = 1_001"
 sabotage "definitions: direct before crusaders" crates/sheet_pairs/specs/Fallback.antt "  crusaders : Source
   direct : Source" "  direct : Source
   crusaders : Source"
 sabotage "definitions: readings with the marks" crates/sheet_pairs/specs/Fallback.antt \
-    "readingsLength c = 4 * entryCount c" "readingsLength c = 5 * entryCount c"
-sabotage "definitions: 63 cabinets" crates/model/specs/Ensemble.antt "maxCabinets = 64" "maxCabinets = 63"
+    "readings_length c = 4 * entry_count c" "readings_length c = 5 * entry_count c"
+sabotage "definitions: 63 cabinets" crates/model/specs/Ensemble.antt "max_cabinets = 64" "max_cabinets = 63"
 
 echo "$tried sabotages tried"
 exit $bad

@@ -5,7 +5,7 @@
 #![tactic(auto)]
 
 use falling_back::PairSettled;
-use model::ANSWER_HEADER_SIZE;
+use model::{ANSWER_HEADER_SIZE, Refusal};
 use std::io::Write;
 
 // Whether the bytes of a sheet from a place on, so many of them, are these.
@@ -25,16 +25,28 @@ fn say_unless(out: &mut impl Write, is_so: bool, what: &[u8]) {
     console::write_all(out, what);
 }
 
+// The same answer again, which each call is handed for good.
+fn same_again(settled: &PairSettled) -> PairSettled {
+    match settled {
+        PairSettled::Crusaders(size) => PairSettled::Crusaders(*size),
+        PairSettled::Direct(size) => PairSettled::Direct(*size),
+        PairSettled::Refused(refusal) => PairSettled::Refused(Refusal {
+            number: refusal.number,
+            place: refusal.place,
+        }),
+    }
+}
+
 // The sheet and the readings that the C call names; and where the part that is shown has other bytes, or is another by
 // `settle_shown`, that it does.
 fn show_part<'a>(
     out: &mut impl Write,
     crusaders: &'a [u8],
     direct: &'a [u8],
-    settled: PairSettled,
+    settled: &PairSettled,
 ) {
-    let named = fallback_packing::pack_fallen(crusaders, direct, settled);
-    let part = shown_readings::shown(crusaders, direct, settled);
+    let named = fallback_packing::pack_fallen(crusaders, direct, same_again(settled));
+    let part = shown_readings::shown(crusaders, direct, same_again(settled));
     let mut again = [0u8; 330];
     let once_more = shown_readings::settle_shown(crusaders, direct, &mut again);
     vectors::number(out, named.source as u64);
@@ -80,11 +92,11 @@ fn show<'a>(
     settled: PairSettled,
     buffer: &[u8],
 ) {
-    match settled {
+    match same_again(&settled) {
         PairSettled::Crusaders(size) | PairSettled::Direct(size) => {
             vectors::granted(out);
             vectors::number(out, size as u64);
-            show_part(out, crusaders, direct, settled);
+            show_part(out, crusaders, direct, &settled);
             show_answer(out, buffer, size);
         }
         PairSettled::Refused(refusal) => {

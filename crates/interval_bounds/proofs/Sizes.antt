@@ -1,11 +1,10 @@
 -- How large the products of the code are, and the answers of its functions on plain numbers.
 -- Assumes nothing.
 use mathlib.Core.Path.{◌≡◌, refl}
-use Prim.Native.Nat.{ℕ, ◌+◌, ◌*◌, ◌-◌, ◌/◌, ◌≤◌, ◌<◌}
+use Prim.Native.Nat.{ℕ, ◌+◌, ◌*◌, ◌-◌, ◌/◌, ◌≤◌}
 use native.Mathlib.Nat.{mul-le-mul}
 use native.Mathlib.Omega.{arith}
 use borrow.Author.Tests.{ne_eqb}
-use lib.Dec.{eqb}
 use Rattle.model.specs.Ensemble.{max_window}
 use Rattle.model.specs.Planner.{ceil_div}
 use Rattle.interval.specs.Interval.{max_precision, max_drift}

@@ -5,7 +5,7 @@
 --   stated       what is stated of any
 --   wider_at      the wider limits
 --   stated_of     what this crate's enum says in these terms
-use Rattle.std.specs.Prelude.{Bool, true, cond, ℕ, ◌+◌, ◌*◌, ◌-◌, leb}
+use Rattle.std.specs.Prelude.{Bool, true, cond, ℕ, ◌-◌, leb}
 use Rattle.std.proofs.Math.Option.{none, some}
 use Rattle.model.specs.declared.Settings.{Settings}
 use Rattle.model.specs.declared.Refusal.{Refusal}

@@ -10,7 +10,7 @@ overflow_cast-gap c =
     let a = c.args in
     let k = granted-sizes a.settings a.accuracy a.t c.requires.0 c.requires.1 in
     let same = c.past_share-gap.ensures
-        ∙ ap (λ (parts : ℕ). past_div (parts * a.settings.window) a.settings.n) c.gap_parts.ensures in
+    ∙ ap (λ (parts : ℕ). past_div (parts * a.settings.window) a.settings.n) c.gap_parts.ensures in
     omega (arith, k.gap, same)
 
 pub overflow_cast-growth : goal.overflow_cast-growth
@@ -18,7 +18,7 @@ overflow_cast-growth c =
     let a = c.args in
     let k = granted-sizes a.settings a.accuracy a.t c.requires.0 c.requires.1 in
     let same = c.share-growth.ensures
-        ∙ ap (λ (parts : ℕ). ceil_div (parts * a.settings.window) a.settings.n) c.error_parts.ensures in
+    ∙ ap (λ (parts : ℕ). ceil_div (parts * a.settings.window) a.settings.n) c.error_parts.ensures in
     omega (arith, k.growth, same)
 
 pub overflow_cast-excess : goal.overflow_cast-excess
@@ -46,7 +46,7 @@ overflow_add-result c =
     let a = c.args in
     let k = granted-sizes a.settings a.accuracy a.t c.requires.0 c.requires.1 in
     let same = c.share-growth.ensures
-        ∙ ap (λ (parts : ℕ). ceil_div (parts * a.settings.window) a.settings.n) c.error_parts.ensures in
+    ∙ ap (λ (parts : ℕ). ceil_div (parts * a.settings.window) a.settings.n) c.error_parts.ensures in
     omega (arith, k.accurate, k.growth, same)
 
 pub overflow_add-result-3 : goal.overflow_add-result-3

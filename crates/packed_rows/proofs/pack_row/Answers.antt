@@ -34,7 +34,7 @@ overflow_mul-result c =
     let settings = c.in-Granted.settings in
     let seen = validated sheet settings (sym c.in-Granted.ensures) in
     let few : c.row_start-start.result ≤ header_size + 20480
-        = rw c.row_start-start.ensures (row-starts sheet settings seen c.args.cabinet c.if-settings-cabinet.false) in
+    = rw c.row_start-start.ensures (row-starts sheet settings seen c.args.cabinet c.if-settings-cabinet.false) in
     omega arith
 
 pub overflow_mul-result-2 : goal.overflow_mul-result-2
@@ -43,7 +43,7 @@ overflow_mul-result-2 c =
     let settings = c.in-Granted.settings in
     let seen = validated sheet settings (sym c.in-Granted.ensures) in
     let few : c.row_entries-width.result ≤ 4096
-        = rw c.row_entries-width.ensures (row-narrow sheet settings seen c.args.cabinet c.if-settings-cabinet.false) in
+    = rw c.row_entries-width.ensures (row-narrow sheet settings seen c.args.cabinet c.if-settings-cabinet.false) in
     omega arith
 
 pub overflow_add-result : goal.overflow_add-result
@@ -52,9 +52,9 @@ overflow_add-result c =
     let settings = c.in-Granted.settings in
     let seen = validated sheet settings (sym c.in-Granted.ensures) in
     let few : c.row_start-start.result ≤ header_size + 20480
-        = rw c.row_start-start.ensures (row-starts sheet settings seen c.args.cabinet c.if-settings-cabinet.false) in
+    = rw c.row_start-start.ensures (row-starts sheet settings seen c.args.cabinet c.if-settings-cabinet.false) in
     let narrow : c.row_entries-width.result ≤ 4096
-        = rw c.row_entries-width.ensures (row-narrow sheet settings seen c.args.cabinet c.if-settings-cabinet.false) in
+    = rw c.row_entries-width.ensures (row-narrow sheet settings seen c.args.cabinet c.if-settings-cabinet.false) in
     omega arith
 
 pub returns : goal.returns

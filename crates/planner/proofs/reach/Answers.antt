@@ -46,8 +46,7 @@ advance-reached-requires-clause-may_step c =
 pub rounds-preserved : goal.rounds-preserved
 rounds-preserved c =
     let start = c.args.start in
-    let at = c.rounds in
-    (
+    let at = c.rounds in (
       omega (arith, leb-false max_rounds at.k (sym c.is_last.ensures ∙ c.if-is_last.false)),
       turn start.settings start.accuracy at.k at.invariant.1 c.advance-reached.ensures (omega arith),
     )

@@ -59,6 +59,7 @@ fn bound(values: &[u32]) -> Range
 // Where to look next in a range, of whose numbers `left` are to be below and `right` are not. Numbers that lie evenly
 // are `unit` apart, so it looks as far from the nearer end; but no farther than the middle, so that a range of any
 // numbers is soon narrowed.
+#[tactic(auto, unfolding(crate::specs::Thresholds::guessed))]
 fn guess(low: u32, high: u32, unit: u32, left: u32, right: u32) -> u32
     requires { (low < high) × (unit ≤ max_unit) × (left + right ≤ max_cabinets) }
     ensures { result ≡ guessed low high unit left right }

@@ -18,7 +18,8 @@ returns-then-not-fits-clause-values_after c =
 pub overflow_sub-need : goal.overflow_sub-need
 overflow_sub-need c =
     let a = c.args in
-    fit-few a.sheet.now a.settings a.marks.now a.values.now (sym c.if-not-fits.ensures)
+    let few = fit-few a.sheet.now a.settings a.marks.now a.values.now (sym c.if-not-fits.ensures) in
+    omega arith
 
 pub slice_bounds-receive_decided-end : goal.slice_bounds-receive_decided-end
 slice_bounds-receive_decided-end c =
@@ -30,7 +31,7 @@ slice_bounds-receive_decided-end c =
     a.marks.now
     a.values.now
     (sym c.if-not-fits.ensures)
-    (eq-eqb a.settings.rule cca c.if-settings-ne-CCA.false)
+    (eq-eqb a.settings.rule cca (omega arith))
     in
     omega arith
 
@@ -44,7 +45,7 @@ slice_bounds-receive_decided-count-2 c =
     a.marks.now
     a.values.now
     (sym c.if-not-fits.ensures)
-    (eq-eqb a.settings.rule cca c.if-settings-ne-CCA.false)
+    (eq-eqb a.settings.rule cca (omega arith))
     in
     omega arith
 
@@ -58,7 +59,7 @@ slice_bounds-receive_decided-start-2 c =
     a.marks.now
     a.values.now
     (sym c.if-not-fits.ensures)
-    (eq-eqb a.settings.rule cca c.if-settings-ne-CCA.false)
+    (eq-eqb a.settings.rule cca (omega arith))
     in
     omega arith
 
@@ -83,7 +84,7 @@ returns-clause-marks_after c =
     fits
     r.marks
     r.values
-    (eq-eqb a.settings.rule cca c.if-settings-ne-CCA.false)
+    (eq-eqb a.settings.rule cca (omega arith))
     c.receive_decided.ensures)
 
 pub returns-clause-values_after : goal.returns-clause-values_after
@@ -107,5 +108,5 @@ returns-clause-values_after c =
     fits
     r.marks
     r.values
-    (eq-eqb a.settings.rule cca c.if-settings-ne-CCA.false)
+    (eq-eqb a.settings.rule cca (omega arith))
     c.receive_decided.ensures)

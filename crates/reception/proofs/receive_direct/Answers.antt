@@ -19,7 +19,7 @@ returns-then-not-fits-clause-marks_after c =
     _
     _
     _
-    c.if-settings-eq-CCA.false
+    (omega arith)
     (marks-not a.sheet.now a.settings a.marks.now a.values.now (sym c.if-not-fits.ensures))
 
 pub returns-then-not-fits-clause-values_after : goal.returns-then-not-fits-clause-values_after
@@ -30,7 +30,7 @@ returns-then-not-fits-clause-values_after c =
     _
     _
     _
-    c.if-settings-eq-CCA.false
+    (omega arith)
     (values-not a.sheet.now a.settings a.marks.now a.values.now (sym c.if-not-fits.ensures))
 
 pub slice_bounds-receive_sent-end : goal.slice_bounds-receive_sent-end
@@ -43,7 +43,7 @@ slice_bounds-receive_sent-end c =
     a.marks.now
     a.values.now
     (sym c.if-not-fits.ensures)
-    (ne_eqb a.settings.rule cca c.if-settings-eq-CCA.false)
+    (ne_eqb a.settings.rule cca (omega arith))
     in
     omega arith
 
@@ -57,7 +57,7 @@ slice_bounds-receive_sent-end-2 c =
     a.marks.now
     a.values.now
     (sym c.if-not-fits.ensures)
-    (ne_eqb a.settings.rule cca c.if-settings-eq-CCA.false)
+    (ne_eqb a.settings.rule cca (omega arith))
     in
     omega arith
 
@@ -71,7 +71,7 @@ returns-clause-marks_after c =
     _
     _
     _
-    c.if-settings-eq-CCA.false
+    (omega arith)
     (marks-fit
     a.sheet.now
     a.settings
@@ -88,7 +88,7 @@ returns-clause-marks_after c =
     fits
     r.marks
     r.values
-    (ne_eqb a.settings.rule cca c.if-settings-eq-CCA.false)
+    (ne_eqb a.settings.rule cca (omega arith))
     c.receive_sent.ensures))
 
 pub returns-clause-values_after : goal.returns-clause-values_after
@@ -101,7 +101,7 @@ returns-clause-values_after c =
     _
     _
     _
-    c.if-settings-eq-CCA.false
+    (omega arith)
     (values-fit
     a.sheet.now
     a.settings
@@ -118,5 +118,5 @@ returns-clause-values_after c =
     fits
     r.marks
     r.values
-    (ne_eqb a.settings.rule cca c.if-settings-eq-CCA.false)
+    (ne_eqb a.settings.rule cca (omega arith))
     c.receive_sent.ensures))

@@ -16,11 +16,11 @@ split n s h =
     let e = rw (whole, all) at (mean-split n h s 0) in
     omega arith
 
+pub returns : goal.returns
+returns c = split c.args.n c.args.sum c.requires.0
+
 pub overflow_cast-result-2 : goal.overflow_cast-result-2
 overflow_cast-result-2 c =
     let n = c.args.n in
     let s = c.args.sum in
     omega (arith, split n s c.requires.0, mean_upper n c.requires.0 s (two_to32 - 1) c.requires.2)
-
-pub returns : goal.returns
-returns c = split c.args.n c.args.sum c.requires.0

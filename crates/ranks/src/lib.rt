@@ -14,6 +14,7 @@ use model::MAX_CABINETS;
 const MOST: usize = MAX_CABINETS as usize;
 
 // How many of at most 64 numbers are below a number; 0 where there are more.
+#[tactic(auto, unfolding(crate::specs::Ranks::below_of))]
 pub fn count_below(values: &[u32], value: u32) -> u32
     ensures { result ≡ below_of values.now value }
 {

@@ -1,15 +1,9 @@
 -- Each number is below or not, so the count is at most the numbers passed.
-use Rattle.std.proofs.Common.{lt-ltb, sym, ◌∙◌, arith, ltb, length}
-use Rattle.model.specs.Ensemble.{max_cabinets}
+use Rattle.std.proofs.Common.{sym, ◌∙◌, arith, ltb, length}
 use Rattle.loop_laws.proofs.Loops.{count_none, count-one, count_small, count-all, flag_small}
 use Rattle.held.specs.Held.{value_at}
-use Rattle.ranks.specs.Ranks.{below_of}
 use Rattle.ranks.proofs.Seeing.{below_of_lem}
 use Rattle.ranks.proofs.count_below.Goals as goal
-
-pub returns-then-values-gt-MOST : goal.returns-then-values-gt-MOST
-unfolding below_of
-returns-then-values-gt-MOST c = rw (lt-ltb max_cabinets (length c.args.values.now) c.if-values-gt-MOST.true)
 
 pub values-init : goal.values-init
 values-init c =
@@ -24,7 +18,6 @@ overflow_add-below c =
       arith,
       count_small (λ i. ltb (value_at a.values.now i) a.value) (length a.values.now) m.invariant,
       m.invariant.up_to,
-      c.if-values-gt-MOST.false,
       flag_small (ltb (value_at a.values.now m.t) a.value),
     )
 
@@ -37,4 +30,4 @@ pub returns : goal.returns
 returns c =
     let a = c.args in
     count-all (λ i. ltb (value_at a.values.now i) a.value) (length a.values.now) c.values.invariant c.values-test.false
-    ∙ sym (below_of_lem a.values.now a.value (omega (arith, c.if-values-gt-MOST.false)))
+    ∙ sym (below_of_lem a.values.now a.value (omega arith))

@@ -10,8 +10,8 @@ pub returns-then-text-lt-AFTER_CAPACITY : goal.returns-then-text-lt-AFTER_CAPACI
 unfolding after_written
 returns-then-text-lt-AFTER_CAPACITY c =
     let left =
-        text_refused after_capacity (after_text c.args.n c.args.k (value_at c.args.values.now)) c.args.text.now
-        c.if-text-lt-AFTER_CAPACITY.true in
+    text_refused after_capacity (after_text c.args.n c.args.k (value_at c.args.values.now)) c.args.text.now
+    c.if-text-lt-AFTER_CAPACITY.true in
     record { value = left.0; text_after = left.1 }
 
 pub returns : goal.returns
@@ -20,6 +20,6 @@ returns c =
     let a = c.args in
     let values = value_at a.values.now in
     let written =
-        text_written after_capacity (after_text a.n a.k values) a.text.now c.if-text-lt-AFTER_CAPACITY.false
-        (length-after a.n a.k values c.ranges.n.fits c.ranges.k.fits) c.put_after.ensures in
+    text_written after_capacity (after_text a.n a.k values) a.text.now c.if-text-lt-AFTER_CAPACITY.false
+    (length-after a.n a.k values c.ranges.n.fits c.ranges.k.fits) c.put_after.ensures in
     record { value = written.0; text_after = written.1 }

@@ -8,4 +8,6 @@ pub returns-then-x-lt10 : goal.returns-then-x-lt10
 returns-then-x-lt10 _ c = rw (decimal-small c.args.x (omega arith)) c.put_byte.ensures
 
 pub returns : goal.returns
-returns _ c = rw (decimal_large c.args.x (omega arith) (omega arith)) (puts_then c.put_decimal-last.ensures c.put_byte-2.ensures)
+returns _ c =
+    rw (decimal_large c.args.x (omega arith) (omega arith))
+    (puts_then c.put_decimal-last.ensures c.put_byte-2.ensures)

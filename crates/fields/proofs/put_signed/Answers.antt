@@ -8,4 +8,6 @@ pub returns-then-bits-lt2147483648 : goal.returns-then-bits-lt2147483648
 returns-then-bits-lt2147483648 c = rw (signed_low c.args.bits (omega arith)) c.put_decimal.ensures
 
 pub returns : goal.returns
-returns c = rw (signed_high c.args.bits (omega arith) (omega arith)) (puts_then c.put_byte-magnitude.ensures c.put_decimal-2.ensures)
+returns c =
+    rw (signed_high c.args.bits (omega arith) (omega arith))
+    (puts_then c.put_byte-magnitude.ensures c.put_decimal-2.ensures)

@@ -18,8 +18,8 @@ pub returns-then-text-lt-FINAL_CAPACITY : goal.returns-then-text-lt-FINAL_CAPACI
 unfolding final_written
 returns-then-text-lt-FINAL_CAPACITY c =
     let left =
-        text_refused final_capacity (text_of c.args.trace.now c.args.values.now) c.args.text.now
-        c.if-text-lt-FINAL_CAPACITY.true in
+    text_refused final_capacity (text_of c.args.trace.now c.args.values.now) c.args.text.now
+    c.if-text-lt-FINAL_CAPACITY.true in
     record { value = left.0; text_after = left.1 }
 
 pub returns : goal.returns
@@ -28,10 +28,10 @@ returns c =
     let trace = c.args.trace.now in
     let values = c.args.values.now in
     let written =
-        text_written final_capacity (text_of trace values) c.args.text.now c.if-text-lt-FINAL_CAPACITY.false
-        (length_final trace (value_at values) (λ j. (c.type_inv.trace j).fits))
-        (rw
-        (final_lines trace (value_at values) c.byte_at-n.result c.byte_at-rounds.result c.byte_at-n.ensures
-        c.byte_at-rounds.ensures)
-        (puts_then c.put_first-cabinets.ensures c.put_lines.ensures)) in
+    text_written final_capacity (text_of trace values) c.args.text.now c.if-text-lt-FINAL_CAPACITY.false
+    (length_final trace (value_at values) (λ j. (c.type_inv.trace j).fits))
+    (rw
+    (final_lines trace (value_at values) c.byte_at-n.result c.byte_at-rounds.result c.byte_at-n.ensures
+    c.byte_at-rounds.ensures)
+    (puts_then c.put_first-cabinets.ensures c.put_lines.ensures)) in
     record { value = written.0; text_after = written.1 }

@@ -12,10 +12,10 @@ cabinets-init c =
 
 pub cabinets-preserved : goal.cabinets-preserved
 cabinets-preserved c = (
-      omega arith,
-      cabinet-put c.args.answer.now c.args.n c.cabinets.passed c.byte_at-mark.result c.word_at-used.result c.requires
-          c.byte_at-mark.ensures c.word_at-used.ensures c.cabinets.invariant.1 c.put_cabinet-next.ensures,
-    )
+  omega arith,
+  cabinet-put c.args.answer.now c.args.n c.cabinets.passed c.byte_at-mark.result c.word_at-used.result c.requires
+      c.byte_at-mark.ensures c.word_at-used.ensures c.cabinets.invariant.1 c.put_cabinet-next.ensures,
+)
 
 pub returns : goal.returns
 returns c = rw whole at c.cabinets.invariant.1

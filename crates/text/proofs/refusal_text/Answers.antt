@@ -18,7 +18,7 @@ unfolding refusal_written refusal_text
 returns c =
     let a = c.args in
     let written =
-        text_written refusal_capacity (refusal_text (refusal a.number a.place)) a.text.now
-        c.if-text-lt-REFUSAL_CAPACITY.false (length-refusal a.number a.place c.ranges.number.fits)
-        c.put_refusal.ensures in
+    text_written refusal_capacity (refusal_text (refusal a.number a.place)) a.text.now
+    c.if-text-lt-REFUSAL_CAPACITY.false (length-refusal a.number a.place c.ranges.number.fits)
+    c.put_refusal.ensures in
     record { value = written.0; text_after = written.1 }

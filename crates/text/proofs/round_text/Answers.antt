@@ -13,8 +13,8 @@ unfolding round_written
 returns-then-text-lt-ROUND_CAPACITY c =
     let answer = c.args.answer.now in
     let left =
-        text_refused round_capacity (round_text (byte answer 0) (answer_round answer)) c.args.text.now
-        c.if-text-lt-ROUND_CAPACITY.true in
+    text_refused round_capacity (round_text (byte answer 0) (answer_round answer)) c.args.text.now
+    c.if-text-lt-ROUND_CAPACITY.true in
     record { value = left.0; text_after = left.1 }
 
 pub returns : goal.returns
@@ -22,10 +22,10 @@ unfolding round_written
 returns c =
     let answer = c.args.answer.now in
     let written =
-        text_written round_capacity (round_text (byte answer 0) (answer_round answer)) c.args.text.now
-        c.if-text-lt-ROUND_CAPACITY.false (length-round answer (λ j. (c.type_inv.answer j).fits))
-        (rw
-        (round_lines answer c.byte_at-n.result c.byte_at-count.result c.word_at-estimate.result c.word_at-value.result
-        c.byte_at-n.ensures c.byte_at-count.ensures c.word_at-estimate.ensures c.word_at-value.ensures)
-        (puts_then c.put_round-cabinets.ensures c.put_cabinets.ensures)) in
+    text_written round_capacity (round_text (byte answer 0) (answer_round answer)) c.args.text.now
+    c.if-text-lt-ROUND_CAPACITY.false (length-round answer (λ j. (c.type_inv.answer j).fits))
+    (rw
+    (round_lines answer c.byte_at-n.result c.byte_at-count.result c.word_at-estimate.result c.word_at-value.result
+    c.byte_at-n.ensures c.byte_at-count.ensures c.word_at-estimate.ensures c.word_at-value.ensures)
+    (puts_then c.put_round-cabinets.ensures c.put_cabinets.ensures)) in
     record { value = written.0; text_after = written.1 }

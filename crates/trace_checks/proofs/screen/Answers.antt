@@ -11,7 +11,9 @@ use Rattle.trace_checks.proofs.Traced.{head-refused, shaped, body_decides}
 use Rattle.trace_checks.proofs.screen.Goals as goal
 
 -- what the granted settings say
-module _ (trace : List ℕ) (room : ℕ) (s : Settings) (opened : verdict (first_of (head_checks trace room)) (settings_at trace) ≡ granted s) where
+module _
+    (trace : List ℕ) (room : ℕ) (s : Settings)
+    (opened : verdict (first_of (head_checks trace room)) (settings_at trace) ≡ granted s) where
   passes : first_of (head_checks trace room) ≡ none
   passes = granted-none (first_of (head_checks trace room)) (settings_at trace) s opened
 

@@ -11,10 +11,10 @@ cabinets-init c =
 
 pub cabinets-preserved : goal.cabinets-preserved
 cabinets-preserved c = (
-      omega arith,
-      value-put c.args.values.now c.cabinets.passed c.word_at-value.result c.word_at-value.ensures
-          c.cabinets.invariant.1 c.put_signed_field-next.ensures,
-    )
+  omega arith,
+  value-put c.args.values.now c.cabinets.passed c.word_at-value.result c.word_at-value.ensures
+      c.cabinets.invariant.1 c.put_signed_field-next.ensures,
+)
 
 pub returns : goal.returns
 returns c = rw whole at c.cabinets.invariant.1

@@ -1,0 +1,39 @@
+-- A buffer below the capacity is left as it was, a trace of fewer rounds has no line, and any other is handed on with a
+-- buffer for the values.
+use Rattle.std.proofs.Common.{◌≡◌, sym, ap, ◌∙◌, ℕ, Bool, ltb-false}
+use lib.Dec.{ltb}
+use Rattle.trace.specs.Trace.{rounds_at}
+use Rattle.trace.specs.ReplayText.{after_listing}
+use Rattle.text.proofs.Texts.{text_refused}
+use Rattle.after_text.specs.After.{after_capacity}
+use Rattle.after_listing.specs.Listed.{after_listed}
+use Rattle.after_listing.proofs.Outcomes.{too_few}
+use Rattle.after_listing.proofs.line.Goals as goal
+
+-- whether the trace has fewer rounds
+fewer : {b : Bool} {rounds x k : ℕ} → x ≡ rounds → b ≡ ltb x k → ltb rounds k ≡ b
+fewer {k = k} read test = sym (test ∙ ap (λ (y : ℕ). ltb y k) read)
+
+pub returns-then-text-lt-AFTER_CAPACITY-clause-value : goal.returns-then-text-lt-AFTER_CAPACITY-clause-value
+unfolding after_listed
+returns-then-text-lt-AFTER_CAPACITY-clause-value c =
+    let a = c.args in
+    (text_refused after_capacity (after_listing a.trace.now a.k) a.text.now c.if-text-lt-AFTER_CAPACITY.true).0
+
+pub returns-then-text-lt-AFTER_CAPACITY-clause-text_after : goal.returns-then-text-lt-AFTER_CAPACITY-clause-text_after
+unfolding after_listed
+returns-then-text-lt-AFTER_CAPACITY-clause-text_after c =
+    let a = c.args in
+    (text_refused after_capacity (after_listing a.trace.now a.k) a.text.now c.if-text-lt-AFTER_CAPACITY.true).1
+
+pub returns-then-is_past-clause-value : goal.returns-then-is_past-clause-value
+returns-then-is_past-clause-value c =
+    let a = c.args in
+    (too_few a.trace.now a.k a.text.now (fewer c.byte_at.ensures c.is_past.ensures ∙ c.if-is_past.true)
+    c.if-text-lt-AFTER_CAPACITY.false).0
+
+pub returns-then-is_past-clause-text_after : goal.returns-then-is_past-clause-text_after
+returns-then-is_past-clause-text_after c =
+    let a = c.args in
+    (too_few a.trace.now a.k a.text.now (fewer c.byte_at.ensures c.is_past.ensures ∙ c.if-is_past.true)
+    c.if-text-lt-AFTER_CAPACITY.false).1

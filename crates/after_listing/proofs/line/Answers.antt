@@ -11,8 +11,8 @@ use Rattle.after_listing.proofs.Outcomes.{too_few}
 use Rattle.after_listing.proofs.line.Goals as goal
 
 -- whether the trace has fewer rounds
-fewer : {b : Bool} {rounds x k : ℕ} → x ≡ rounds → b ≡ ltb x k → ltb rounds k ≡ b
-fewer {k = k} read test = sym (test ∙ ap (λ (y : ℕ). ltb y k) read)
+fewer : {b : Bool} {rounds x : ℕ} (k : ℕ) → x ≡ rounds → b ≡ ltb x k → ltb rounds k ≡ b
+fewer k read test = sym (test ∙ ap (λ (y : ℕ). ltb y k) read)
 
 pub returns-then-text-lt-AFTER_CAPACITY-clause-value : goal.returns-then-text-lt-AFTER_CAPACITY-clause-value
 unfolding after_listed
@@ -29,11 +29,11 @@ returns-then-text-lt-AFTER_CAPACITY-clause-text_after c =
 pub returns-then-is_past-clause-value : goal.returns-then-is_past-clause-value
 returns-then-is_past-clause-value c =
     let a = c.args in
-    (too_few a.trace.now a.k a.text.now (fewer c.byte_at.ensures c.is_past.ensures ∙ c.if-is_past.true)
+    (too_few a.trace.now a.k a.text.now (fewer a.k c.byte_at.ensures c.is_past.ensures ∙ c.if-is_past.true)
     c.if-text-lt-AFTER_CAPACITY.false).0
 
 pub returns-then-is_past-clause-text_after : goal.returns-then-is_past-clause-text_after
 returns-then-is_past-clause-text_after c =
     let a = c.args in
-    (too_few a.trace.now a.k a.text.now (fewer c.byte_at.ensures c.is_past.ensures ∙ c.if-is_past.true)
+    (too_few a.trace.now a.k a.text.now (fewer a.k c.byte_at.ensures c.is_past.ensures ∙ c.if-is_past.true)
     c.if-text-lt-AFTER_CAPACITY.false).1

@@ -33,6 +33,7 @@ fn grow(value: u64, digit: u8) -> u64
 }
 
 // The number that the digits of a text are, or `LIMIT`: no digit, another character, or more than 32 bits.
+#[tactic(auto, unfolding(crate::specs::Numerals::numeral))]
 pub fn number_in(text: &[u8]) -> u64
     ensures { result ≡ numeral text.now }
 {

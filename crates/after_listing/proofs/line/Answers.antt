@@ -1,8 +1,7 @@
 -- A buffer below the capacity is left as it was, a trace of fewer rounds has no line, and any other is handed on with a
 -- buffer for the values.
-use Rattle.std.proofs.Common.{◌≡◌, sym, ap, ◌∙◌, ℕ, Bool, ltb-false}
+use Rattle.std.proofs.Common.{◌≡◌, sym, ap, ◌∙◌, ℕ, Bool}
 use lib.Dec.{ltb}
-use Rattle.trace.specs.Trace.{rounds_at}
 use Rattle.trace.specs.ReplayText.{after_listing}
 use Rattle.text.proofs.Texts.{text_refused}
 use Rattle.after_text.specs.After.{after_capacity}

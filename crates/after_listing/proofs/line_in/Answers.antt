@@ -8,26 +8,26 @@ pub returns-in-Granted-clause-value : goal.returns-in-Granted-clause-value
 returns-in-Granted-clause-value c =
     let a = c.args in
     let same =
-        line-listed a.trace.now a.k a.text.now a.values.now c.replay_to.new.values c.requires.k_bound
-        c.requires.values_len
-        c.byte_at-n.result
-        c.byte_at-n.ensures
-        (λ j. (c.type_inv.trace j).fits)
-        c.in-Granted.field-0
-        c.in-Granted.ensures in
+    line-listed a.trace.now a.k a.text.now a.values.now c.replay_to.new.values c.requires.k_bound
+    c.requires.values_len
+    c.byte_at-n.result
+    c.byte_at-n.ensures
+    (λ j. (c.type_inv.trace j).fits)
+    c.in-Granted.field-0
+    c.in-Granted.ensures in
     c.after_text.ensures.value ∙ ap (λ (t : Text). t.size) same
 
 pub returns-in-Granted-clause-text_after : goal.returns-in-Granted-clause-text_after
 returns-in-Granted-clause-text_after c =
     let a = c.args in
     let same =
-        line-listed a.trace.now a.k a.text.now a.values.now c.replay_to.new.values c.requires.k_bound
-        c.requires.values_len
-        c.byte_at-n.result
-        c.byte_at-n.ensures
-        (λ j. (c.type_inv.trace j).fits)
-        c.in-Granted.field-0
-        c.in-Granted.ensures in
+    line-listed a.trace.now a.k a.text.now a.values.now c.replay_to.new.values c.requires.k_bound
+    c.requires.values_len
+    c.byte_at-n.result
+    c.byte_at-n.ensures
+    (λ j. (c.type_inv.trace j).fits)
+    c.in-Granted.field-0
+    c.in-Granted.ensures in
     c.after_text.ensures.text_after ∙ ap (λ (t : Text). t.buffer) same
 
 pub returns-in-Refused-clause-value : goal.returns-in-Refused-clause-value

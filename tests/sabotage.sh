@@ -162,8 +162,8 @@ for page in TRACEABILITY PROOF-MAP; do
 done
 sabotage "reading list: a page not listed" "sed -i '/model\/specs\/Steps.antt/d' docs/ARCHITECTURE.md" tests/check_reading_list "stands in no table"
 sabotage "reading list: a definition longer" "echo '-- more' >>crates/model/specs/Steps.antt" tests/check_reading_list "out of date"
-sabotage "imports: a line too long" "printf -- '-- %0118d\n' 0 >>crates/model/specs/Steps.antt" tests/check_imports "a line of 121 characters"
-sabotage "imports: a line of code too long" "printf -- '// %0120d\n' 0 >>crates/shares/src/lib.rt" tests/check_imports "a line of 123 characters"
+sabotage "imports: a line too long" "printf -- '-- %0126d\n' 0 >>crates/model/specs/Steps.antt" tests/check_imports "a line of 129 characters"
+sabotage "imports: a line of code too long" "printf -- '// %0130d\n' 0 >>crates/shares/src/lib.rt" tests/check_imports "a line of 133 characters"
 
 # ---- must-fail edits
 rewrite='# a correct rewrite, with its branches exchanged

@@ -69,7 +69,7 @@ narrowing-preserved-then-count-k c =
     look.1
     look.2
     c.count_below-count.ensures
-    c.if-count-k.true
+    (omega arith)
 
 pub overflow_sub-high : goal.overflow_sub-high
 overflow_sub-high c =
@@ -140,4 +140,4 @@ narrowing-preserved c =
     look.1
     look.2
     c.count_below-count.ensures
-    c.if-count-k.false
+    (omega arith)

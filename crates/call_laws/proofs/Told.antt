@@ -28,7 +28,6 @@ use Rattle.refusal_laws.proofs.Numbers.{check_more, plain_append, plain_one, eac
 use Rattle.refusal_laws.proofs.Numbers.{length-says, room_says, plan-says, target-says, cabinets_say}
 use Rattle.refusal_laws.proofs.Numbers.{plain_settings, plain_planner, plain_sheet, plain_spread}
 use Rattle.refusal_laws.proofs.Tables.{Sound, next-sound, says-sound, plain_sound, array_sound}
-use Rattle.sheet_laws.proofs.Checks.{settings-passed}
 use Rattle.sheet_laws.proofs.Tables.{few-passed, spread-sound, settle-sound, settled-few}
 use Rattle.sheet_laws.proofs.Words.{word_fits}
 use Rattle.sheet_laws.proofs.Orders.{read-checks, write-checks}

@@ -1,5 +1,5 @@
 -- At each early return the tests that led there say that the row is known faulty.
-use Rattle.decisions.proofs.Voting.{decision-long, decision-unfit, fitting}
+use Rattle.decisions.proofs.Voting.{decision-long, decision-unfit}
 use Rattle.decisions.proofs.decide.Goals as goal
 
 pub returns-then-marks-gt-MOST : goal.returns-then-marks-gt-MOST

@@ -1,5 +1,5 @@
 -- What one count of the copy's value tells.
-use Rattle.std.proofs.Common.{arith, sym, ◌∙◌, ◌-◌, ◌<◌, ℕ, length}
+use Rattle.std.proofs.Common.{arith, sym, ◌∙◌, ◌-◌, ◌<◌, length}
 use borrow.Author.Tests.{leb-true, leb-false, ltb-true}
 use Rattle.arithmetic.specs.Words.{two_to32}
 use Rattle.decisions.proofs.Voting.{decision-enough, decision_spent, bits-low}

@@ -1,7 +1,8 @@
 #!/usr/bin/env python3
 """Carries the findings of tests/edits.txt over the port: each row of the commits before it gets the sum that its changes have today.
 
-    tools/edits_carried.py              writes tests/edits.txt, and says which rows were found for no change of today, and which changes have none
+    tools/edits_carried.py              writes tests/edits.txt, and says which rows were found for no change of today, and which changes have none;
+                                        what tests/edits_differ found since of changes that no row was of stays
     tools/edits_carried.py texts        prints too each change whose text is another one than then, in whatever way
 
 The findings were made by tests/edits_differ, which built programs with the changes, on an older Rattle. A change of today is known to be the one that was
@@ -94,7 +95,9 @@ def main():
                 found[edit, named] = (edit_parts.total(today[edit][named]), verdict)
                 if spelled(changes) != spelled(today[edit][named]):
                     other.append((edit, named, changes, today[edit][named]))
+    since = edit_parts.evidence(LIST)
     for edit, wrongs in today.items():
+        found |= {(edit, n): since[edit, n] for n, own in wrongs.items() if (edit, n) not in found and since.get((edit, n), ("",))[0] == edit_parts.total(own)}
         code = edit_parts.sources(ROOT / "crates" / edit.partition("/")[0])
         for name, changes in wrongs.items():
             if (edit, name) not in found:

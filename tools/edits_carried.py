@@ -105,6 +105,10 @@ def main():
                 continue
             kind = found[edit, name][1].split()[0]
             is_code = any(edit_parts.changes_code(c, code) for c in changes)
+            # one of before edits_differ told promises apart
+            if kind == "beyond" and not is_code and not name.startswith("-"):
+                kind = "promise"
+                found[edit, name] = (found[edit, name][0], kind)
             if (kind == "definition") != name.startswith("-") or kind == "promise" and is_code or kind not in ("promise", "definition") and not is_code:
                 silent.append(f"{edit} {name}: '{found[edit, name][1]}' was found of another kind of change")
     LIST.write_text(HEAD + "".join(f"{e} {n} {total} {verdict}\n" for (e, n), (total, verdict) in sorted(found.items())), encoding="utf-8")

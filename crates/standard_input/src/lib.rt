@@ -23,7 +23,7 @@ fn read_some<R: Read>(reader: &mut R, buffer: &mut [u8]) -> io::Result<usize>
 }
 
 // Reads until the buffer is full or the input ends.
-pub fn read_from<R: Read>(reader: &mut R, buffer: &mut [u8]) -> io::Result<usize>
+fn fill<R: Read>(reader: &mut R, buffer: &mut [u8]) -> io::Result<usize>
     ensures { IfOk result (λ size. size ≤ length buffer.new) }
 {
     let mut size: usize = 0;
@@ -37,12 +37,19 @@ pub fn read_from<R: Read>(reader: &mut R, buffer: &mut [u8]) -> io::Result<usize
     Ok(size)
 }
 
+// Reads a file, or whatever else is read, until the buffer is full or the input ends.
+pub fn read_from<R: Read>(reader: &mut R, buffer: &mut [u8]) -> io::Result<usize>
+    ensures { IfOk result (λ size. size ≤ length buffer.new) }
+{
+    fill(reader, buffer)
+}
+
 // Reads standard input until the buffer is full or the input ends.
 pub fn read_input(input: Stdin, buffer: &mut [u8]) -> Input
     ensures { Within result (length buffer.new) }
 {
     let mut reader = input;
-    match read_from(&mut reader, buffer) {
+    match fill(&mut reader, buffer) {
         Ok(size) => Input::Read(size),
         Err(_) => Input::Failed,
     }

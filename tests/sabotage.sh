@@ -187,12 +187,12 @@ edited() { # TEXT
 sabotage "edits: a correct rewrite" 'edited "$rewrite"' tests/check_must_fail_reasons "words/sabotage, byte_at: no program tells it from the engine"
 sabotage "edits: an ill-typed contract" 'edited "$ill_typed"' tests/check_must_fail_reasons "words/sabotage: BAD EDIT"
 sabotage "edits: one not tried" "sed -i 's/^new: /new: 0 + /' crates/words/must-fail/base_255.edit" tests/check_must_fail_reasons "words/base_255, word_at: not tried as it is"
-sabotage "edits: a wrong definition that is not refused alone" "sed -i 's/^\(demand_1_2.last_refusal_that_applies -2 [0-9a-f]*\) .*/\1 NOT REFUSED: it is proved/' tests/alone.txt" \
-    tests/check_must_fail_reasons "last_refusal_that_applies, -2: alone: NOT REFUSED"
+sabotage "edits: a wrong function that is not refused alone" "sed -i 's/^\(means.mean_truncates floor_mean [0-9a-f]*\) .*/\1 NOT REFUSED: it is proved/' tests/alone.txt" \
+    tests/check_must_fail_reasons "means/mean_truncates, floor_mean: alone: NOT REFUSED"
 sabotage "edits: one that a limit of the prover refuses" "sed -i 's/\(must-fail words.base_255.edit: refused, as it must be\): .*/\1 (only by a limit of the prover): x/' target/ci.log; echo >>README.md" \
     tests/check_must_fail_reasons "words/base_255: refused, as it must be (only by a limit"
-sabotage "edits: a definition that nothing refuses" "printf '# nothing\nfile: specs/Demand2.antt\nold: {le_z, lt_z}\nnew: {lt_z, le_z}\n' >>crates/demand_1_2/must-fail/midpoint_rounded_up.edit
-    tests/edits_alone || true" tests/check_must_fail_reasons "midpoint_rounded_up, -3: alone: NOT REFUSED"
+sabotage "edits: a definition that nothing refuses" "printf '# nothing\nold: {byte, settings_at}\nnew: {settings_at, byte}\n' >>crates/answer_laws/must-fail/count_reads_back_as_the_cabinets.edit
+    tests/edits_alone answer_laws || true" tests/check_must_fail_reasons "count_reads_back_as_the_cabinets, -3: alone: NOT REFUSED"
 sabotage "edits: one not in the table" "sed -i '/words.base_255/d' docs/MUST-FAIL.md" tests/check_must_fail_table "words/base_255"
 
 # ---- sheets and plans

@@ -11,7 +11,7 @@ use lib.Dec.{ltb, eqb}
 use lib.ListN.{length}
 use Rattle.arithmetic.specs.Counting.{any_below, lowest}
 use Rattle.arithmetic.proofs.Counting.{lowest-found}
-use Rattle.model.specs.declared.Refusal.{Refusal}
+use Rattle.model.specs.Refusals.{Refusal}
 use Rattle.model.specs.Ensemble.{max_cabinets}
 use Rattle.model.specs.RoundSheet.{fca, settings_at}
 use Rattle.model.specs.Planner.{max_rounds}

@@ -8,7 +8,7 @@ use native.Mathlib.Omega.{arith}
 use borrow.Author.Tests.{leb-true}
 use lib.Dec.{leb}
 use Rattle.arithmetic.proofs.Bools.{and_left, and_right}
-use Rattle.model.specs.declared.Refusal.{Refusal}
+use Rattle.model.specs.Refusals.{Refusal}
 use Rattle.model.specs.Refusals.{refusal, bad_interval_number, no_interval_number}
 use Rattle.model.specs.Calls.{Verdict, granted, refused}
 use Rattle.interval.specs.Interval.{Interval, stays_within, starts_within, meets, interval}

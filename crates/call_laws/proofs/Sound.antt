@@ -5,7 +5,7 @@ use mathlib.Core.Path.{◌≡◌, refl}
 use Prim.Native.Nat.{ℕ, ◌<◌}
 use native.Mathlib.Omega.{arith}
 use Rattle.arithmetic.specs.Words.{two_to32}
-use Rattle.model.specs.declared.Refusal.{Refusal}
+use Rattle.model.specs.Refusals.{Refusal}
 use Rattle.model.specs.Refusals.{Check}
 use Rattle.model.specs.Calls.{verdict}
 use Rattle.refusal_laws.proofs.Tables.{InTable, Sound}

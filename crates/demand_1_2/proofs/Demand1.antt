@@ -18,7 +18,7 @@ use Rattle.arithmetic.specs.Writing.{overwrite}
 use Rattle.arithmetic.proofs.Bools.{both_ways}
 use Rattle.arithmetic.proofs.Writing.{length-table, length-overwrite, take-overwrite, drop-overwrite}
 use Rattle.model.specs.declared.Settings.{Settings}
-use Rattle.model.specs.declared.Refusal.{Refusal}
+use Rattle.model.specs.Refusals.{Refusal}
 use Rattle.model.specs.RoundSheet.{byte, settings_at, entry_count, sheet_length, mark_at, bits_at, bits_in, sheet_bytes}
 use Rattle.model.specs.AnswerSheet.{answer_length, answer_bytes}
 use Rattle.model.specs.Steps.{round_at}

@@ -15,7 +15,7 @@ use lib.ListN.{length, get_or}
 use Rattle.arithmetic.specs.Counting.{lowest}
 use Rattle.arithmetic.proofs.Bools.{clash, and_left, and_right, and_intro}
 use Rattle.arithmetic.proofs.Counting.{lowest-found}
-use Rattle.model.specs.declared.Refusal.{Refusal}
+use Rattle.model.specs.Refusals.{Refusal}
 use Rattle.model.specs.Refusals.{refusal, Check, or_next, first_of}
 use Rattle.model.specs.Refusals.{bad_mark, bad_missing}
 use Rattle.model.specs.Refusals.{bad_mark_number, bad_missing_number}

@@ -12,7 +12,7 @@ use borrow.Author.Tests.{eqb-true, eq-eqb, ne_eqb, le-ltb, ltb-false}
 use lib.Dec.{eqb}
 use lib.ListN.{length, get_or, get_or-append}
 use Rattle.arithmetic.proofs.Bools.{clash, not-true-false}
-use Rattle.model.specs.declared.Refusal.{Refusal}
+use Rattle.model.specs.Refusals.{Refusal}
 use Rattle.model.specs.declared.Settings.{Settings}
 use Rattle.model.specs.Ensemble.{Readings, quorum}
 use Rattle.model.specs.RoundSheet.{cca, trims, settings_at, entry_count, entry_at, mark_at, bits_at}

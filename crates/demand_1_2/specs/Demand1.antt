@@ -19,7 +19,7 @@
 use Rattle.std.specs.Prelude.{List, [], ◌∷◌, ◌≡◌, ℕ, ◌≤◌, ◌<◌, ℤ, length, get_or, take, drop}
 use Rattle.std.proofs.Math.Option.{none, some}
 use Rattle.model.specs.declared.Settings.{Settings}
-use Rattle.model.specs.declared.Refusal.{Refusal}
+use Rattle.model.specs.Refusals.{Refusal}
 use Rattle.model.specs.RoundSheet.{byte, settings_at, entry_count, sheet_length, mark_at, bits_at, bits_in, sheet_bytes}
 use Rattle.model.specs.AnswerSheet.{answer_length, answer_bytes}
 use Rattle.model.specs.Steps.{round_at}

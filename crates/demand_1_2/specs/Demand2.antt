@@ -32,7 +32,7 @@ use Rattle.std.proofs.Common.{SFits, to_z}
 use Rattle.arithmetic.specs.Counting.{count, sum}
 use Rattle.arithmetic.specs.Writing.{overwrite}
 use Rattle.model.specs.declared.Settings.{Settings}
-use Rattle.model.specs.declared.Refusal.{Refusal}
+use Rattle.model.specs.Refusals.{Refusal}
 use Rattle.model.specs.Ensemble.{missing, present, Readings, ticks, quorum}
 use Rattle.model.specs.RoundSheet.{cca, average, median, midpoint, byte, word, settings_at, entry_count, entry_at}
 use Rattle.model.specs.Steps.{same, readings_of, inside, held, accepted_at, round_of, round_at, span_width}

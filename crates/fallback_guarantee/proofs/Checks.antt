@@ -14,7 +14,7 @@ use lib.Dec.{eqb}
 use lib.ListN.{length, get_or}
 use Rattle.arithmetic.specs.Writing.{overwrite}
 use Rattle.arithmetic.proofs.Bools.{clash}
-use Rattle.model.specs.declared.Refusal.{Refusal}
+use Rattle.model.specs.Refusals.{Refusal}
 use Rattle.model.specs.RoundSheet.{fca, cca, settings_at, entry_count, mark_at, bits_at}
 use Rattle.model.specs.AnswerSheet.{answer_length, answer_bytes}
 use Rattle.model.specs.Steps.{round_at}

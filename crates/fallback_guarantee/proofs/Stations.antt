@@ -14,7 +14,7 @@ use lib.IntN.{ℤ}
 use lib.ListN.{length}
 use mir.Syntax.{w32}
 use mir.Val.{to_z}
-use Rattle.model.specs.declared.Refusal.{Refusal}
+use Rattle.model.specs.Refusals.{Refusal}
 use Rattle.model.specs.Ensemble.{ticks}
 use Rattle.model.specs.RoundSheet.{cca, midpoint, word}
 use Rattle.model.specs.AnswerSheet.{answer_length}

@@ -5,7 +5,7 @@
 --                                      accepts none
 --   FallbackCall                       what the call gives, leaves and points at
 use Rattle.std.specs.Prelude.{List, [], ◌∷◌, ◌++◌, ◌⊎◌, ◌≡◌, ℕ, length}
-use Rattle.model.specs.declared.Refusal.{Refusal}
+use Rattle.model.specs.Refusals.{Refusal}
 use Rattle.model.specs.RoundSheet.{settings_at, entry_count, mark_at, bits_at}
 use Rattle.model.specs.AnswerSheet.{answer_bytes}
 use Rattle.model.specs.Steps.{round_at}

@@ -9,7 +9,7 @@ use Prim.Native.Nat.{ℕ}
 use borrow.Author.Tests.{eqb-true, eqb-false, eq-eqb, ne_eqb}
 use lib.Dec.{eqb}
 use lib.ListN.{length}
-use Rattle.model.specs.declared.Refusal.{Refusal}
+use Rattle.model.specs.Refusals.{Refusal}
 use Rattle.model.specs.Refusals.{first_of, too_many_faults_number}
 use Rattle.model.specs.Calls.{Verdict, granted, refused, Outcome, settle}
 use Rattle.settling.specs.Answers.{settling_of}

@@ -1,6 +1,6 @@
 -- Inner: what is given after a refusal of the crusaders sheet, by settling the direct sheet.
 use Rattle.std.specs.Prelude.{cond, List, ℕ, eqb}
-use Rattle.model.specs.declared.Refusal.{Refusal}
+use Rattle.model.specs.Refusals.{Refusal}
 use Rattle.model.specs.Refusals.{too_many_faults_number}
 use Rattle.model.specs.Calls.{Verdict, granted, refused, settle}
 use Rattle.sheet_pairs.specs.Fallback.{direct, Settlement}

@@ -13,7 +13,7 @@ use Rattle.arithmetic.specs.Counting.{any_below, lowest, highest}
 use Rattle.arithmetic.proofs.Bools.{both_ways, clash, and_left, and_right, and_intro, and_false, or_left, or_right}
 use Rattle.arithmetic.proofs.Bools.{or_cases, or_false}
 use Rattle.arithmetic.proofs.Counting.{any-true, any_false, lowest-some, highest-some}
-use Rattle.model.specs.declared.Refusal.{Refusal}
+use Rattle.model.specs.Refusals.{Refusal}
 use Rattle.model.specs.Ensemble.{max_window}
 use Rattle.model.specs.Refusals.{Check, refusal, or_next, first_of, bad_interval_number, no_interval_number}
 use Rattle.model.specs.Calls.{Verdict, granted, refused}

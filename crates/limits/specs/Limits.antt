@@ -8,7 +8,7 @@
 use Rattle.std.specs.Prelude.{Bool, true, cond, ℕ, ◌-◌, leb}
 use Rattle.std.proofs.Math.Option.{none, some}
 use Rattle.model.specs.declared.Settings.{Settings}
-use Rattle.model.specs.declared.Refusal.{Refusal}
+use Rattle.model.specs.Refusals.{Refusal}
 use Rattle.model.specs.Ensemble.{missing}
 use Rattle.model.specs.Refusals.{Check, first_of, plan_checks}
 use Rattle.run.specs.Run.{Station}

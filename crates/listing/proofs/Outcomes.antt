@@ -11,7 +11,7 @@ use borrow.Author.Tests.{le-ltb}
 use lib.Dec.{lit<, lit≤}
 use lib.ListN.{length, take, length-take, get_or-eq_default}
 use lib.Seq.{take_all, take-length, get_or-take, length-take-le}
-use Rattle.model.specs.declared.Refusal.{Refusal}
+use Rattle.model.specs.Refusals.{Refusal}
 use Rattle.model.specs.RoundSheet.{byte, settings_at}
 use Rattle.model.specs.AnswerSheet.{answer_length}
 use Rattle.model.specs.Refusals.{first_of, settle_checks}

@@ -10,8 +10,7 @@ ghost use Rattle.refusals.specs.Answers.{check_of};
 ghost use Rattle.sheet_sizes.specs.Bounds.{most_entries};
 ghost use Rattle.mark_checks.specs.Marks.{surveyed, marks_in};
 
-use model::BAD_MARK;
-use refusals::Screened;
+use refusals::{Reason, Refusal};
 use sheet_sizes::MAX_ENTRIES;
 
 fn with_mark(seen: u8, mark: u8) -> u8
@@ -25,45 +24,40 @@ pub fn survey(marks: &[u8]) -> u8
     ensures { result ≡ surveyed marks.now (length marks.now) }
 {
     let mut seen: u8 = 0;
-    let mut t: usize = 0;
-    'entries: while t < marks.len() {
-        seen = with_mark(seen, marks[t]);
-        t += 1;
+    'entries: for mark in marks {
+        seen = with_mark(seen, *mark);
     }
     seen
 }
 
 // Check 8, mark by mark.
-fn search_each(marks: &[u8]) -> Screened
+fn search_each(marks: &[u8]) -> Result<(), Refusal>
     requires { length marks.now ≤ most_entries }
     ensures { check_of result ≡ bad_mark (byte marks.now) (length marks.now) }
 {
-    let mut e: usize = 0;
-    'entries: while e < marks.len() {
-        let mark = marks[e];
-        if 1 < mark {
-            return Screened::Refused(refusals::refuse_at(BAD_MARK, e as u32));
+    'entries: for (e, mark) in marks.iter().enumerate() {
+        if 1 < *mark {
+            return Err(Reason::BadMark.at(e as u32));
         }
-        e += 1;
     }
-    Screened::Passed
+    Ok(())
 }
 
 // Check 8, made where what was seen of the marks is above 1. More marks than a sheet can have pass unseen.
-pub fn search(marks: &[u8], seen: u8) -> Screened
+pub fn search(marks: &[u8], seen: u8) -> Result<(), Refusal>
     ensures { check_of result ≡ cond (ltb 1 seen) (marks_in marks.now) none }
 {
     if seen <= 1 {
-        return Screened::Passed;
+        return Ok(());
     }
     if MAX_ENTRIES < marks.len() {
-        return Screened::Passed;
+        return Ok(());
     }
     search_each(marks)
 }
 
 // Check 8.
-pub fn check(marks: &[u8]) -> Screened
+pub fn check(marks: &[u8]) -> Result<(), Refusal>
     ensures { check_of result ≡ marks_in marks.now }
 {
     search(marks, survey(marks))

@@ -10,8 +10,7 @@ ghost use Rattle.sheet_sizes.specs.Bounds.{most_entries};
 ghost use Rattle.missing_search.specs.Missing.{missing_in};
 ghost use Rattle.missing_search.specs.Places.{place_of};
 
-use model::BAD_MISSING;
-use refusals::Screened;
+use refusals::{Reason, Refusal};
 use sheet_sizes::MAX_ENTRIES;
 
 // A place past every entry.
@@ -39,12 +38,6 @@ fn place_if(bad: bool, e: u32) -> u32
     if bad { e } else { NOWHERE }
 }
 
-fn lower(a: u32, b: u32) -> u32
-    ensures { result ≡ min a b }
-{
-    if a < b { a } else { b }
-}
-
 // The lowest entry at fault, or nowhere: one pass that has no branch on what it reads.
 fn lowest_place(marks: &[u8], readings: &[u8]) -> u32
     requires { (length readings.now ≡ 4 * length marks.now) × (length marks.now ≤ most_entries) }
@@ -53,11 +46,8 @@ fn lowest_place(marks: &[u8], readings: &[u8]) -> u32
         (length marks.now)) }
 {
     let mut place: u32 = NOWHERE;
-    let mut entry: usize = 0;
-    'entries: while entry < marks.len() {
-        let here = place_if(not_zero(marks, readings, entry), entry as u32);
-        place = lower(place, here);
-        entry += 1;
+    'entries: for entry in 0..marks.len() {
+        place = place.min(place_if(not_zero(marks, readings, entry), entry as u32));
     }
     place
 }
@@ -70,15 +60,15 @@ fn misfit(marks: usize, readings: usize) -> bool
 }
 
 // Check 9. Lists that do not fit pass unseen.
-pub fn search(marks: &[u8], readings: &[u8]) -> Screened
+pub fn search(marks: &[u8], readings: &[u8]) -> Result<(), Refusal>
     ensures { check_of result ≡ missing_in marks.now readings.now }
 {
     if misfit(marks.len(), readings.len()) {
-        return Screened::Passed;
+        return Ok(());
     }
     let place = lowest_place(marks, readings);
     if place == NOWHERE {
-        return Screened::Passed;
+        return Ok(());
     }
-    Screened::Refused(refusals::refuse_at(BAD_MISSING, place))
+    Err(Reason::BadMissing.at(place))
 }

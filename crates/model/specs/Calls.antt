@@ -9,7 +9,7 @@ use Rattle.std.specs.Int.{w32}
 use Rattle.std.proofs.Common.{to_z}
 use Rattle.arithmetic.specs.Writing.{table, overwrite}
 use Rattle.model.specs.declared.Settings.{Settings}
-use Rattle.model.specs.declared.Refusal.{Refusal}
+use Rattle.model.specs.Refusals.{Refusal}
 use Rattle.model.specs.RoundSheet.{settings_at, entry_count, sheet_length, mark_at, bits_at, row_part, sheet_bytes}
 use Rattle.model.specs.AnswerSheet.{answer_length, answer_bytes}
 use Rattle.model.specs.Steps.{round_at}

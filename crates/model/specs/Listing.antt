@@ -4,7 +4,7 @@
 --   listing                   the whole text for the bytes of a sheet
 use Rattle.std.specs.Prelude.{true, false, List, [], ◌∷◌, ◌++◌, ℕ, zero, suc, ◌+◌, ◌*◌, ◌/◌, ◌%◌, ltb, length, replicate, take, ℤ, pos, negsuc}
 use Rattle.std.proofs.Math.Option.{none, some}
-use Rattle.model.specs.declared.Refusal.{Refusal}
+use Rattle.model.specs.Refusals.{Refusal}
 use Rattle.model.specs.Ensemble.{max_cabinets}
 use Rattle.model.specs.RoundSheet.{header_size, settings_at}
 use Rattle.model.specs.AnswerSheet.{answer_length}

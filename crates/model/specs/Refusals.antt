@@ -17,7 +17,6 @@ use Rattle.std.specs.Prelude.{Bool, cond, not, ◌&&◌, ◌||◌, List, [], ◌
 use Rattle.std.proofs.Math.Option.{Option, none, some}
 use Rattle.arithmetic.specs.Counting.{lowest}
 use Rattle.model.specs.declared.Settings.{Settings}
-use Rattle.model.specs.declared.Refusal.{Refusal}
 use Rattle.model.specs.Ensemble.{max_cabinets, max_window, max_spread}
 use Rattle.model.specs.RoundSheet.{fca, trimmed_mean, trims, average, midpoint, header_size}
 use Rattle.model.specs.RoundSheet.{byte, settings_at, entry_count, sheet_length}
@@ -89,6 +88,10 @@ abbrev pub bad_pair_number : ℕ
 bad_pair_number = 19
 
 -- "A refusal gives its number and a place: for 8 and 9 the lowest entry at fault, else 0"
+pub record Refusal : Type 0 where
+  pub number : ℕ
+  pub place : ℕ
+
 abbrev pub refusal : ℕ → ℕ → Refusal
 refusal number place = record { number = number; place = place }
 

@@ -6,6 +6,9 @@
 // accuracy to start from and to step from, and of the rounds.
 pub const MAX_CABINETS: u8 = 64;
 
+// The most cabinets, as the length of a list.
+pub const MOST: usize = 64;
+
 pub const MAX_WINDOW: u32 = 1_000_000;
 
 pub const MAX_SPREAD: u32 = 100_000;
@@ -44,44 +47,8 @@ pub const MEDIAN: u8 = 1;
 
 pub const MIDPOINT: u8 = 2;
 
-// The numbers of refusal.
-pub const TOO_SHORT: u8 = 1;
-
-pub const BAD_CABINETS: u8 = 2;
-
-pub const BAD_FAULTS: u8 = 3;
-
-pub const BAD_METHOD: u8 = 4;
-
-pub const BAD_WINDOW: u8 = 5;
-
-pub const BAD_LENGTH: u8 = 6;
-
-pub const NO_ROOM: u8 = 7;
-
-pub const BAD_MARK: u8 = 8;
-
-pub const BAD_MISSING: u8 = 9;
-
-pub const TOO_MANY_FAULTS: u8 = 10;
-
-pub const BAD_PLAN: u8 = 11;
-
-pub const TARGET_MISSED: u8 = 12;
-
-pub const BAD_TRACE: u8 = 13;
-
-pub const BAD_ROLES: u8 = 14;
-
-pub const RUN_STOPPED: u8 = 15;
-
-pub const BAD_SPREAD: u8 = 16;
-
-pub const BAD_INTERVAL: u8 = 17;
-
-pub const NO_INTERVAL: u8 = 18;
-
-pub const BAD_PAIR: u8 = 19;
+// The role of a sound cabinet in a trace; any other is a faulty one's.
+pub const SOUND: u8 = 1;
 
 // What a round sheet's sizes say. Nothing is presumed checked: any bytes may stand here.
 #[repr(C)]
@@ -97,11 +64,4 @@ pub struct Settings {
     pub estimator: u8,
     // The window in ticks.
     pub window: u32,
-}
-
-// A numbered refusal: the number of document 01's check, and the lowest entry at fault for 8 and 9, else 0.
-#[derive(Drop)]
-pub struct Refusal {
-    pub number: u8,
-    pub place: u32,
 }

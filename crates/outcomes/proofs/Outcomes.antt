@@ -8,7 +8,7 @@ use Prim.Native.Nat.{ℕ}
 use native.Mathlib.Omega.{arith}
 use borrow.Author.Tests.{eq-eqb, ne_eqb, eqb-true}
 use lib.Dec.{eqb}
-use Rattle.model.specs.declared.Refusal.{Refusal}
+use Rattle.model.specs.Refusals.{Refusal}
 use Rattle.model.specs.Refusals.{Check, refusal, too_many_faults, too_many_faults_number}
 use Rattle.answer_writer.specs.Answers.{written_of}
 use Rattle.outcomes.specs.Outcomes.{concluded}

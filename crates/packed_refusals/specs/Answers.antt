@@ -5,7 +5,7 @@
 --   TargetPacked                  a count for a target, or a refusal, packed
 use Rattle.std.specs.Prelude.{◌≡◌, ℕ, ◌+◌, ◌*◌, ◌/◌, ◌%◌}
 use Rattle.arithmetic.specs.Words.{two_to32}
-use Rattle.model.specs.declared.Refusal.{Refusal}
+use Rattle.model.specs.Refusals.{Refusal}
 use Rattle.model.specs.declared.Settings.{Settings}
 use Rattle.model.specs.Calls.{Verdict, granted, refused, Target}
 

@@ -7,7 +7,7 @@ use Prim.Native.Nat.{ℕ, zero, suc, ◌+◌, ◌≤◌, ◌<◌}
 use borrow.Author.Tests.{le-ltb}
 use native.Mathlib.Omega.{arith}
 use Rattle.model.specs.declared.Settings.{Settings}
-use Rattle.model.specs.declared.Refusal.{Refusal}
+use Rattle.model.specs.Refusals.{Refusal}
 use Rattle.model.specs.Planner.{Plan, plan_from, advance, after, max_accuracy, max_rounds}
 use Rattle.model.specs.Refusals.{Check, first_of, plan_checks, step_checks}
 use Rattle.model.specs.Calls.{granted, refused, verdict, plan, step}

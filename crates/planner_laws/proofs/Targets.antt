@@ -10,7 +10,7 @@ use lib.Dec.{ltb}
 use borrow.Author.Tests.{lt-ltb, le-ltb}
 use native.Mathlib.Nat.{le_trans}
 use Rattle.model.specs.declared.Settings.{Settings}
-use Rattle.model.specs.declared.Refusal.{Refusal}
+use Rattle.model.specs.Refusals.{Refusal}
 use Rattle.model.specs.Planner.{plan_from, window_after, max_accuracy, max_rounds}
 use Rattle.model.specs.Refusals.{Check, or_next, refusal, first_of, planner_checks, plan_checks, target_checks}
 use Rattle.model.specs.Refusals.{target_missed, target_missed_number}

@@ -10,7 +10,7 @@ use lib.ListN.{length, get_or-append}
 use Rattle.arithmetic.specs.Naturals.{down}
 use Rattle.arithmetic.specs.Words.{two_to31}
 use Rattle.model.specs.declared.Settings.{Settings}
-use Rattle.model.specs.declared.Refusal.{Refusal}
+use Rattle.model.specs.Refusals.{Refusal}
 use Rattle.model.specs.Ensemble.{present, max_cabinets}
 use Rattle.model.specs.RoundSheet.{settings_at}
 use Rattle.model.specs.Refusals.{Check, refusal, or_next, first_of, no_room_number, run_stopped_number}

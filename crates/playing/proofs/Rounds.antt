@@ -17,7 +17,7 @@ use Rattle.arithmetic.proofs.Counting.{split-last}
 use Rattle.arithmetic.proofs.Shift.{down-up}
 use Rattle.arithmetic.proofs.Writing.{get_d_table}
 use Rattle.model.specs.declared.Settings.{Settings}
-use Rattle.model.specs.declared.Refusal.{Refusal}
+use Rattle.model.specs.Refusals.{Refusal}
 use Rattle.model.specs.Ensemble.{present, max_cabinets}
 use Rattle.model.specs.RoundSheet.{byte, settings_at}
 use Rattle.model.specs.Planner.{Plan, plan_from}

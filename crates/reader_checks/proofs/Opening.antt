@@ -6,7 +6,7 @@ use mathlib.Core.Option.{none, some}
 use mathlib.Core.Path.{◌≡◌, refl, sym, ap, ap₂, ◌∙◌}
 use Prim.Native.Nat.{ℕ, ◌≤◌}
 use Rattle.model.specs.declared.Settings.{Settings}
-use Rattle.model.specs.declared.Refusal.{Refusal}
+use Rattle.model.specs.Refusals.{Refusal}
 use Rattle.model.specs.RoundSheet.{settings_at, entry_count}
 use Rattle.model.specs.Refusals.{Check, or_next, first_of, sheet_checks, entry_checks, read_checks, no_room}
 use Rattle.model.specs.Calls.{Verdict, granted, refused, verdict}

@@ -14,7 +14,7 @@ use lib.ListN.{length, get_or}
 use Rattle.arithmetic.specs.Counting.{lowest}
 use Rattle.arithmetic.proofs.Bools.{and_left, and_right}
 use Rattle.model.specs.declared.Settings.{Settings}
-use Rattle.model.specs.declared.Refusal.{Refusal}
+use Rattle.model.specs.Refusals.{Refusal}
 use Rattle.model.specs.Ensemble.{max_cabinets, max_window}
 use Rattle.model.specs.RoundSheet.{header_size, settings_at, sheet_length}
 use Rattle.model.specs.Refusals.{refusal, Check, refuse_if, at_entry, or_next, first_of, too_short, bad_cabinets, bad_faults}

@@ -12,7 +12,7 @@ use Rattle.arithmetic.specs.Counting.{lowest}
 use Rattle.arithmetic.specs.Words.{two_to32}
 use Rattle.arithmetic.proofs.Bools.{and_left, and_right}
 use Rattle.arithmetic.proofs.Counting.{lowest-found}
-use Rattle.model.specs.declared.Refusal.{Refusal}
+use Rattle.model.specs.Refusals.{Refusal}
 use Rattle.model.specs.Refusals.{Check, at_entry, or_next, first_of, bad_mark_number, bad_missing_number}
 use Rattle.model.specs.Refusals.{not_zero, bad_mark, bad_missing, array_checks}
 use Rattle.refusal_laws.proofs.Numbers.{Says, entry-says, Plain, no_checks, check_more, each}

@@ -1,10 +1,49 @@
--- What the enums of this crate say in document 01's terms.
+-- What the answers of the code say in document 01's terms.
+--   number_of                the number of each reason
+--   refusal_of               a refusal: its number and its place
+--   check_of                 what a check says: nothing, or its refusal
+--   verdict_of               what a call answers: what it grants, or the refusal
+use Rattle.std.specs.Prelude.{Result, Ok, Err, ⊤, ℕ}
 use Rattle.std.proofs.Math.Option.{none, some}
-use Rattle.model.specs.Refusals.{Check}
-use Rattle.refusals.specs.declared.Screened.{Screened}
-use Rattle.refusals.specs.declared.Screened.TheVariants.{Passed, Refused}
+use Rattle.model.specs.Refusals.{too_short_number, bad_cabinets_number, bad_faults_number, bad_method_number, bad_window_number, bad_length_number}
+use Rattle.model.specs.Refusals.{no_room_number, bad_mark_number, bad_missing_number, too_many_faults_number, bad_plan_number, target_missed_number}
+use Rattle.model.specs.Refusals.{bad_trace_number, bad_roles_number, run_stopped_number, bad_spread_number, bad_interval_number, no_interval_number, bad_pair_number}
+use Rattle.model.specs.Refusals.{Refusal, Check}
+use Rattle.model.specs.Calls.{Verdict, granted, refused}
+use Rattle.refusals.specs.declared.Refusal as code
+use Rattle.refusals.specs.declared.Reason.{Reason}
+use Rattle.refusals.specs.declared.Reason.TheVariants.{TooShort, BadCabinets, BadFaults, BadMethod, BadWindow, BadLength, NoRoom, BadMark, BadMissing, TooManyFaults, BadPlan, TargetMissed, BadTrace, BadRoles, RunStopped, BadSpread, BadInterval, NoInterval, BadPair}
+
+abbrev pub number_of : Reason → ℕ
+number_of TooShort = too_short_number
+number_of BadCabinets = bad_cabinets_number
+number_of BadFaults = bad_faults_number
+number_of BadMethod = bad_method_number
+number_of BadWindow = bad_window_number
+number_of BadLength = bad_length_number
+number_of NoRoom = no_room_number
+number_of BadMark = bad_mark_number
+number_of BadMissing = bad_missing_number
+number_of TooManyFaults = too_many_faults_number
+number_of BadPlan = bad_plan_number
+number_of TargetMissed = target_missed_number
+number_of BadTrace = bad_trace_number
+number_of BadRoles = bad_roles_number
+number_of RunStopped = run_stopped_number
+number_of BadSpread = bad_spread_number
+number_of BadInterval = bad_interval_number
+number_of NoInterval = no_interval_number
+number_of BadPair = bad_pair_number
+
+abbrev pub refusal_of : code.Refusal → Refusal
+refusal_of r = record { number = number_of r.reason; place = r.place }
 
 -- no check refuses, or the first that does
-abbrev pub check_of : Screened → Check
-check_of Passed = none
-check_of (Refused r) = some r
+abbrev pub check_of : Result ⊤ code.Refusal → Check
+check_of (Ok u) = none
+check_of (Err r) = some (refusal_of r)
+
+module _ {A : Type 0} where
+  abbrev pub verdict_of : Result A code.Refusal → Verdict A
+  verdict_of (Ok a) = granted a
+  verdict_of (Err r) = refused (refusal_of r)

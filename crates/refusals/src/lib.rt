@@ -1,50 +1,74 @@
-// Document 01, "Numbers of refusal": how the code makes a refusal, and takes the first of several checks.
+// Document 01, "Numbers of refusal": why a call refuses, and how the code makes a refusal.
 #![tactic(auto)]
 
 ghost use Rattle.std.specs.Prelude.{◌≡◌};
-ghost use Rattle.model.specs.Refusals.{refusal, refuse_if, or_next};
-ghost use Rattle.refusals.specs.Answers.{check_of};
+ghost use Rattle.model.specs.Refusals.{refusal, refuse_if};
+ghost use Rattle.refusals.specs.Answers.{number_of, refusal_of, check_of};
 
-use model::Refusal;
-
-// What a check says: nothing, or its refusal.
-#[derive(Drop)]
-pub enum Screened {
-    Passed,
-    Refused(Refusal),
+// Why a call refuses, with the number that document 01, or a request of document 02, gives it.
+#[derive(Clone, Copy, PartialEq, Eq)]
+pub enum Reason {
+    TooShort = 1,
+    BadCabinets = 2,
+    BadFaults = 3,
+    BadMethod = 4,
+    BadWindow = 5,
+    BadLength = 6,
+    NoRoom = 7,
+    BadMark = 8,
+    BadMissing = 9,
+    TooManyFaults = 10,
+    BadPlan = 11,
+    TargetMissed = 12,
+    BadTrace = 13,
+    BadRoles = 14,
+    RunStopped = 15,
+    BadSpread = 16,
+    BadInterval = 17,
+    NoInterval = 18,
+    BadPair = 19,
 }
 
-// The refusal with this number at the lowest entry at fault.
-pub fn refuse_at(number: u8, place: u32) -> Refusal
-    ensures { result ≡ refusal number place }
-{
-    Refusal { number, place }
+// A refusal: its reason, and the lowest entry at fault for 8 and 9, where a run stopped for 15, else 0.
+#[derive(Clone, Copy, PartialEq, Eq)]
+pub struct Refusal {
+    pub reason: Reason,
+    pub place: u32,
 }
 
-// The refusal with this number at place 0.
-pub fn refuse(number: u8) -> Refusal
-    ensures { result ≡ refusal number 0 }
-{
-    refuse_at(number, 0)
+impl Reason {
+    // The refusal for this reason at the lowest entry at fault.
+    pub fn at(self, place: u32) -> Refusal
+        ensures { refusal_of result ≡ refusal (number_of self) place }
+    {
+        Refusal {
+            reason: self,
+            place,
+        }
+    }
+}
+
+// The refusal for a reason that is of no entry.
+impl From<Reason> for Refusal {
+    ghost from_gives = { λ reason r. refusal_of r ≡ refusal (number_of reason) 0 };
+
+    fn from(reason: Reason) -> Refusal {
+        reason.at(0)
+    }
+}
+
+impl Refusal {
+    // The number of document 01's check.
+    pub fn number(self) -> u8
+        ensures { result ≡ (refusal_of self).number }
+    {
+        self.reason as u8
+    }
 }
 
 // A check whose place is 0.
-pub fn refuse_if(fails: bool, number: u8) -> Screened
-    ensures { check_of result ≡ refuse_if fails number }
+pub fn refuse_if(fails: bool, reason: Reason) -> Result<(), Refusal>
+    ensures { check_of result ≡ refuse_if fails (number_of reason) }
 {
-    if fails {
-        Screened::Refused(refuse(number))
-    } else {
-        Screened::Passed
-    }
-}
-
-// The first refusal stands.
-pub fn first_of(check: Screened, next: Screened) -> Screened
-    ensures { check_of result ≡ or_next (check_of check) (check_of next) }
-{
-    match check {
-        Screened::Passed => next,
-        Screened::Refused(refusal) => Screened::Refused(refusal),
-    }
+    if fails { Err(reason.into()) } else { Ok(()) }
 }

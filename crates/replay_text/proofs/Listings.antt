@@ -10,7 +10,7 @@ use lib.Dec.{lit≤}
 use lib.IntN.{ℤ}
 use lib.ListN.{length}
 use Rattle.arithmetic.proofs.Counting.{initial, last}
-use Rattle.model.specs.declared.Refusal.{Refusal}
+use Rattle.model.specs.Refusals.{Refusal}
 use Rattle.model.specs.RoundSheet.{settings_at}
 use Rattle.model.specs.Refusals.{first_of}
 use Rattle.trace.specs.Trace.{rounds_at, role_at}

@@ -16,7 +16,7 @@ use Rattle.arithmetic.specs.Words.{two_to31}
 use Rattle.arithmetic.specs.Writing.{table, overwrite}
 use Rattle.arithmetic.proofs.Writing.{table_ext}
 use Rattle.model.specs.declared.Settings.{Settings}
-use Rattle.model.specs.declared.Refusal.{Refusal}
+use Rattle.model.specs.Refusals.{Refusal}
 use Rattle.model.specs.Ensemble.{ticks, max_cabinets}
 use Rattle.model.specs.RoundSheet.{reading_bytes, settings_at}
 use Rattle.model.specs.Refusals.{Check, first_of}

@@ -10,10 +10,9 @@ ghost use Rattle.model.specs.Ensemble.{max_cabinets, max_window};
 ghost use Rattle.refusals.specs.Answers.{check_of};
 
 use model::{
-    AVERAGE, BAD_CABINETS, BAD_FAULTS, BAD_METHOD, BAD_WINDOW, CCA, FCA, MAX_CABINETS, MAX_SPREAD,
-    MAX_WINDOW, MIDPOINT, Settings, TRIMMED_MEAN,
+    AVERAGE, CCA, FCA, MAX_CABINETS, MAX_SPREAD, MAX_WINDOW, MIDPOINT, Settings, TRIMMED_MEAN,
 };
-use refusals::Screened;
+use refusals::{Reason, Refusal};
 
 // Whether a round cannot have that many cabinets.
 pub fn bad_cabinets(n: u8) -> bool
@@ -55,16 +54,17 @@ pub fn bad_spread(rule: u8, spread: u32) -> bool
 }
 
 // Checks 2 to 5 of a sheet's settings.
-pub fn screen(settings: Settings) -> Screened
+#[tactic(auto, unfolding(model::specs::Refusals::settings_checks, model::specs::Refusals::first_of, model::specs::Refusals::bad_cabinets, model::specs::Refusals::bad_faults, model::specs::Refusals::bad_method, model::specs::Refusals::bad_window))]
+pub fn screen(settings: Settings) -> Result<(), Refusal>
     ensures { check_of result ≡ first_of (settings_checks settings) }
 {
-    let cabinets = refusals::refuse_if(bad_cabinets(settings.n), BAD_CABINETS);
-    let faults = refusals::refuse_if(bad_faults(settings.n, settings.m), BAD_FAULTS);
-    let method = refusals::refuse_if(bad_method(settings.rule, settings.estimator), BAD_METHOD);
-    let window = refusals::refuse_if(bad_window(settings.window), BAD_WINDOW);
-    let last = refusals::first_of(method, window);
-    let later = refusals::first_of(faults, last);
-    refusals::first_of(cabinets, later)
+    refusals::refuse_if(bad_cabinets(settings.n), Reason::BadCabinets)?;
+    refusals::refuse_if(bad_faults(settings.n, settings.m), Reason::BadFaults)?;
+    refusals::refuse_if(
+        bad_method(settings.rule, settings.estimator),
+        Reason::BadMethod,
+    )?;
+    refusals::refuse_if(bad_window(settings.window), Reason::BadWindow)
 }
 
 // No rule of a sheet.
@@ -78,15 +78,11 @@ fn planned_rule(rule: u8) -> u8
 }
 
 // Checks 2 to 5 of a plan's settings.
-pub fn screen_plan(settings: Settings) -> Screened
+pub fn screen_plan(settings: Settings) -> Result<(), Refusal>
     ensures { check_of result ≡ first_of (planner_checks settings) }
 {
-    let planned = Settings {
-        n: settings.n,
-        m: settings.m,
+    screen(Settings {
         rule: planned_rule(settings.rule),
-        estimator: settings.estimator,
-        window: settings.window,
-    };
-    screen(planned)
+        ..settings
+    })
 }

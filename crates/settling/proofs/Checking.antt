@@ -8,7 +8,7 @@ use Prim.Native.Nat.{ℕ, ◌≤◌, ◌<◌}
 use borrow.Author.Tests.{lt-ltb}
 use lib.ListN.{length}
 use Rattle.model.specs.declared.Settings.{Settings}
-use Rattle.model.specs.declared.Refusal.{Refusal}
+use Rattle.model.specs.Refusals.{Refusal}
 use Rattle.model.specs.Ensemble.{max_window, max_spread}
 use Rattle.model.specs.RoundSheet.{settings_at, entry_count, sheet_length, mark_at, bits_at}
 use Rattle.model.specs.AnswerSheet.{answer_length}

@@ -10,7 +10,7 @@ use borrow.Author.Tests.{le-leb, eq-eqb, ne_eqb}
 use lib.ListN.{length}
 use Rattle.arithmetic.specs.Writing.{overwrite}
 use Rattle.arithmetic.proofs.Bools.{and_intro}
-use Rattle.model.specs.declared.Refusal.{Refusal}
+use Rattle.model.specs.Refusals.{Refusal}
 use Rattle.model.specs.declared.Settings.{Settings}
 use Rattle.model.specs.Ensemble.{max_cabinets}
 use Rattle.model.specs.RoundSheet.{byte, trims, settings_at}

@@ -10,7 +10,7 @@ use lib.IntN.{ℤ}
 use lib.ListN.{length}
 use Rattle.arithmetic.specs.Writing.{overwrite}
 use Rattle.model.specs.declared.Settings.{Settings}
-use Rattle.model.specs.declared.Refusal.{Refusal}
+use Rattle.model.specs.Refusals.{Refusal}
 use Rattle.model.specs.RoundSheet.{settings_at, sheet_length, row_part, sheet_bytes}
 use Rattle.model.specs.Refusals.{Check, first_of, read_checks, write_checks, row_checks}
 use Rattle.model.specs.Calls.{granted, refused, verdict, marks_of, ticks_of, read_after, read, written_after, write}

@@ -11,7 +11,7 @@ use native.Mathlib.Omega.{arith}
 use lib.Dec.{eqb}
 use lib.ListN.{length}
 use Rattle.arithmetic.specs.Writing.{overwrite}
-use Rattle.model.specs.declared.Refusal.{Refusal}
+use Rattle.model.specs.Refusals.{Refusal}
 use Rattle.model.specs.RoundSheet.{word, settings_at, entry_count, mark_at, bits_at}
 use Rattle.model.specs.AnswerSheet.{answer_length, answer_bytes}
 use Rattle.model.specs.Steps.{round_at}

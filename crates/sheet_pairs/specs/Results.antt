@@ -4,7 +4,7 @@
 --   FallbackResults          the call, by the two
 use Rattle.std.specs.Prelude.{List, [], ◌≡◌, ℕ, ◌*◌, ◌<◌, length}
 use Rattle.std.proofs.Math.Option.{none, some}
-use Rattle.model.specs.declared.Refusal.{Refusal}
+use Rattle.model.specs.Refusals.{Refusal}
 use Rattle.model.specs.RoundSheet.{word, settings_at, entry_count, bits_at}
 use Rattle.model.specs.Refusals.{first_of, too_many_faults_number}
 use Rattle.model.specs.Calls.{granted, refused, settle}

@@ -10,7 +10,7 @@ use mir.Syntax.{w32}
 use mir.Val.{to_z}
 use Rattle.arithmetic.specs.Writing.{table, overwrite}
 use Rattle.model.specs.declared.Settings.{Settings}
-use Rattle.model.specs.declared.Refusal.{Refusal}
+use Rattle.model.specs.Refusals.{Refusal}
 use Rattle.model.specs.RoundSheet.{header_size, settings_at, entry_count, mark_at, bits_at}
 use Rattle.model.specs.Refusals.{Check, first_of, read_checks}
 use Rattle.model.specs.Calls.{granted, refused, verdict, read, read_after, Read}

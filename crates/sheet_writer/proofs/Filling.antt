@@ -8,7 +8,7 @@ use lib.IntN.{ℤ}
 use lib.ListN.{length}
 use Rattle.arithmetic.specs.Writing.{overwrite}
 use Rattle.model.specs.declared.Settings.{Settings}
-use Rattle.model.specs.declared.Refusal.{Refusal}
+use Rattle.model.specs.Refusals.{Refusal}
 use Rattle.model.specs.RoundSheet.{sheet_length, reading_bytes, size_bytes, sheet_bytes}
 use Rattle.model.specs.Refusals.{Check, first_of, write_checks}
 use Rattle.model.specs.Calls.{granted, refused, write, written_after, Outcome}

@@ -17,7 +17,7 @@ use mir.Val.{SFits, to_z}
 use Rattle.arithmetic.specs.Writing.{table, overwrite}
 use Rattle.arithmetic.proofs.Bools.{or_left, or_right}
 use Rattle.arithmetic.proofs.Writing.{length-table, get_d_table}
-use Rattle.model.specs.declared.Refusal.{Refusal}
+use Rattle.model.specs.Refusals.{Refusal}
 use Rattle.model.specs.Ensemble.{ticks}
 use Rattle.model.specs.RoundSheet.{fca, byte, word, settings_at, reading_bytes}
 use Rattle.model.specs.Planner.{max_rounds}

@@ -9,7 +9,7 @@ use native.Mathlib.Omega.{arith}
 use lib.IntN.{ℤ}
 use lib.ListN.{length}
 use Rattle.model.specs.declared.Settings.{Settings}
-use Rattle.model.specs.declared.Refusal.{Refusal}
+use Rattle.model.specs.Refusals.{Refusal}
 use Rattle.model.specs.RoundSheet.{header_size, byte, bits_in, entry_count, sheet_length}
 use Rattle.model.specs.Refusals.{Check, or_next, first_of, settings_checks, array_checks, write_checks}
 use Rattle.model.specs.Refusals.{bad_length, no_room, bad_mark, bad_missing}

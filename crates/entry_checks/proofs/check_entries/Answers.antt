@@ -8,7 +8,7 @@ use Rattle.entry_checks.proofs.check_entries.Goals as goal
 
 pub returns-then-sheet-sheet_length : goal.returns-then-sheet-sheet_length
 returns-then-sheet-sheet_length c =
-    ap some c.refuse.ensures
+    ap some c.into.ensures
     ∙ body-length-refused c.args.sheet.now c.args.settings c.sheet_length.result c.sheet_length.ensures
     c.if-sheet-sheet_length.true
 

@@ -10,11 +10,9 @@ pub returns-then-seen-eq0 : goal.returns-then-seen-eq0
 returns-then-seen-eq0 c =
     all-present c.args.marks.now c.survey-seen.result c.survey-seen.ensures c.args.readings.now c.if-seen-eq0.true
 
-pub returns-in-Passed : goal.returns-in-Passed
-returns-in-Passed c =
+pub returns : goal.returns
+returns c =
     let a = c.args in
-    c.search-in-Passed.ensures
+    c.search-2.ensures
     ∙ ap (λ (k : Check). or_next k (missing_in a.marks.now a.readings.now))
-    (sym (ap check_of c.in-Passed.is)
-    ∙ c.search.ensures
-    ∙ eighth a.marks.now c.survey-seen.result c.survey-seen.ensures)
+    (c.in_ok-search.ensures ∙ eighth a.marks.now c.survey-seen.result c.survey-seen.ensures)

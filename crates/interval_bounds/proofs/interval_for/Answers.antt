@@ -2,7 +2,7 @@
 -- greatest decide. Past the first test every input is in its range.
 use Rattle.std.proofs.Common.{sym, ap, ◌∙◌, ℕ, arith}
 use mathlib.Core.Path.{ap₂}
-use Rattle.model.specs.declared.Refusal.{Refusal}
+use Rattle.model.specs.Refusals.{Refusal}
 use Rattle.model.specs.Calls.{granted, refused}
 use Rattle.interval.proofs.Guarantee.{in_range_lem, interval-outside, interval-none, interval-found}
 use Rattle.interval_bounds.proofs.interval_for.Goals as goal

@@ -4,9 +4,9 @@ use Rattle.mark_checks.proofs.Marks.{survey_none, survey_next}
 use Rattle.mark_checks.proofs.survey.Goals as goal
 
 pub entries-init : goal.entries-init
-entries-init c = (omega arith, survey_none c.args.marks.now)
+entries-init c = survey_none c.args.marks.now
 
 pub entries-preserved : goal.entries-preserved
 entries-preserved c =
     let m = c.entries in
-    (omega arith, c.with_mark-seen.ensures ∙ survey_next c.args.marks.now m.t m.seen m.invariant.1)
+    c.with_mark-seen.ensures ∙ survey_next c.args.marks.now m.mark-index m.seen m.invariant

@@ -6,16 +6,14 @@ use Rattle.missing_search.proofs.Places.{place_none, place-next}
 use Rattle.missing_search.proofs.lowest_place.Goals as goal
 
 pub entries-init : goal.entries-init
-entries-init c = (omega arith, place_none (fault c.args.marks.now c.args.readings.now))
+entries-init c = place_none (fault c.args.marks.now c.args.readings.now)
 
 pub entries-preserved : goal.entries-preserved
 entries-preserved c =
     let a = c.args in
-    let m = c.entries in (
-      omega arith,
-      c.lower-place.ensures
-          ∙ place-next (fault a.marks.now a.readings.now) m.entry
-          (omega (arith, c.requires.1))
-          m.invariant.1
-          (c.place_if-here.ensures ∙ ap (λ (b : Bool). cond b m.entry most_entries) c.not_zero.ensures),
-    )
+    let m = c.entries in
+    c.min-place.ensures
+    ∙ place-next (fault a.marks.now a.readings.now) m.entry
+    (omega (arith, c.requires.1))
+    m.invariant
+    (c.place_if.ensures ∙ ap (λ (b : Bool). cond b m.entry most_entries) c.not_zero.ensures)

@@ -24,7 +24,7 @@ returns c =
     let marks = c.args.marks.now in
     let readings = c.args.readings.now in
     let few = fit-few marks readings c.misfit.ensures c.if-misfit.false in
-    ap some c.refuse_at.ensures
+    ap some c.at.ensures
     ∙ sym (ap (λ (o : Option ℕ). at_entry o bad_missing_number)
     (somewhere (fault marks readings) (length marks) c.lowest_place-place.result few
     c.lowest_place-place.ensures c.if-place-eq-NOWHERE.false))

@@ -3,7 +3,7 @@ use Rattle.std.proofs.Common.{refl, sym, ◌∙◌, subst, arith}
 use Prim.Native.Nat.{zero-le}
 use borrow.Author.Tests.{leb-true, leb-false, ltb-true, ltb-false}
 use Rattle.model.specs.Planner.{max_rounds}
-use Rattle.model.specs.declared.Refusal.{Refusal}
+use Rattle.model.specs.Refusals.{Refusal}
 use Rattle.model.specs.Calls.{refused, Target}
 use Rattle.planner_laws.proofs.Checks.{none-may-start}
 use Rattle.planner.specs.Answers.{plan_of}

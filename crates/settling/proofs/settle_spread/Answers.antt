@@ -1,6 +1,6 @@
 -- At each answer the inspections that led there say which check refuses first, or that only check 10 is left.
 use Rattle.std.proofs.Common.{◌≡◌, ap, ◌∙◌, ℕ, ◌+◌, ◌-◌, ◌≤◌, length, arith}
-use Rattle.model.specs.declared.Refusal.{Refusal}
+use Rattle.model.specs.Refusals.{Refusal}
 use Rattle.model.specs.AnswerSheet.{answer_length}
 use Rattle.settling.specs.Answers.{settling_of}
 use Rattle.settling.specs.declared.Settled.TheVariants.{Refused}

@@ -12,9 +12,10 @@ use Rattle.model.specs.Refusals.{Check, or_next, first_of, sheet_checks, entry_c
 use Rattle.model.specs.Calls.{Verdict, granted, refused, verdict}
 use Rattle.refusal_laws.proofs.Checks.{next-none-left, next-none-right}
 use Rattle.sheet_laws.proofs.Checks.{room-passed}
-use Rattle.sheet_laws.proofs.Outcomes.{granted-none, granted-same}
+use Rattle.sheet_laws.proofs.Outcomes.{granted-none, granted-same, refused-some}
 use Rattle.sheet_laws.proofs.Orders.{read-checks}
 use Rattle.sheet_laws.proofs.Inspection.{Inspected, inspected}
+use Rattle.entry_checks.proofs.Body.{body_checks, body-entries}
 
 next_assoc : (a b c : Check) → or_next a (or_next b c) ≡ or_next (or_next a b) c
 next_assoc none b c = refl
@@ -25,29 +26,43 @@ module _ (s : List ℕ) (m r : ℕ) where
   abbrev room : Settings → Check
   room c = or_next (no_room m (entry_count c)) (no_room r (entry_count c))
 
-  pub reading-refused :
-      (x : Refusal) → first_of (sheet_checks s) ≡ some x → refused x ≡ verdict (first_of (read_checks s m r)) (settings_at s)
-  reading-refused x h = rw (read-checks s m r, h)
+  pub sizes_refused :
+      (x : Refusal) → refused x ≡ verdict (first_of (sheet_checks s)) (settings_at s)
+      → refused x ≡ verdict (first_of (read_checks s m r)) (settings_at s)
+  sizes_refused x h = rw (read-checks s m r, refused-some (first_of (sheet_checks s)) (settings_at s) x (sym h))
 
-  module _ (c : Settings) (i : Inspected s c) where
-    after-sizes : first_of (read_checks s m r) ≡ or_next (room c) (first_of (entry_checks s))
-    after-sizes =
-        read-checks s m r
-        ∙ rw (i.passes, i.settings)
-        (next_assoc (no_room m (entry_count c)) (no_room r (entry_count c)) (first_of (entry_checks s)))
+  after-sizes :
+      (c : Settings) → Inspected s c → first_of (read_checks s m r) ≡ or_next (room c) (first_of (entry_checks s))
+  after-sizes c i =
+      read-checks s m r
+      ∙ rw (i.passes, i.settings)
+      (next_assoc (no_room m (entry_count c)) (no_room r (entry_count c)) (first_of (entry_checks s)))
 
-    pub room-refused :
-        (x : Refusal) → room c ≡ some x → refused x ≡ verdict (first_of (read_checks s m r)) (settings_at s)
-    room-refused x h = rw (after-sizes, h)
+  module _ (c : Settings) (sized : granted c ≡ verdict (first_of (sheet_checks s)) (settings_at s)) where
+    i : Inspected s c
+    i = inspected s c (sym sized)
 
-    pub entries_decide :
-        room c ≡ none → {o : Verdict Settings} {x : Check} → o ≡ verdict x c → x ≡ first_of (entry_checks s)
-        → o ≡ verdict (first_of (read_checks s m r)) (settings_at s)
-    entries_decide pass e h =
-        e
-        ∙ ap₂ verdict
-        (h ∙ sym (after-sizes ∙ ap (λ (x : Check). or_next x (first_of (entry_checks s))) pass))
-        (sym i.settings)
+    pub room_refused :
+        (x : Refusal) → some x ≡ or_next (no_room m (entry_count c)) (no_room r (entry_count c))
+        → refused x ≡ verdict (first_of (read_checks s m r)) (settings_at s)
+    room_refused x h = rw (after-sizes c i, sym h)
+
+    module _ (pass : none ≡ or_next (no_room m (entry_count c)) (no_room r (entry_count c))) where
+      decide : {x : Check} → x ≡ body_checks s c → verdict x c ≡ verdict (first_of (read_checks s m r)) (settings_at s)
+      decide h =
+          ap₂ verdict
+          (h
+          ∙ body-entries s c i
+          ∙ sym (after-sizes c i ∙ ap (λ (x : Check). or_next x (first_of (entry_checks s))) (sym pass)))
+          (sym i.settings)
+
+      pub entries_refused :
+          (x : Refusal) → some x ≡ body_checks s c
+          → refused x ≡ verdict (first_of (read_checks s m r)) (settings_at s)
+      entries_refused x h = decide h
+
+      pub all_granted : none ≡ body_checks s c → granted c ≡ verdict (first_of (read_checks s m r)) (settings_at s)
+      all_granted h = decide h
 
   -- what it means that checks 1 to 9 grant settings
   pub record Openable (c : Settings) : Type 0 where

@@ -3,13 +3,14 @@
 --   refusal_of               a refusal: its number and its place
 --   check_of                 what a check says: nothing, or its refusal
 --   verdict_of               what a call answers: what it grants, or the refusal
-use Rattle.std.specs.Prelude.{Result, Ok, Err, ⊤, ℕ}
+--   outcome_of               the same of a length, with the buffer that the call was lent
+use Rattle.std.specs.Prelude.{List, Result, Ok, Err, ⊤, ℕ}
 use Rattle.std.proofs.Math.Option.{none, some}
 use Rattle.model.specs.Refusals.{too_short_number, bad_cabinets_number, bad_faults_number, bad_method_number, bad_window_number, bad_length_number}
 use Rattle.model.specs.Refusals.{no_room_number, bad_mark_number, bad_missing_number, too_many_faults_number, bad_plan_number, target_missed_number}
 use Rattle.model.specs.Refusals.{bad_trace_number, bad_roles_number, run_stopped_number, bad_spread_number, bad_interval_number, no_interval_number, bad_pair_number}
 use Rattle.model.specs.Refusals.{Refusal, Check}
-use Rattle.model.specs.Calls.{Verdict, granted, refused}
+use Rattle.model.specs.Calls.{Verdict, granted, refused, Outcome}
 use Rattle.refusals.specs.declared.Refusal as code
 use Rattle.refusals.specs.declared.Reason.{Reason}
 use Rattle.refusals.specs.declared.Reason.TheVariants.{TooShort, BadCabinets, BadFaults, BadMethod, BadWindow, BadLength, NoRoom, BadMark, BadMissing, TooManyFaults, BadPlan, TargetMissed, BadTrace, BadRoles, RunStopped, BadSpread, BadInterval, NoInterval, BadPair}
@@ -47,3 +48,7 @@ module _ {A : Type 0} where
   abbrev pub verdict_of : Result A code.Refusal → Verdict A
   verdict_of (Ok a) = granted a
   verdict_of (Err r) = refused (refusal_of r)
+
+-- a length or the refusal, with the buffer as the call leaves it
+abbrev pub outcome_of : Result ℕ code.Refusal → List ℕ → Outcome
+outcome_of r buffer = record { verdict = verdict_of r; buffer = buffer }

@@ -18,15 +18,15 @@ use Rattle.sheet_laws.proofs.Outcomes.{refused-some, read-grants}
 use Rattle.sheet_laws.proofs.Parts.{marks_part, table-part}
 use Rattle.reader_checks.proofs.Opening.{Openable}
 
-pub reader-refuses :
+pub reader_refuses :
     (s marks : List ℕ) (readings : List ℤ) (r : Refusal)
-    → verdict (first_of (read_checks s (length marks) (length readings))) (settings_at s) ≡ refused r
+    → refused r ≡ verdict (first_of (read_checks s (length marks) (length readings))) (settings_at s)
     → ◌≡◌ {A = Read} (record { verdict = refused r; marks = marks; readings = readings }) (read s marks readings)
 unfolding read
-reader-refuses s marks readings r h =
+reader_refuses s marks readings r h =
     sym
     (ap (λ (x : Check). read_after x s marks readings)
-    (refused-some (first_of (read_checks s (length marks) (length readings))) (settings_at s) r h))
+    (refused-some (first_of (read_checks s (length marks) (length readings))) (settings_at s) r (sym h)))
 
 -- the two arrays filled are what the reader leaves
 pub reader_fills :

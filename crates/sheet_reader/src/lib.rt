@@ -9,8 +9,8 @@ ghost use Rattle.model.specs.RoundSheet.{word, bits_at, header_size};
 ghost use Rattle.model.specs.Calls.{read};
 ghost use Rattle.sheet_reader.specs.Answers.{read_of};
 
-use model::HEADER_SIZE;
-use sheet_checks::Opened;
+use model::{HEADER_SIZE, Settings};
+use refusals::Refusal;
 use tick::Tick;
 
 // The reading whose four bytes start at byte i.
@@ -29,35 +29,22 @@ fn decode(sheet: &[u8], entries: usize, readings: &mut [i32])
         ≡ overwrite (table (λ e. to_z w32 (bits_at sheet.now entries e)) entries)
         readings.old }
 {
-    let mut e: usize = 0;
-    'entries: while e < entries {
+    'entries: for e in 0..entries {
         readings[e] = reading_at(sheet, HEADER_SIZE + entries + 4 * e);
-        e += 1;
     }
-}
-
-// Copies a part to the front of a list that has room for it.
-fn copy(part: &[u8], list: &mut [u8])
-    requires { length part.now ≤ length list.old }
-    ensures { list.new ≡ overwrite part.now list.old }
-{
-    list[..part.len()].copy_from_slice(part);
 }
 
 // The reader: the settings, with the first entries of marks and readings filled from the sheet, or the first refusal
 // of checks 1 to 9, which fills nothing.
-pub fn read(sheet: &[u8], marks: &mut [u8], readings: &mut [i32]) -> Opened
+#[tactic(auto, using(crate::proofs::Filling::reader_refuses))]
+pub fn read(sheet: &[u8], marks: &mut [u8], readings: &mut [i32]) -> Result<Settings, Refusal>
     ensures { read_of result marks.new readings.new
         ≡ read sheet.now marks.old readings.old }
 {
-    match reader_checks::check(sheet, marks.len(), readings.len()) {
-        Opened::Refused(r) => Opened::Refused(r),
-        Opened::Granted(settings) => {
-            let entries = sheet_sizes::entry_count(settings);
-            let body = HEADER_SIZE + entries;
-            copy(&sheet[HEADER_SIZE..body], marks);
-            decode(sheet, entries, readings);
-            Opened::Granted(settings)
-        }
-    }
+    let settings = reader_checks::check(sheet, marks.len(), readings.len())?;
+    let entries = sheet_sizes::entry_count(settings);
+    let body = HEADER_SIZE + entries;
+    part_writer::put_part(&sheet[HEADER_SIZE..body], marks);
+    decode(sheet, entries, readings);
+    Ok(settings)
 }

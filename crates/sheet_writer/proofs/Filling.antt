@@ -15,12 +15,12 @@ use Rattle.model.specs.Calls.{granted, refused, write, written_after, Outcome}
 use Rattle.sheet_laws.proofs.Outcomes.{write-grants}
 
 module _ (c : Settings) (marks : List ℕ) (readings : List ℤ) (buffer : List ℕ) where
-  pub writer-refuses :
-      (r : Refusal) → first_of (write_checks c marks readings (length buffer)) ≡ some r
+  pub writer_refuses :
+      (r : Refusal) → some r ≡ first_of (write_checks c marks readings (length buffer))
       → ◌≡◌ {A = Outcome} (record { verdict = refused r; buffer = buffer }) (write c marks readings buffer)
   unfolding write
-  writer-refuses r h =
-      sym (ap (λ (x : Check). written_after x (sheet_length c) (sheet_bytes c marks readings) buffer) h)
+  writer_refuses r h =
+      sym (ap (λ (x : Check). written_after x (sheet_length c) (sheet_bytes c marks readings) buffer) (sym h))
 
   -- the buffer filled is what the writer leaves
   pub writer_fills :

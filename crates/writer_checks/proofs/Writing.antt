@@ -3,7 +3,7 @@
 -- Assumes nothing.
 use mathlib.Core.List.{List, [], ◌∷◌, ◌++◌, append_assoc}
 use mathlib.Core.Option.{none, some}
-use mathlib.Core.Path.{◌≡◌, sym, ap, ap₂, ◌∙◌}
+use mathlib.Core.Path.{◌≡◌, refl, sym, ap, ap₂, ◌∙◌}
 use Prim.Native.Nat.{ℕ, ◌+◌, ◌*◌, ◌≤◌}
 use native.Mathlib.Omega.{arith}
 use lib.IntN.{ℤ}
@@ -78,12 +78,12 @@ module _ (c : Settings) (marks : List ℕ) (readings : List ℤ) (room : ℕ) wh
       ∙ first_append (settings_checks c ++ lengths) entries
 
   pub lengths_refused :
-      (r : Refusal) → first_of (length_checks c (length marks) (length readings) room) ≡ some r
+      (r : Refusal) → some r ≡ first_of (length_checks c (length marks) (length readings) room)
       → some r ≡ first_of (write_checks c marks readings room)
   lengths_refused r h =
       sym
       (write-order
-      ∙ ap (λ (x : Check). or_next x (first_of (array_checks (byte marks) (bits_in readings) (entry_count c)))) h)
+      ∙ ap (λ (x : Check). or_next x (first_of (array_checks (byte marks) (bits_in readings) (entry_count c)))) (sym h))
 
   both :
       first_of (array_checks (byte marks) (bits_in readings) (entry_count c))
@@ -114,6 +114,14 @@ module _ (c : Settings) (marks : List ℕ) (readings : List ℤ) (room : ℕ) wh
         (write-order
         ∙ ap (λ (x : Check). or_next x (first_of (array_checks (byte marks) (bits_in readings) (entry_count c)))) pass
         ∙ both)
+
+  -- where the marks are refused, they refuse first
+  pub marks_refused :
+      none ≡ first_of (length_checks c (length marks) (length readings) room) → (r : Refusal) → some r ≡ marks_in marks
+      → some r ≡ first_of (write_checks c marks readings room)
+  marks_refused pass r e =
+      entries_decide (writable c (length marks) (length readings) room (sym pass)) (sym pass)
+      {x = some r} {found = some r} {missing = bad_missing (byte marks) (bits_in readings) (length marks)} refl e refl
 
   -- where all pass, the sheet lies in the buffer
   pub written-within :

@@ -7,17 +7,13 @@ use Rattle.sheet_laws.proofs.Readings.{bits_again}
 use Rattle.sheet_reader.proofs.decode.Goals as goal
 
 pub entries-init : goal.entries-init
-entries-init c =
-    (omega arith, refl, store-none (λ i. to_z w32 (bits_at c.args.sheet.now c.args.entries i)) c.args.readings.now)
+entries-init c = store-none (λ i. to_z w32 (bits_at c.args.sheet.now c.args.entries i)) c.args.readings.now
 
 pub entries-preserved : goal.entries-preserved
 entries-preserved c =
     let m = c.entries in
     let a = c.args in
-    let reading = c.reading_at.result in (
-      omega arith,
-      simp length-set m.invariant.1,
-      store-next (λ i. to_z w32 (bits_at a.sheet.now a.entries i)) m.e a.readings.now m.readings
-          (to_z w32 (of_z w32 reading)) m.invariant.2
-          (bits_again reading (omega arith) ∙ c.reading_at.ensures) (omega arith),
-    )
+    let reading = c.reading_at.result in
+    store-next (λ i. to_z w32 (bits_at a.sheet.now a.entries i)) m.e a.readings.now m.readings
+    (to_z w32 (of_z w32 reading)) m.invariant
+    (bits_again reading (omega arith) ∙ c.reading_at.ensures) (omega arith)

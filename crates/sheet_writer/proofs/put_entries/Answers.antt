@@ -4,15 +4,16 @@ use Rattle.model.specs.RoundSheet.{reading_bytes}
 use Rattle.sheet_laws.proofs.Storing.{tail_written}
 use Rattle.reading_writer.proofs.Stored.{readings-put}
 use Rattle.sheet_writer.proofs.Stores.{length_tail}
+use Rattle.part_writer.proofs.Fitting.{part_fits}
 use Rattle.sheet_writer.proofs.put_entries.Goals as goal
 
 pub returns : goal.returns
 returns c =
     let a = c.args in
     let at = length a.marks.now in
-    let copied = c.copy.new.list in
+    let copied = c.put_part.new.list in
     tail_written a.marks.now (reading_bytes a.readings.now) a.buffer.now copied c.put_readings.new.buffer at refl
-    c.copy.ensures
+    (c.put_part.ensures ∙ part_fits a.marks.now a.buffer.now (omega arith))
     (c.put_readings.ensures
     ∙ readings-put a.readings.now (take (length copied - at) (drop at copied))
-    (omega (arith, length_tail copied at, c.copy.auto.list, c.requires)))
+    (omega (arith, length_tail copied at, c.put_part.auto.list, c.requires)))

@@ -6,7 +6,7 @@ use Rattle.sheet_laws.proofs.Written.{length-size_bytes}
 use Rattle.sheet_laws.proofs.Storing.{tail_written}
 use Rattle.writer_checks.proofs.Writing.{written-within}
 use Rattle.size_writer.proofs.Stores.{sizes-put}
-use Rattle.sheet_writer.proofs.Filling.{writer-refuses, writer_fills}
+use Rattle.sheet_writer.proofs.Filling.{writer_fills}
 use Rattle.sheet_writer.proofs.Stores.{length_tail}
 use Rattle.sheet_writer.proofs.write.Goals as goal
 
@@ -15,7 +15,7 @@ slice_bounds-put_entries-count c =
     let a = c.args in
     let within =
     written-within a.settings a.marks.now a.readings.now (length a.buffer.now)
-    (sym c.check.ensures ∙ ap check_of c.in-Passed.is) in
+    (sym c.in_ok-check.ensures) in
     omega (arith, c.put_sizes.auto.buffer, within)
 
 pub slice_bounds-put_entries-start : goal.slice_bounds-put_entries-start
@@ -23,7 +23,7 @@ slice_bounds-put_entries-start c =
     let a = c.args in
     let within =
     written-within a.settings a.marks.now a.readings.now (length a.buffer.now)
-    (sym c.check.ensures ∙ ap check_of c.in-Passed.is) in
+    (sym c.in_ok-check.ensures) in
     omega (arith, c.put_sizes.auto.buffer, within)
 
 pub put_entries-requires : goal.put_entries-requires
@@ -31,19 +31,13 @@ put_entries-requires c =
     let a = c.args in
     let within =
     written-within a.settings a.marks.now a.readings.now (length a.buffer.now)
-    (sym c.check.ensures ∙ ap check_of c.in-Passed.is) in
+    (sym c.in_ok-check.ensures) in
     omega (arith, c.put_sizes.auto.buffer, length_tail c.put_sizes.new.buffer header_size, within)
 
-pub returns-in-Refused : goal.returns-in-Refused
-returns-in-Refused c =
+pub returns : goal.returns
+returns c =
     let a = c.args in
-    writer-refuses a.settings a.marks.now a.readings.now a.buffer.now c.in-Refused.r
-    (sym c.check.ensures ∙ ap check_of c.in-Refused.is)
-
-pub returns-in-Passed : goal.returns-in-Passed
-returns-in-Passed c =
-    let a = c.args in
-    let checks = sym c.check.ensures ∙ ap check_of c.in-Passed.is in
+    let checks = sym c.in_ok-check.ensures in
     let within = written-within a.settings a.marks.now a.readings.now (length a.buffer.now) checks in
     let sized = c.put_sizes.new.buffer in
     writer_fills a.settings a.marks.now a.readings.now a.buffer.now

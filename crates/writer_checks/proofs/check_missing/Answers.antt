@@ -12,32 +12,30 @@ abbrev fault : List ℕ → List ℤ → ℕ → Bool
 fault marks readings i = not_zero (byte marks i) (bits_in readings i)
 
 pub entries-init : goal.entries-init
-entries-init c = (omega arith, search_none (fault c.args.marks.now c.args.readings.now))
+entries-init c = search_none (fault c.args.marks.now c.args.readings.now)
 
 pub returns-then-not_zero : goal.returns-then-not_zero
 unfolding bad_missing
 returns-then-not_zero c =
     let a = c.args in
-    ap some c.refuse_at.ensures
+    ap some c.at.ensures
     ∙ check_found (fault a.marks.now a.readings.now) bad_missing_number (length a.marks.now) c.entries.e (omega arith)
-    c.entries.invariant.1
+    c.entries.invariant
     (ap (λ (z : ℤ). not_zero (byte a.marks.now c.entries.e) (of_z w32 z))
     (sym (bits_again (get_or a.readings.now c.entries.e (pos 0)) (omega arith)))
     ∙ sym c.not_zero.ensures ∙ c.if-not_zero.true)
 
 pub entries-preserved : goal.entries-preserved
 entries-preserved c =
-    let a = c.args in (
-      omega arith,
-      search_more (fault a.marks.now a.readings.now) c.entries.e c.entries.invariant.1
-          (ap (λ (z : ℤ). not_zero (byte a.marks.now c.entries.e) (of_z w32 z))
-          (sym (bits_again (get_or a.readings.now c.entries.e (pos 0)) (omega arith)))
-          ∙ sym c.not_zero.ensures ∙ c.if-not_zero.false),
-    )
+    let a = c.args in
+    search_more (fault a.marks.now a.readings.now) c.entries.e c.entries.invariant
+    (ap (λ (z : ℤ). not_zero (byte a.marks.now c.entries.e) (of_z w32 z))
+    (sym (bits_again (get_or a.readings.now c.entries.e (pos 0)) (omega arith)))
+    ∙ sym c.not_zero.ensures ∙ c.if-not_zero.false)
 
 pub returns : goal.returns
 unfolding bad_missing
 returns c =
     let a = c.args in
     check_ended (fault a.marks.now a.readings.now) bad_missing_number (length a.marks.now) c.entries.e
-    c.entries.invariant.0 c.entries-test.false c.entries.invariant.1
+    (omega arith) (omega arith) c.entries.invariant

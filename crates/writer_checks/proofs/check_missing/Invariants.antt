@@ -1,4 +1,4 @@
--- No entry passed is at fault. The measure is what is left of the marks.
+-- No entry passed is at fault.
 use Rattle.std.proofs.Common.{◌≡◌, ◌-◌, ◌≤◌, length}
 use Rattle.std.proofs.Math.Option.{none}
 use Rattle.arithmetic.specs.Counting.{lowest}
@@ -8,7 +8,4 @@ use Rattle.writer_checks.proofs.check_missing.Given as goal
 
 abbrev pub invariant-entries : goal.invariant-entries
 invariant-entries l =
-    (l.e ≤ length l.marks) × (lowest (λ i. not_zero (byte l.marks i) (bits_in l.readings i)) l.e ≡ none)
-
-abbrev pub decreases-entries : goal.decreases-entries
-decreases-entries l = length l.marks - l.e
+    lowest (λ i. not_zero (byte l.marks i) (bits_in l.readings i)) l.e ≡ none

@@ -1,10 +1,9 @@
 // Writes the answer sheet of a settled round, of which the marks and the values are held beside each other.
 #![tactic(auto)]
 
-ghost use Rattle.std.specs.Prelude.{◌≡◌, ◌+◌, ◌*◌, ◌≤◌, ◌++◌, length, drop};
+ghost use Rattle.std.specs.Prelude.{◌≡◌, ◌*◌, ◌≤◌, ◌++◌, length, drop};
 ghost use Rattle.arithmetic.specs.Writing.{table, overwrite};
 ghost use Rattle.model.specs.RoundSheet.{reading_bytes};
-ghost use Rattle.sheet_laws.specs.Storing.{put_word};
 ghost use Rattle.model.specs.AnswerSheet.{answer_bytes, answer_length};
 ghost use Rattle.model.specs.Ensemble.{max_cabinets};
 ghost use Rattle.answer_parts.specs.Parts.{roomy};
@@ -31,7 +30,7 @@ fn put_used(marks: &[u8], values: &[u32], estimate: u32, tail: &mut [u8])
         tail.old }
 {
     'values: for (r, mark) in marks.iter().enumerate() {
-        word_writer::put_word(tail, 4 * r, answer_parts::used(*mark, values[r], estimate));
+        word_writer::put_word_in(tail, 4 * r, answer_parts::used(*mark, values[r], estimate));
     }
 }
 
@@ -61,6 +60,7 @@ fn put_parts(count: u8, estimate: u32, value: u32, marks: &[u8], values: &[u32],
 
 // The answer sheet of a settled round. Where there are not as many values as marks, or the buffer has no room, it
 // writes nothing and answers false.
+#[tactic(auto, unfolding(answer_parts::specs::Parts::roomy, crate::specs::Answers::written_of))]
 pub fn put_answer(
     count: u8,
     estimate: u32,

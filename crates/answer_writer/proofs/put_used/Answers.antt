@@ -1,5 +1,5 @@
 -- `answer_writer::put_used` meets its contract, one number after the other.
-use Rattle.std.proofs.Common.{length, pos, of_z, refl, sym, ap, ◌∙◌, rules, arith}
+use Rattle.std.proofs.Common.{length, pos, of_z, refl, sym, ap, ◌∙◌, arith}
 use Rattle.std.specs.Int.{w32}
 use Rattle.arithmetic.specs.Writing.{table}
 use Rattle.arithmetic.proofs.Writing.{length-table, get_d_table}
@@ -20,12 +20,12 @@ values-preserved c =
     let n = length a.marks.now in
     let wanted = used_in a.marks.now a.values.now a.estimate in
     let long = length-table wanted n in (
-      c.put_word.ensures
+      c.put_word_in.ensures
           ∙ put_next (table wanted n) v.r a.tail.now v.tail c.used.result v.invariant.0
           (omega arith)
           (c.used.ensures ∙ ap (of_z w32) (sym (get_d_table wanted n v.r (pos 0) c.values-test.true)))
           (omega (arith, c.requires.room)),
-      c.put_word.auto.buffer ∙ v.invariant.1,
+      c.put_word_in.auto.buffer ∙ v.invariant.1,
     )
 
 pub returns : goal.returns

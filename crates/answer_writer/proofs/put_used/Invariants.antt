@@ -1,5 +1,5 @@
 -- The loop's invariant: the bytes of the first r used values are written, and the others are as they were.
-use Rattle.std.proofs.Common.{◌≡◌, ◌-◌, ◌≤◌, length, take}
+use Rattle.std.proofs.Common.{◌≡◌, length, take}
 use Rattle.arithmetic.specs.Writing.{table, overwrite}
 use Rattle.model.specs.RoundSheet.{reading_bytes}
 use Rattle.answer_writer.specs.Answers.{used_in}

@@ -2,9 +2,9 @@
 -- Assumes nothing.
 use mathlib.Core.List.{List, [], ◌∷◌}
 use mathlib.Core.Path.{◌≡◌, refl, sym, ap, ◌∙◌}
-use Prim.Native.Nat.{ℕ, suc, ◌≤◌, ◌<◌}
+use Prim.Native.Nat.{ℕ, suc, ◌≤◌}
 use native.Mathlib.Omega.{arith}
-use borrow.Author.Tests.{le-leb, lt-leb}
+use borrow.Author.Tests.{le-leb}
 use lib.ListN.{length, set}
 use Rattle.arithmetic.specs.Writing.{overwrite}
 use Rattle.arithmetic.proofs.Writing.{overwrite_nil, overwrite_snoc}
@@ -30,13 +30,9 @@ header-stored b n count e v h =
     six : length (n ∷ count ∷ bytes4 e) ≡ 6
     six = ap (λ (k : ℕ). suc (suc k)) (length-bytes4 e)
 
--- where there is room for it, and where not
-module _ (b : List ℕ) (n count e v : ℕ) where
-  pub header-written :
-      answer_header_size ≤ length b → put_word (put_word (set (set b 0 n) 1 count) 2 e) 6 v ≡ headed n count e v b
-  unfolding headed
-  header-written h = header-stored b n count e v h ∙ rw (le-leb answer_header_size (length b) h)
-
-  pub header-unwritten : length b < answer_header_size → b ≡ headed n count e v b
-  unfolding headed
-  header-unwritten h = rw (lt-leb answer_header_size (length b) h)
+pub header-written :
+    (b : List ℕ) (n count e v : ℕ)
+    → answer_header_size ≤ length b
+    → put_word (put_word (set (set b 0 n) 1 count) 2 e) 6 v ≡ headed n count e v b
+unfolding headed
+header-written b n count e v h = header-stored b n count e v h ∙ rw (le-leb answer_header_size (length b) h)

@@ -12,16 +12,15 @@ use held::PRESENT;
 use model::{ANSWER_HEADER_SIZE, MAX_CABINETS};
 
 // Whether there are at most 64 marks, as many values, and room for the answer sheet.
+#[tactic(auto, unfolding(crate::specs::Parts::roomy))]
 pub fn has_room(n: usize, values: usize, room: usize) -> bool
     ensures { result ≡ roomy n values room }
 {
-    if (MAX_CABINETS as usize) < n {
-        return false;
-    }
-    (values == n) & (ANSWER_HEADER_SIZE + 5 * n <= room)
+    n <= MAX_CABINETS as usize && values == n && ANSWER_HEADER_SIZE + 5 * n <= room
 }
 
 // Bytes 0 to 9, of numbers given by their bits, where the buffer has room for them.
+#[tactic(auto, unfolding(crate::specs::Parts::headed))]
 pub fn put_header(n: u8, count: u8, estimate: u32, value: u32, answer: &mut [u8])
     ensures { answer.new ≡ headed n count estimate value answer.old }
 {

@@ -1,22 +1,19 @@
--- The bytes of an answer sheet, as the code stores them; and what is left in a buffer with and without room.
+-- The bytes of an answer sheet, as the code stores them.
 -- Assumes nothing.
-use mathlib.Core.Bool.{true, false, ◌&&◌}
+use mathlib.Core.Bool.{true}
 use mathlib.Core.List.{List, ◌++◌, append_assoc}
 use mathlib.Core.Path.{◌≡◌, refl, sym, ap, ap₂, ◌∙◌}
 use Prim.Native.Nat.{ℕ, ◌+◌, ◌-◌, ◌≤◌}
-use borrow.Author.Tests.{leb-true, eqb-true, le-leb}
-use lib.Dec.{leb, eqb}
+use borrow.Author.Tests.{le-leb}
 use lib.ListN.{length, take, drop, length-append}
 use mir.Syntax.{w32}
 use mir.Val.{of_z}
 use Rattle.arithmetic.specs.Writing.{table, overwrite}
 use Rattle.arithmetic.specs.Naturals.{down}
 use Rattle.arithmetic.specs.Words.{two_to31}
-use Rattle.arithmetic.proofs.Bools.{and_left, and_right}
 use Rattle.arithmetic.proofs.Writing.{table_get_d}
-use Rattle.model.specs.Ensemble.{max_cabinets}
 use Rattle.model.specs.RoundSheet.{bytes4, reading_bytes}
-use Rattle.model.specs.AnswerSheet.{header_bytes, answer_header, answer_bytes, answer_length, answer_header_size}
+use Rattle.model.specs.AnswerSheet.{header_bytes, answer_header, answer_bytes, answer_header_size}
 use Rattle.sheet_laws.proofs.Storing.{copy_overwrites, tail_written}
 use Rattle.answer_parts.specs.Parts.{roomy, headed}
 use Rattle.answer_writer.specs.Answers.{used_in, round_held, written_of}
@@ -86,32 +83,11 @@ module _ (marks values old : List ℕ) (count e v : ℕ) where
       long : length header ≡ answer_header_size
       long = length-header (length marks) count (of_z w32 (down two_to31 e)) (of_z w32 (down two_to31 v))
 
--- ---- what `put_answer` leaves
-
-module _ (n values room : ℕ) (fits : roomy n values room ≡ true) where
-  pub room-few : n ≤ max_cabinets
-  unfolding roomy
-  room-few = leb-true n max_cabinets (and_left (leb n max_cabinets) _ fits)
-
-  later : (eqb values n && leb (answer_length n) room) ≡ true
-  unfolding roomy
-  later = and_right (leb n max_cabinets) (eqb values n && leb (answer_length n) room) fits
-
-  pub room-alike : values ≡ n
-  room-alike = eqb-true values n (and_left (eqb values n) _ later)
-
-  pub room_large : answer_length n ≤ room
-  room_large = leb-true (answer_length n) room (and_right (eqb values n) (leb (answer_length n) room) later)
-
-module _ (count e v : ℕ) (marks values old : List ℕ) where
-  pub written :
-      roomy (length marks) (length values) (length old) ≡ true
-      → overwrite (answer_bytes (length marks) (round_held count e v marks values)) old
-      ≡ written_of count e v marks values old
-  unfolding written_of
-  written fits = rw fits
-
-  pub unwritten :
-      roomy (length marks) (length values) (length old) ≡ false → old ≡ written_of count e v marks values old
-  unfolding written_of
-  unwritten fits = rw fits
+-- what `put_answer` leaves in a buffer with room
+pub written :
+    (count e v : ℕ) (marks values old : List ℕ)
+    → roomy (length marks) (length values) (length old) ≡ true
+    → overwrite (answer_bytes (length marks) (round_held count e v marks values)) old
+    ≡ written_of count e v marks values old
+unfolding written_of
+written count e v marks values old fits = rw fits

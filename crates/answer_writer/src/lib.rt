@@ -1,28 +1,15 @@
 // Writes the answer sheet of a settled round, of which the marks and the values are held beside each other.
 #![tactic(auto)]
 
-ghost use Rattle.std.specs.Prelude.{◌≡◌, ◌+◌, ◌*◌, ◌≤◌, ◌++◌, length, drop};
+ghost use Rattle.std.specs.Prelude.{◌≡◌, ◌*◌, ◌≤◌, ◌++◌, length, drop};
 ghost use Rattle.arithmetic.specs.Writing.{table, overwrite};
 ghost use Rattle.model.specs.RoundSheet.{reading_bytes};
-ghost use Rattle.sheet_laws.specs.Storing.{put_word};
 ghost use Rattle.model.specs.AnswerSheet.{answer_bytes, answer_length};
 ghost use Rattle.model.specs.Ensemble.{max_cabinets};
 ghost use Rattle.answer_parts.specs.Parts.{roomy};
 ghost use Rattle.answer_writer.specs.Answers.{used_in, round_held, written_of};
 
 use model::ANSWER_HEADER_SIZE;
-
-// Stores the four bytes of x as number r of a list of numbers.
-fn store(tail: &mut [u8], r: usize, x: u32)
-    requires { 4 * r + 4 ≤ length tail.old }
-    ensures { tail.new ≡ put_word tail.old (4 * r) x }
-{
-    let i = 4 * r;
-    tail[i] = (x % 256) as u8;
-    tail[i + 1] = (x / 256 % 256) as u8;
-    tail[i + 2] = (x / 65536 % 256) as u8;
-    tail[i + 3] = (x / 16777216 % 256) as u8;
-}
 
 // Puts the marks at the front of a list that has room for them.
 fn copy(marks: &[u8], tail: &mut [u8])
@@ -42,10 +29,8 @@ fn put_used(marks: &[u8], values: &[u32], estimate: u32, tail: &mut [u8])
         (table (used_in marks.now values.now estimate) (length marks.now)))
         tail.old }
 {
-    let mut r: usize = 0;
-    'values: while r < marks.len() {
-        store(tail, r, answer_parts::used(marks[r], values[r], estimate));
-        r += 1;
+    'values: for (r, mark) in marks.iter().enumerate() {
+        word_writer::put_word_in(tail, 4 * r, answer_parts::used(*mark, values[r], estimate));
     }
 }
 
@@ -75,6 +60,7 @@ fn put_parts(count: u8, estimate: u32, value: u32, marks: &[u8], values: &[u32],
 
 // The answer sheet of a settled round. Where there are not as many values as marks, or the buffer has no room, it
 // writes nothing and answers false.
+#[tactic(auto, unfolding(answer_parts::specs::Parts::roomy, crate::specs::Answers::written_of))]
 pub fn put_answer(
     count: u8,
     estimate: u32,

@@ -2,7 +2,6 @@
 -- 2^32 with the order, the sums and the distances of the signed one.
 -- Assumes nothing.
 use Rattle.std.proofs.Common.{◌≡◌, ℕ, suc, ◌+◌, ◌-◌, ◌<◌, ◌≤◌, pos, negsuc, sym, ap, ◌∙◌, arith, w32, to_z, of_z, le-ltb, lt-ltb}
-use mir.Facts as facts
 use Rattle.arithmetic.specs.Naturals.{down}
 use Rattle.arithmetic.proofs.Shift.{down_pos, down_neg}
 use Rattle.arithmetic.specs.Words.{two_to31, two_to32}

@@ -25,14 +25,14 @@ const HALF: u32 = 2_147_483_648;
 pub fn bias(bits: u32) -> u32
     ensures { result ≡ up two_to31 (to_z w32 bits) }
 {
-    std::num::wrapping_add_u32(bits, HALF)
+    bits.wrapping_add(HALF)
 }
 
 // The bits of the number that was moved up.
 pub fn unbias(value: u32) -> u32
     ensures { result ≡ of_z w32 (down two_to31 value) }
 {
-    std::num::wrapping_add_u32(value, HALF)
+    value.wrapping_add(HALF)
 }
 
 // The mark that an entry is held with: present only where its mark is 1.

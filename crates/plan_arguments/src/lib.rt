@@ -63,21 +63,24 @@ fn complain(env: &impl Env, errors: &mut impl Write, name: &[u8], at: usize, wan
     console::write_all(errors, b"\n");
 }
 
-// The number that an argument is, or `number_parser::LIMIT`, which is complained about.
+// Above every number of 32 bits, for an argument that is none.
+const NO_NUMBER: u64 = 4_294_967_296;
+
+// The number that an argument is, or `NO_NUMBER`, which is complained about.
 fn number_at(env: &impl Env, errors: &mut impl Write, at: usize, name: &[u8]) -> u64 {
     let mut given = [0u8; 4096];
     let n = console::argument(env, at, &mut given);
-    let value = number_parser::number_in(&given[..n]);
-    if value >= number_parser::LIMIT {
-        complain(
-            env,
-            errors,
-            name,
-            at,
-            b"a whole number from 0 to 4294967295 is wanted",
-        );
+    if let Some(value) = number_parser::number_in(&given[..n]) {
+        return value as u64;
     }
-    value
+    complain(
+        env,
+        errors,
+        name,
+        at,
+        b"a whole number from 0 to 4294967295 is wanted",
+    );
+    NO_NUMBER
 }
 
 // Whether an argument is a word.
@@ -164,7 +167,7 @@ fn in_32_bits(value: u64) -> u32 {
 }
 
 fn is_number(value: u64) -> bool {
-    value < number_parser::LIMIT
+    value < NO_NUMBER
 }
 
 // The ninth argument, where it is given.

@@ -185,11 +185,14 @@ pub ranking_none :
 ranking_none values ranks₀ seen few room s =
     record { few = few; has = s; stores = storing_none (rank_at values) (length values) ranks₀ room }
 
-module _ (values ranks₀ seen ranks : List ℕ) (r : ℕ) (k : Ranking values ranks₀ seen ranks r) where
+module _ {values ranks₀ seen ranks : List ℕ} {r : ℕ} (k : Ranking values ranks₀ seen ranks r) where
   pub ranks_long : length ranks ≡ length ranks₀
   ranks_long = storing_long (rank_at values) (length values) ranks₀ ranks r k.stores
 
-  module _ (here : r < length values) (b : ℕ) (counted : b ≡ below_at values r) where
+  module _ (here : r < length values) {b : ℕ} (counts : b ≡ below_of values (value_at values r)) where
+    counted : b ≡ below_at values r
+    counted = counts ∙ below_of_lem values (value_at values r) k.few
+
     -- what is read and written fits
     pub found : (b < length seen) × (b + get_or seen b 0 ≡ rank_at values r) × (rank_at values r < max_cabinets)
     found = seen-rank values k.few r b seen here counted k.has

@@ -22,10 +22,8 @@ pub fn count_below(values: &[u32], value: u32) -> u32
         return 0;
     }
     let mut below: u32 = 0;
-    let mut t = 0;
-    'values: while t < values.len() {
-        below += (values[t] < value) as u32;
-        t += 1;
+    'values: for v in values {
+        below += (*v < value) as u32;
     }
     below
 }
@@ -37,13 +35,11 @@ fn rank_each(values: &[u32], seen: &mut [u8], ranks: &mut [u8])
     ensures { ranks.new
         ≡ overwrite (table (rank_at values.now) (length values.now)) ranks.old }
 {
-    let mut r = 0;
-    'numbers: while r < values.len() {
-        let below = count_below(values, values[r]) as usize;
+    'numbers: for (r, value) in values.iter().enumerate() {
+        let below = count_below(values, *value) as usize;
         let same = seen[below];
         ranks[r] = (below as u8) + same;
         seen[below] = same + 1;
-        r += 1;
     }
 }
 

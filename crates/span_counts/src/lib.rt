@@ -12,29 +12,17 @@ use model::MAX_CABINETS;
 // The most readings.
 const MOST: usize = MAX_CABINETS as usize;
 
-fn shorter(marks: usize, values: usize) -> usize
-    ensures { result ≡ places marks values }
-{
-    if marks < values {
-        if marks < MOST { marks } else { MOST }
-    } else {
-        if values < MOST { values } else { MOST }
-    }
-}
-
 // How many of at most 64 readings the span from a start holds.
 pub fn held_of_all(marks: &[u8], values: &[u32], start: u32, span: u32) -> u32
     ensures { result
         ≡ count (held_at start span marks.now values.now)
         (places (length marks.now) (length values.now)) }
 {
-    let n = shorter(marks.len(), values.len());
+    let n = marks.len().min(values.len()).min(MOST);
     let mut total: u32 = 0;
-    let mut t = 0;
-    'readings: while t < n {
+    'readings: for t in 0..n {
         let value = values[t];
         total += (spans::present(marks[t]) & spans::reached(start, span, value)) as u32;
-        t += 1;
     }
     total
 }

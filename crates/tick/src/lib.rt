@@ -7,7 +7,7 @@ ghost use Rattle.std.proofs.Common.{to_z, of_z};
 ghost use Rattle.model.specs.Ensemble.{ticks_per_second, lowest_reading, highest_reading};
 
 // A number of ticks: a reading, or a difference of readings.
-#[derive(Drop)]
+#[derive(Clone, Copy, Debug, PartialEq, Eq)]
 pub struct Tick(pub i32);
 
 impl Tick {
@@ -21,23 +21,14 @@ impl Tick {
     pub fn from_bits(bits: u32) -> Tick
         ensures { result.0 ≡ to_z w32 bits }
     {
-        if bits < 2_147_483_648 {
-            Tick(bits as i32)
-        } else {
-            Tick(!((4_294_967_295 - bits) as i32))
-        }
+        Tick(bits.cast_signed())
     }
 
     // The 32 bits in two's complement that a reading is.
     pub fn to_bits(self) -> u32
         ensures { result ≡ of_z w32 self.0 }
     {
-        let ticks = self.0;
-        if ticks < 0 {
-            !((!ticks) as u32)
-        } else {
-            ticks as u32
-        }
+        self.0.cast_unsigned()
     }
 }
 

@@ -1,10 +1,10 @@
 -- A part of a list, by whether all its bytes lie in it; and what stands at its places.
 -- Assumes nothing.
-use mathlib.Core.List.{List, []}
+use mathlib.Core.List.{List}
 use mathlib.Core.Path.{◌≡◌, ap, ◌∙◌}
-use Prim.Native.Nat.{ℕ, ◌+◌, ◌-◌, ◌≤◌, ◌<◌}
+use Prim.Native.Nat.{ℕ, ◌+◌, ◌≤◌, ◌<◌}
 use native.Mathlib.Omega.{arith}
-use borrow.Author.Tests.{lt-ltb, le-ltb}
+use borrow.Author.Tests.{le-ltb}
 use lib.ListN.{length, get_or, take, drop, length-drop}
 use lib.Seq.{length-take-le, get_or-take, get_or-drop}
 use Rattle.model.specs.RoundSheet.{word}
@@ -12,21 +12,10 @@ use Rattle.sheet_laws.proofs.Words.{word_ext}
 use Rattle.trace_parts.specs.Parts.{part_from}
 
 module _ (s : List ℕ) (start size : ℕ) where
-  pub part-past : length s < start + size → [] ≡ part_from s start size
-  unfolding part_from
-  part-past h = rw (lt-ltb (length s) (start + size) h)
-
   module _ (lies : start + size ≤ length s) where
     pub part_is : part_from s start size ≡ take size (drop start s)
     unfolding part_from
     part_is = rw (le-ltb (length s) (start + size) lies)
-
-    pub part_lies : take (start + size - start) (drop start s) ≡ part_from s start size
-    unfolding part_from
-    part_lies = rw (le-ltb (length s) (start + size) lies) (ap (λ (m : ℕ). take m (drop start s)) back)
-      where
-        back : start + size - start ≡ size
-        back = omega arith
 
     pub part_length : length (part_from s start size) ≡ size
     part_length =

@@ -9,14 +9,12 @@ ghost use Rattle.trace_parts.specs.Parts.{part_from};
 use model::TRACE_HEADER_SIZE;
 
 // So many bytes from a place on.
+#[tactic(auto, unfolding(crate::specs::Parts::part_from))]
 fn part(trace: &[u8], start: usize, size: usize) -> &[u8]
     ensures { result.now ≡ part_from trace.now start size }
 {
-    if trace.len() < size {
-        return &trace[..0];
-    }
-    if trace.len() - size < start {
-        return &trace[..0];
+    if trace.len() < size || trace.len() - size < start {
+        return &[];
     }
     &trace[start..start + size]
 }

@@ -7,7 +7,7 @@ ghost use Rattle.std.specs.Prelude.{◌≡◌, min, ltb};
 pub fn rounds_to_play(rounds: u8, most: u8) -> u8
     ensures { result ≡ min most rounds }
 {
-    if most < rounds { most } else { rounds }
+    most.min(rounds)
 }
 
 // Whether a trace has fewer rounds than k.

@@ -30,6 +30,7 @@ fn is_unfit(cabinets: usize, held: usize, room: usize) -> bool
 }
 
 // Writes the values of the cabinets, four bytes each, where they are held and fit: how many bytes.
+#[tactic(auto, unfolding(crate::specs::Values::size_put, crate::specs::Values::values_put))]
 pub fn put_values(roles: &[u8], held: &[u32], values: &mut [u8]) -> usize
     ensures value { result ≡ size_put roles.now held.now values.old }
     ensures values_after { values.new ≡ values_put roles.now held.now values.old }
@@ -37,10 +38,8 @@ pub fn put_values(roles: &[u8], held: &[u32], values: &mut [u8]) -> usize
     if is_unfit(roles.len(), held.len(), values.len()) {
         return 0;
     }
-    let mut p: usize = 0;
-    'cabinets: while p < roles.len() {
-        word_writer::put_word(values, 4 * p, shown(roles[p], held[p]));
-        p += 1;
+    'cabinets: for (p, role) in roles.iter().enumerate() {
+        word_writer::put_word(values, 4 * p, shown(*role, held[p]));
     }
-    4 * p
+    4 * roles.len()
 }

@@ -1,5 +1,5 @@
 -- `answer_writer::put_used` meets its contract, one number after the other.
-use Rattle.std.proofs.Common.{length, pos, of_z, refl, sym, ap, ◌∙◌, rules, arith}
+use Rattle.std.proofs.Common.{length, pos, of_z, refl, sym, ap, ◌∙◌, arith}
 use Rattle.std.specs.Int.{w32}
 use Rattle.arithmetic.specs.Writing.{table}
 use Rattle.arithmetic.proofs.Writing.{length-table, get_d_table}
@@ -11,7 +11,7 @@ pub values-init : goal.values-init
 values-init c =
     let a = c.args in
     let n = length a.marks.now in
-    (search rules, put-none (table (used_in a.marks.now a.values.now a.estimate) n) a.tail.now, refl)
+    (put-none (table (used_in a.marks.now a.values.now a.estimate) n) a.tail.now, refl)
 
 pub values-preserved : goal.values-preserved
 values-preserved c =
@@ -20,13 +20,12 @@ values-preserved c =
     let n = length a.marks.now in
     let wanted = used_in a.marks.now a.values.now a.estimate in
     let long = length-table wanted n in (
-      omega arith,
-      c.store.ensures
-          ∙ put_next (table wanted n) v.r a.tail.now v.tail c.used.result v.invariant.1
-          (omega (arith, c.values-test.true))
+      c.put_word_in.ensures
+          ∙ put_next (table wanted n) v.r a.tail.now v.tail c.used.result v.invariant.0
+          (omega arith)
           (c.used.ensures ∙ ap (of_z w32) (sym (get_d_table wanted n v.r (pos 0) c.values-test.true)))
           (omega (arith, c.requires.room)),
-      c.store.auto.tail ∙ v.invariant.2,
+      c.put_word_in.auto.buffer ∙ v.invariant.1,
     )
 
 pub returns : goal.returns
@@ -36,4 +35,4 @@ returns c =
     let n = length a.marks.now in
     let wanted = used_in a.marks.now a.values.now a.estimate in
     let long = length-table wanted n in
-    put_ended (table wanted n) v.r a.tail.now v.tail (omega (arith, c.values-test.false)) v.invariant.1
+    put_ended (table wanted n) v.r a.tail.now v.tail (omega arith) v.invariant.0

@@ -1,6 +1,5 @@
--- The loop's invariant: the bytes of the first r used values are written, and the others are as they were. The measure
--- is what is left of the values.
-use Rattle.std.proofs.Common.{◌≡◌, ◌-◌, ◌≤◌, length, take}
+-- The loop's invariant: the bytes of the first r used values are written, and the others are as they were.
+use Rattle.std.proofs.Common.{◌≡◌, length, take}
 use Rattle.arithmetic.specs.Writing.{table, overwrite}
 use Rattle.model.specs.RoundSheet.{reading_bytes}
 use Rattle.answer_writer.specs.Answers.{used_in}
@@ -8,9 +7,5 @@ use Rattle.answer_writer.proofs.put_used.Given as goal
 
 abbrev pub invariant-values : goal.invariant-values
 invariant-values l =
-    (l.r ≤ length l.marks)
-    × (l.tail ≡ overwrite (reading_bytes (take l.r (table (used_in l.marks l.values l.estimate) (length l.marks)))) l.initial.tail)
+    (l.tail ≡ overwrite (reading_bytes (take l.r (table (used_in l.marks l.values l.estimate) (length l.marks)))) l.initial.tail)
     × (length l.tail ≡ length l.initial.tail)
-
-abbrev pub decreases-values : goal.decreases-values
-decreases-values l = length l.marks - l.r

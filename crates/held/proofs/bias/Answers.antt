@@ -9,5 +9,4 @@ use Rattle.held.proofs.bias.Goals as goal
 pub returns : goal.returns
 returns c =
     let x = c.args.bits in
-    c.wrapping_add_u32.ensures.value
-    ∙ sym (ap (up two_to31) (wrapped_up x (omega arith)) ∙ up-down two_to31 ((x + two_to31) % two_to32))
+    sym (ap (up two_to31) (wrapped_up x (omega arith)) ∙ up-down two_to31 ((x + two_to31) % two_to32))

@@ -1,7 +1,7 @@
 -- An addition of 2^31 that wraps moves a reading back.
-use Rattle.std.proofs.Common.{◌∙◌, arith}
+use Rattle.std.proofs.Common.{arith}
 use Rattle.held.proofs.Biasing.{wrapped_down}
 use Rattle.held.proofs.unbias.Goals as goal
 
 pub returns : goal.returns
-returns c = c.wrapping_add_u32.ensures.value ∙ wrapped_down c.args.value (omega arith)
+returns c = wrapped_down c.args.value (omega arith)

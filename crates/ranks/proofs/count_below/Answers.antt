@@ -18,7 +18,7 @@ overflow_add-below c =
       arith,
       count_small (λ i. ltb (value_at a.values.now i) a.value) (length a.values.now) m.invariant,
       m.invariant.up_to,
-      flag_small (ltb (value_at a.values.now m.t) a.value),
+      flag_small (ltb (value_at a.values.now m.v-index) a.value),
     )
 
 pub values-preserved : goal.values-preserved

@@ -1,6 +1,5 @@
--- The loop's invariant: the bytes of the first p values are written, and the others are as they were; all are held and
--- fit. The measure is what is left of the cabinets.
-use Rattle.std.proofs.Common.{◌≡◌, ◌*◌, ◌-◌, ◌≤◌, length, take}
+-- The loop's invariant: the bytes of the first p values are written, and the others are as they were.
+use Rattle.std.proofs.Common.{◌≡◌, length, take}
 use Rattle.arithmetic.specs.Writing.{table, overwrite}
 use Rattle.model.specs.RoundSheet.{reading_bytes}
 use Rattle.value_writer.specs.Values.{shown_of}
@@ -8,11 +7,5 @@ use Rattle.value_writer.proofs.put_values.Given as goal
 
 abbrev pub invariant-cabinets : goal.invariant-cabinets
 invariant-cabinets l =
-    (l.p ≤ length l.roles)
-    × (l.values ≡ overwrite (reading_bytes (take l.p (table (shown_of l.roles l.held) (length l.roles)))) l.initial.values)
+    (l.values ≡ overwrite (reading_bytes (take l.p (table (shown_of l.roles l.held) (length l.roles)))) l.initial.values)
     × (length l.values ≡ length l.initial.values)
-    × (length l.roles ≤ length l.held)
-    × (4 * length l.roles ≤ length l.initial.values)
-
-abbrev pub decreases-cabinets : goal.decreases-cabinets
-decreases-cabinets l = length l.roles - l.p

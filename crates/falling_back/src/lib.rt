@@ -4,48 +4,55 @@
 
 ghost use Rattle.std.specs.Prelude.{◌≡◌};
 ghost use Rattle.sheet_pairs.specs.Fallback.{fallback};
+ghost use Rattle.refusals.specs.Answers.{refusal_of};
 ghost use Rattle.falling_back.specs.Answers.{pair_settled_of};
 ghost use Rattle.falling_back.specs.Trying.{tried_verdict, tried_buffer};
 
-use model::{Refusal, TOO_MANY_FAULTS};
-use refusals::Screened;
-use settling::Settled;
+use refusals::{Reason, Refusal};
 
-// Which sheet settled the round, with the answer sheet's length; or the first refusal.
-#[derive(Drop)]
-pub enum PairSettled {
-    Crusaders(usize),
-    Direct(usize),
-    Refused(Refusal),
+// Which of two sheets settled a round, by the number that the call for C gives it.
+#[derive(Clone, Copy, PartialEq, Eq)]
+pub enum Source {
+    Crusaders = 1,
+    Direct = 2,
+}
+
+// The sheet that settled the round, and the answer sheet's length.
+#[derive(Clone, Copy, PartialEq, Eq)]
+pub struct Settlement {
+    pub source: Source,
+    pub size: usize,
 }
 
 // After a refusal of the crusaders sheet: under 10 the direct sheet is settled, any other stands.
-fn try_direct(refusal: Refusal, direct: &[u8], answer: &mut [u8]) -> PairSettled
-    ensures result_value { pair_settled_of result ≡ tried_verdict refusal direct.now answer.old }
-    ensures answer_after { answer.new ≡ tried_buffer refusal direct.now answer.old }
+fn try_direct(refusal: Refusal, direct: &[u8], answer: &mut [u8]) -> Result<Settlement, Refusal>
+    ensures result_value { pair_settled_of result ≡ tried_verdict (refusal_of refusal) direct.now answer.old }
+    ensures answer_after { answer.new ≡ tried_buffer (refusal_of refusal) direct.now answer.old }
 {
-    if refusal.number != TOO_MANY_FAULTS {
-        return PairSettled::Refused(refusal);
+    if refusal.reason != Reason::TooManyFaults {
+        return Err(refusal);
     }
-    match packed_settling::settle_unpacked(direct, answer) {
-        Settled::Granted(size) => PairSettled::Direct(size),
-        Settled::Refused(own) => PairSettled::Refused(own),
-    }
+    let size = packed_settling::settle_unpacked(direct, answer)?;
+    Ok(Settlement {
+        source: Source::Direct,
+        size,
+    })
 }
 
 // Settles the crusaders sheet, or where it has too many faults the direct sheet, into the lent buffer; or gives the
 // first refusal, which changes nothing.
-pub fn fall_back(crusaders: &[u8], direct: &[u8], answer: &mut [u8]) -> PairSettled
+pub fn fall_back(crusaders: &[u8], direct: &[u8], answer: &mut [u8]) -> Result<Settlement, Refusal>
     ensures result_value { pair_settled_of result
         ≡ (fallback crusaders.now direct.now answer.old).verdict }
     ensures answer_after { answer.new
         ≡ (fallback crusaders.now direct.now answer.old).buffer }
 {
-    match pair_checks::check_pair(crusaders, direct, answer.len()) {
-        Screened::Refused(r) => PairSettled::Refused(r),
-        Screened::Passed => match packed_settling::settle_unpacked(crusaders, &mut *answer) {
-            Settled::Granted(size) => PairSettled::Crusaders(size),
-            Settled::Refused(r) => try_direct(r, direct, answer),
-        },
+    pair_checks::check_pair(crusaders, direct, answer.len())?;
+    match packed_settling::settle_unpacked(crusaders, &mut *answer) {
+        Ok(size) => Ok(Settlement {
+            source: Source::Crusaders,
+            size,
+        }),
+        Err(refusal) => try_direct(refusal, direct, answer),
     }
 }

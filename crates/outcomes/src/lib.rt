@@ -6,8 +6,7 @@ ghost use Rattle.model.specs.Refusals.{too_many_faults};
 ghost use Rattle.refusals.specs.Answers.{check_of};
 ghost use Rattle.outcomes.specs.Outcomes.{concluded};
 
-use model::TOO_MANY_FAULTS;
-use refusals::Screened;
+use refusals::{Reason, Refusal};
 
 // The answer sheet is written where some reading is accepted. Where none is, nothing is, and check 10 refuses.
 pub fn conclude(
@@ -17,15 +16,14 @@ pub fn conclude(
     marks: &[u8],
     values: &[u32],
     answer: &mut [u8],
-) -> Screened
+) -> Result<(), Refusal>
     ensures check_10 { check_of result ≡ too_many_faults count }
     ensures answer_after { answer.new
         ≡ concluded count estimate value marks.now values.now answer.old }
 {
-    let none = Screened::Refused(refusals::refuse(TOO_MANY_FAULTS));
     if count == 0 {
-        return none;
+        return Err(Reason::TooManyFaults.into());
     }
     answer_writer::put_answer(count, estimate, value, marks, values, answer);
-    Screened::Passed
+    Ok(())
 }

@@ -4,47 +4,37 @@
 
 ghost use Rattle.std.specs.Prelude.{◌≡◌};
 ghost use Rattle.model.specs.Calls.{settle_spread, settle};
-ghost use Rattle.settling.specs.Answers.{settled_of, settling_of};
+ghost use Rattle.refusals.specs.Answers.{verdict_of, outcome_of};
 ghost use Rattle.packed_refusals.specs.Answers.{packed};
-ghost use Rattle.packed_settling.specs.Unpacking.{unpacked};
+ghost use Rattle.packed_settling.specs.Unpacking.{unpacked, Packs};
 
-use model::Refusal;
-use settling::Settled;
-
-// An answer sheet's length.
-pub fn pack_settled(settled: Settled) -> u64
-    ensures { result ≡ packed (settled_of settled) }
-{
-    match settled {
-        Settled::Granted(size) => size as u64,
-        Settled::Refused(refusal) => packed_refusals::pack_refusal(refusal),
-    }
-}
+use refusals::{Reason, Refusal};
 
 // Settles a round sheet with a spread: the answer sheet's length, or a refusal, packed.
 pub fn settle_packed(sheet: &[u8], spread: u32, answer: &mut [u8]) -> u64
     ensures value { result ≡ packed (settle_spread sheet.now spread answer.old).verdict }
     ensures answer_after { answer.new ≡ (settle_spread sheet.now spread answer.old).buffer }
 {
-    pack_settled(settling::settle_spread(&*sheet, spread, answer))
+    packed_refusals::pack(settling::settle_spread(&*sheet, spread, answer).map(|size| size as u64))
 }
 
 // What is packed.
-fn unpack(said: u64) -> Settled
-    ensures { settled_of result ≡ unpacked said }
+fn unpack(said: u64) -> Result<usize, Refusal>
+    requires { Packs said }
+    ensures { verdict_of result ≡ unpacked said }
 {
     if said < 4_294_967_296 {
-        return Settled::Granted(said as usize);
+        return Ok(said as usize);
     }
-    Settled::Refused(Refusal {
-        number: (said / 4_294_967_296 % 256) as u8,
-        place: (said % 4_294_967_296) as u32,
-    })
+    match Reason::try_from((said / 4_294_967_296) as u8) {
+        Ok(reason) => Err(reason.at((said % 4_294_967_296) as u32)),
+        Err(_) => unreachable!(),
+    }
 }
 
 // Settles a round sheet without a spread, by way of the number.
-pub fn settle_unpacked(sheet: &[u8], answer: &mut [u8]) -> Settled
-    ensures { settling_of result answer.new ≡ settle sheet.now answer.old }
+pub fn settle_unpacked(sheet: &[u8], answer: &mut [u8]) -> Result<usize, Refusal>
+    ensures { outcome_of result answer.new ≡ settle sheet.now answer.old }
 {
     unpack(settle_packed(sheet, 0, answer))
 }

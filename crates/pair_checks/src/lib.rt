@@ -7,9 +7,8 @@ ghost use Rattle.model.specs.AnswerSheet.{answer_length};
 ghost use Rattle.model.specs.Refusals.{or_next, first_of, no_room};
 ghost use Rattle.sheet_pairs.specs.Fallback.{paired, bad_pair, pair_checks};
 
-use model::{BAD_PAIR, CCA, FCA, NO_ROOM, Settings};
-use refusals::Screened;
-use sheet_checks::Opened;
+use model::{CCA, FCA, Settings};
+use refusals::{Reason, Refusal};
 
 // Whether two sheets are no pair: N, m or the window differ, or they are not by CCA and then by FCA.
 fn unpaired(first: Settings, second: Settings) -> bool
@@ -22,24 +21,21 @@ fn unpaired(first: Settings, second: Settings) -> bool
 }
 
 // Checks 19 and 7, of settings that are granted and an answer buffer of this length.
-fn check_both(first: Settings, second: Settings, room: usize) -> Screened
+#[tactic(auto, unfolding(sheet_pairs::specs::Fallback::bad_pair, model::specs::Refusals::no_room))]
+fn check_both(first: Settings, second: Settings, room: usize) -> Result<(), Refusal>
     ensures { check_of result ≡ or_next (bad_pair first second) (no_room room (answer_length first.n)) }
 {
-    let pair = refusals::refuse_if(unpaired(first, second), BAD_PAIR);
+    refusals::refuse_if(unpaired(first, second), Reason::BadPair)?;
     let size = sheet_sizes::answer_length(first.n);
-    let buffer = refusals::refuse_if(room < size, NO_ROOM);
-    refusals::first_of(pair, buffer)
+    refusals::refuse_if(room < size, Reason::NoRoom)
 }
 
 // Checks 1 to 6 of the CCA sheet and then of the FCA sheet, 19, and 7 of an answer buffer of this length.
-pub fn check_pair(crusaders: &[u8], direct: &[u8], room: usize) -> Screened
+#[tactic(auto, using(crate::proofs::Inspecting::crusaders_refused, crate::proofs::Inspecting::direct_refused, crate::proofs::Inspecting::both_granted))]
+pub fn check_pair(crusaders: &[u8], direct: &[u8], room: usize) -> Result<(), Refusal>
     ensures { check_of result ≡ first_of (pair_checks crusaders.now direct.now room) }
 {
-    match sheet_checks::inspect(crusaders) {
-        Opened::Refused(r) => Screened::Refused(r),
-        Opened::Granted(first) => match sheet_checks::inspect(direct) {
-            Opened::Refused(r) => Screened::Refused(r),
-            Opened::Granted(second) => check_both(first, second, room),
-        },
-    }
+    let first = sheet_checks::inspect(crusaders)?;
+    let second = sheet_checks::inspect(direct)?;
+    check_both(first, second, room)
 }

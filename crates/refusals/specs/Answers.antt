@@ -1,10 +1,11 @@
 -- What the answers of the code say in document 01's terms.
 --   number_of                the number of each reason
+--   Numbers                  whether a number is a reason's
 --   refusal_of               a refusal: its number and its place
 --   check_of                 what a check says: nothing, or its refusal
 --   verdict_of               what a call answers: what it grants, or the refusal
 --   outcome_of               the same of a length, with the buffer that the call was lent
-use Rattle.std.specs.Prelude.{List, Result, Ok, Err, ⊤, ℕ}
+use Rattle.std.specs.Prelude.{◌≡◌, ◌⊎◌, ◌<◌, List, Result, Ok, Err, MatchResult, ⊤, ℕ}
 use Rattle.std.proofs.Math.Option.{none, some}
 use Rattle.model.specs.Refusals.{too_short_number, bad_cabinets_number, bad_faults_number, bad_method_number, bad_window_number, bad_length_number}
 use Rattle.model.specs.Refusals.{no_room_number, bad_mark_number, bad_missing_number, too_many_faults_number, bad_plan_number, target_missed_number}
@@ -13,6 +14,7 @@ use Rattle.model.specs.Refusals.{Refusal, Check}
 use Rattle.model.specs.Calls.{Verdict, granted, refused, Outcome}
 use Rattle.refusals.specs.declared.Refusal as code
 use Rattle.refusals.specs.declared.Reason.{Reason}
+use Rattle.refusals.specs.declared.UnknownNumber.{UnknownNumber}
 use Rattle.refusals.specs.declared.Reason.TheVariants.{TooShort, BadCabinets, BadFaults, BadMethod, BadWindow, BadLength, NoRoom, BadMark, BadMissing, TooManyFaults, BadPlan, TargetMissed, BadTrace, BadRoles, RunStopped, BadSpread, BadInterval, NoInterval, BadPair}
 
 abbrev pub number_of : Reason → ℕ
@@ -35,6 +37,10 @@ number_of BadSpread = bad_spread_number
 number_of BadInterval = bad_interval_number
 number_of NoInterval = no_interval_number
 number_of BadPair = bad_pair_number
+
+-- the reason that has a number; from 1 to 19 there is one
+abbrev pub Numbers : ℕ → Result Reason UnknownNumber → Type 0
+Numbers number r = MatchResult r (λ reason. number_of reason ≡ number) (λ e. (number ≡ 0) ⊎ (19 < number))
 
 abbrev pub refusal_of : code.Refusal → Refusal
 refusal_of r = record { number = number_of r.reason; place = r.place }

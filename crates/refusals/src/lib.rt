@@ -3,7 +3,7 @@
 
 ghost use Rattle.std.specs.Prelude.{◌≡◌};
 ghost use Rattle.model.specs.Refusals.{refusal, refuse_if};
-ghost use Rattle.refusals.specs.Answers.{number_of, refusal_of, check_of};
+ghost use Rattle.refusals.specs.Answers.{number_of, refusal_of, check_of, Numbers};
 
 // Why a call refuses, with the number that document 01, or a request of document 02, gives it.
 #[derive(Clone, Copy, PartialEq, Eq)]
@@ -63,6 +63,41 @@ impl Refusal {
         ensures { result ≡ (refusal_of self).number }
     {
         self.reason as u8
+    }
+}
+
+// A number that is no reason's.
+#[derive(Clone, Copy, PartialEq, Eq)]
+pub struct UnknownNumber(pub u8);
+
+impl TryFrom<u8> for Reason {
+    type Error = UnknownNumber;
+
+    ghost try_from_gives = { Numbers };
+
+    fn try_from(number: u8) -> Result<Reason, UnknownNumber> {
+        match number {
+            1 => Ok(Reason::TooShort),
+            2 => Ok(Reason::BadCabinets),
+            3 => Ok(Reason::BadFaults),
+            4 => Ok(Reason::BadMethod),
+            5 => Ok(Reason::BadWindow),
+            6 => Ok(Reason::BadLength),
+            7 => Ok(Reason::NoRoom),
+            8 => Ok(Reason::BadMark),
+            9 => Ok(Reason::BadMissing),
+            10 => Ok(Reason::TooManyFaults),
+            11 => Ok(Reason::BadPlan),
+            12 => Ok(Reason::TargetMissed),
+            13 => Ok(Reason::BadTrace),
+            14 => Ok(Reason::BadRoles),
+            15 => Ok(Reason::RunStopped),
+            16 => Ok(Reason::BadSpread),
+            17 => Ok(Reason::BadInterval),
+            18 => Ok(Reason::NoInterval),
+            19 => Ok(Reason::BadPair),
+            _ => Err(UnknownNumber(number)),
+        }
     }
 }
 

@@ -5,7 +5,7 @@
 --   marks_by     the marks that are left of them
 --   numbers_of, marks_of    the same of the readings of a sheet, received in two lists
 --   Ready       a sheet with these settings, and a spread, pass checks 1 to 9 and 16, so that only check 10 is left
-use Rattle.std.specs.Prelude.{cond, List, ◌≡◌, ℕ, ◌-◌, ◌≤◌, length}
+use Rattle.std.specs.Prelude.{Result, ⊤, cond, List, ◌≡◌, ℕ, ◌-◌, ◌≤◌, length}
 use Rattle.std.proofs.Math.Option.{none}
 use Rattle.model.specs.declared.Settings.{Settings}
 use Rattle.model.specs.Ensemble.{quorum}
@@ -13,7 +13,7 @@ use Rattle.model.specs.RoundSheet.{trims, settings_at}
 use Rattle.model.specs.AnswerSheet.{answer_length}
 use Rattle.model.specs.Calls.{Outcome, verdict}
 use Rattle.refusals.specs.Answers.{check_of}
-use Rattle.refusals.specs.declared.Screened.{Screened}
+use Rattle.refusals.specs.declared.Refusal.{Refusal}
 use Rattle.model.specs.Refusals.{first_of, bad_spread, row_checks}
 use Rattle.estimates.specs.declared.Estimated.{Estimated}
 use Rattle.agreement.specs.Values.{agreed_of, agreed_marks}
@@ -29,7 +29,7 @@ pub record Ready (s : List ℕ) (c : Settings) (D : ℕ) (answer : List ℕ) : T
   pub own : c ≡ settings_at s
   pub room : answer_length c.n ≤ length answer
 
-abbrev pub settling_by : Screened → ℕ → List ℕ → Outcome
+abbrev pub settling_by : Result ⊤ Refusal → ℕ → List ℕ → Outcome
 settling_by last size buffer = record { verdict = verdict (check_of last) size; buffer = buffer }
 
 unfoldable pub numbers_by : Settings → ℕ → List ℕ → List ℕ → Estimated

@@ -8,21 +8,13 @@ ghost use Rattle.model.specs.RoundSheet.{cca};
 ghost use Rattle.model.specs.AnswerSheet.{answer_length};
 ghost use Rattle.model.specs.Calls.{settle_spread, settle};
 ghost use Rattle.model.specs.Steps.{span_width};
-ghost use Rattle.settling.specs.Answers.{settling_of};
+ghost use Rattle.refusals.specs.Answers.{outcome_of};
 ghost use Rattle.settling.specs.Rounds.{Ready, spread_of, settling_by, numbers_of, marks_of};
 ghost use Rattle.reception.specs.Receiving.{values_received};
 
 use estimates::Estimated;
-use model::{CCA, NO_ROOM, Refusal, Settings, TRIMMED_MIDPOINT};
-use refusals::Screened;
-use sheet_checks::Opened;
-
-// The answer sheet's length, or the first refusal.
-#[derive(Drop)]
-pub enum Settled {
-    Granted(usize),
-    Refused(Refusal),
-}
+use model::{CCA, Settings, TRIMMED_MIDPOINT};
+use refusals::{Reason, Refusal};
 
 // The width of a span.
 fn span_width(settings: Settings, spread: u32) -> u32
@@ -107,7 +99,7 @@ fn settle_in(
     marks: &mut [u8],
     values: &mut [u32],
     answer: &mut [u8],
-) -> Screened
+) -> Result<(), Refusal>
     requires ready { Ready sheet.now settings (spread_of settings span) answer.old × (settings.window ≤ span) }
     requires marks_len { (length marks.old ≡ settings.n) × (length values.old ≡ settings.n) }
     ensures { settling_by result (answer_length settings.n) answer.new
@@ -125,7 +117,7 @@ fn settle_in(
 }
 
 // The same, with places of its own.
-fn settle_valid(sheet: &[u8], settings: Settings, span: u32, answer: &mut [u8]) -> Screened
+fn settle_valid(sheet: &[u8], settings: Settings, span: u32, answer: &mut [u8]) -> Result<(), Refusal>
     requires { Ready sheet.now settings (spread_of settings span) answer.old × (settings.window ≤ span) }
     ensures { settling_by result (answer_length settings.n) answer.new
         ≡ settle_spread sheet.now (spread_of settings span) answer.old }
@@ -145,31 +137,24 @@ fn settle_valid(sheet: &[u8], settings: Settings, span: u32, answer: &mut [u8]) 
 
 // Settles a round sheet whose cabinets read a third alike up to a spread: the answer sheet in the lent buffer, or the
 // first refusal of checks 1 to 5, 16, and 6 to 10, which changes nothing.
-pub fn settle_spread(sheet: &[u8], spread: u32, answer: &mut [u8]) -> Settled
-    ensures { settling_of result answer.new ≡ settle_spread sheet.now spread answer.old }
+#[tactic(auto, using(crate::proofs::Checking::inspection_refuses, crate::proofs::Checking::entries_refuse))]
+pub fn settle_spread(sheet: &[u8], spread: u32, answer: &mut [u8]) -> Result<usize, Refusal>
+    ensures { outcome_of result answer.new ≡ settle_spread sheet.now spread answer.old }
 {
-    match sheet_checks::inspect_spread(sheet, spread) {
-        Opened::Refused(r) => Settled::Refused(r),
-        Opened::Granted(settings) => {
-            let span = span_width(settings, spread);
-            let size = sheet_sizes::answer_length(settings.n);
-            if answer.len() < size {
-                return Settled::Refused(refusals::refuse(NO_ROOM));
-            }
-            match entry_checks::check_entries(sheet, settings) {
-                Screened::Refused(r) => Settled::Refused(r),
-                Screened::Passed => match settle_valid(sheet, settings, span, answer) {
-                    Screened::Refused(r) => Settled::Refused(r),
-                    Screened::Passed => Settled::Granted(size),
-                },
-            }
-        }
+    let settings = sheet_checks::inspect_spread(sheet, spread)?;
+    let span = span_width(settings, spread);
+    let size = sheet_sizes::answer_length(settings.n);
+    if answer.len() < size {
+        return Err(Reason::NoRoom.into());
     }
+    entry_checks::check_entries(sheet, settings)?;
+    settle_valid(sheet, settings, span, answer)?;
+    Ok(size)
 }
 
 // The same without a spread.
-pub fn settle(sheet: &[u8], answer: &mut [u8]) -> Settled
-    ensures { settling_of result answer.new ≡ settle sheet.now answer.old }
+pub fn settle(sheet: &[u8], answer: &mut [u8]) -> Result<usize, Refusal>
+    ensures { outcome_of result answer.new ≡ settle sheet.now answer.old }
 {
     settle_spread(sheet, 0, answer)
 }

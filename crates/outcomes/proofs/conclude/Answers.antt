@@ -6,7 +6,7 @@ use Rattle.outcomes.proofs.Outcomes.{none-refused, none_written, some-passed, so
 use Rattle.outcomes.proofs.conclude.Goals as goal
 
 pub returns-then-count-eq0-clause-check_10 : goal.returns-then-count-eq0-clause-check_10
-returns-then-count-eq0-clause-check_10 c = ap some c.refuse.ensures ∙ none-refused c.args.count c.if-count-eq0.true
+returns-then-count-eq0-clause-check_10 c = ap some c.into.ensures ∙ none-refused c.args.count c.if-count-eq0.true
 
 pub returns-then-count-eq0-clause-answer_after : goal.returns-then-count-eq0-clause-answer_after
 returns-then-count-eq0-clause-answer_after c =

@@ -2,9 +2,8 @@
 use Rattle.std.proofs.Common.{◌≡◌, ap, ◌∙◌, ℕ, ◌+◌, ◌-◌, ◌≤◌, length, arith}
 use Rattle.model.specs.Refusals.{Refusal}
 use Rattle.model.specs.AnswerSheet.{answer_length}
-use Rattle.settling.specs.Answers.{settling_of}
-use Rattle.settling.specs.declared.Settled.TheVariants.{Refused}
-use Rattle.settling.proofs.Checking.{inspection_refuses, room-refuses, entries_refuse}
+use Rattle.model.specs.Calls.{refused}
+use Rattle.settling.proofs.Checking.{room-refuses}
 use Rattle.settling.proofs.Checking.{opened_settings, opened_spread, opened_narrow, checks-pass}
 use Rattle.settling.proofs.settle_spread.Goals as goal
 
@@ -15,42 +14,29 @@ same-spread window spread span e = omega arith
 pub span_width-span-requires : goal.span_width-span-requires
 span_width-span-requires c =
     let a = c.args in
-    opened_narrow a.sheet.now a.spread a.answer.now c.in-Granted.settings c.in-Granted.ensures
+    opened_narrow a.sheet.now a.spread a.answer.now c.in_ok-settings.settings c.in_ok-settings.ensures
 
 pub returns-then-answer-size : goal.returns-then-answer-size
 returns-then-answer-size c =
     let a = c.args in
-    ap (λ (f : Refusal). settling_of (Refused f) a.answer.now) c.refuse.ensures
-    ∙ room-refuses a.sheet.now a.spread a.answer.now c.in-Granted.settings c.in-Granted.ensures
+    ap (λ (f : Refusal). record { verdict = refused f; buffer = a.answer.now }) c.into.ensures
+    ∙ room-refuses a.sheet.now a.spread a.answer.now c.in_ok-settings.settings c.in_ok-settings.ensures
     (omega (arith, c.if-answer-size.true, c.answer_length-size.ensures))
 
 pub settle_valid-requires : goal.settle_valid-requires
 settle_valid-requires c =
     let a = c.args in
-    let settings = c.in-Granted.settings in
+    let settings = c.in_ok-settings.settings in
     let large : answer_length settings.n ≤ length a.answer.now =
     omega (arith, c.if-answer-size.false, c.answer_length-size.ensures) in (
       record {
         passes =
-            checks-pass a.sheet.now a.spread a.answer.now settings c.in-Granted.ensures large c.in-Passed.ensures;
+            checks-pass a.sheet.now a.spread a.answer.now settings c.in_ok-settings.ensures large c.in_ok-check_entries.ensures;
         spread =
             rw (same-spread settings.window a.spread _ c.span_width-span.ensures)
-            (opened_spread a.sheet.now a.spread a.answer.now settings c.in-Granted.ensures);
-        own = opened_settings a.sheet.now a.spread a.answer.now settings c.in-Granted.ensures;
+            (opened_spread a.sheet.now a.spread a.answer.now settings c.in_ok-settings.ensures);
+        own = opened_settings a.sheet.now a.spread a.answer.now settings c.in_ok-settings.ensures;
         room = large;
       },
       omega (arith, c.span_width-span.ensures),
     )
-
-pub returns-in-Refused : goal.returns-in-Refused
-returns-in-Refused c =
-    let a = c.args in
-    inspection_refuses a.sheet.now a.spread a.answer.now c.in-Refused.r c.in-Refused.ensures
-
-pub returns-in-Refused-check_entries : goal.returns-in-Refused-check_entries
-returns-in-Refused-check_entries c =
-    let a = c.args in
-    entries_refuse a.sheet.now a.spread a.answer.now c.in-Granted.settings c.in-Granted.ensures
-    (omega (arith, c.if-answer-size.false, c.answer_length-size.ensures))
-    c.in-Refused-check_entries.r
-    c.in-Refused-check_entries.ensures

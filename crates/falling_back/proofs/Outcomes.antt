@@ -12,8 +12,6 @@ use lib.ListN.{length}
 use Rattle.model.specs.Refusals.{Refusal}
 use Rattle.model.specs.Refusals.{first_of, too_many_faults_number}
 use Rattle.model.specs.Calls.{Verdict, granted, refused, Outcome, settle}
-use Rattle.settling.specs.Answers.{settling_of}
-use Rattle.settling.specs.declared.Settled.TheVariants.{Granted, Refused}
 use Rattle.sheet_pairs.specs.Fallback.{crusaders, pair_checks, Settlement, fallback}
 use Rattle.sheet_pairs.specs.Results.{Kept}
 use Rattle.sheet_pairs.proofs.Results.{fallback-results, refused-buffer}
@@ -37,11 +35,11 @@ module _ (r : Refusal) (b answer : List ℕ) where
     unfolding tried_verdict tried_buffer
     tried v e h = (rw (is_ten, e), rw (is_ten, h))
 
-    pub direct-settles : (size : ℕ) → settling_of (Granted size) left ≡ settle b answer → Tried (settled_direct (granted size)) left
+    pub direct-settles : (size : ℕ) → ◌≡◌ {A = Outcome} (record { verdict = granted size; buffer = left }) (settle b answer) → Tried (settled_direct (granted size)) left
     direct-settles size e =
         tried (granted size) (sym (ap (λ (x : Outcome). x.verdict) e)) (sym (ap (λ (x : Outcome). x.buffer) e))
 
-    pub direct-refuses : (own : Refusal) → settling_of (Refused own) left ≡ settle b answer → Tried (refused own) left
+    pub direct-refuses : (own : Refusal) → ◌≡◌ {A = Outcome} (record { verdict = refused own; buffer = left }) (settle b answer) → Tried (refused own) left
     direct-refuses own e =
         tried (refused own) (sym (ap (λ (x : Outcome). x.verdict) e)) (sym (ap (λ (x : Outcome). x.buffer) e))
 
@@ -59,14 +57,14 @@ module _ (a b answer : List ℕ) where
 
   module _ (pass : none ≡ first_of (pair_checks a b (length answer))) (left : List ℕ) where
     pub crusaders-settle :
-        (size : ℕ) → settling_of (Granted size) left ≡ settle a answer
+        (size : ℕ) → ◌≡◌ {A = Outcome} (record { verdict = granted size; buffer = left }) (settle a answer)
         → Fell (granted (record { source = crusaders; size = size })) left
     crusaders-settle size e =
         let h = (fallback-results a b answer).settles (sym pass) size (sym (ap (λ (x : Outcome). x.verdict) e)) in
         (sym h.verdict, ap (λ (x : Outcome). x.buffer) e ∙ sym h.buffer)
 
     -- trying the direct sheet gave v, and left the buffer so
-    module _ (r : Refusal) (e : settling_of (Refused r) left ≡ settle a answer) where
+    module _ (r : Refusal) (e : ◌≡◌ {A = Outcome} (record { verdict = refused r; buffer = left }) (settle a answer)) where
       refuses : (settle a answer).verdict ≡ refused r
       refuses = sym (ap (λ (x : Outcome). x.verdict) e)
 

@@ -5,7 +5,8 @@ ghost use Rattle.std.specs.Prelude.{◌≡◌};
 ghost use Rattle.interval_bounds.specs.Answers.{scheduled_of};
 ghost use Rattle.interval_packing.specs.Answers.{scheduling_of};
 
-use interval_bounds::Scheduled;
+use interval_bounds::Interval;
+use refusals::Refusal;
 
 // What the call hands over: 0 or a refusal, and the least and the greatest interval.
 #[repr(C)]
@@ -17,16 +18,16 @@ pub struct Scheduling {
 }
 
 // An interval.
-pub fn pack_scheduled(scheduled: Scheduled) -> Scheduling
+pub fn pack_scheduled(scheduled: Result<Interval, Refusal>) -> Scheduling
     ensures { result ≡ scheduling_of (scheduled_of scheduled) }
 {
     match scheduled {
-        Scheduled::Granted(interval) => Scheduling {
+        Ok(interval) => Scheduling {
             answer: 0,
             least: interval.least,
             greatest: interval.greatest,
         },
-        Scheduled::Refused(refusal) => Scheduling {
+        Err(refusal) => Scheduling {
             answer: packed_refusals::pack_refusal(refusal),
             least: 0,
             greatest: 0,

@@ -7,56 +7,44 @@ ghost use Rattle.answer_reader.specs.Fields.{shown_of};
 ghost use Rattle.answer_reader.specs.Fields.{cabinets_in, count_in, estimate_in, value_in, mark_in, used_in};
 ghost use Rattle.packed_refusals.specs.Answers.{packed};
 
-use answer_reader::Shown;
-
-// A number of an answer sheet.
-fn pack_shown(shown: Shown) -> u64
-    ensures { result ≡ packed (shown_of shown) }
-{
-    match shown {
-        Shown::Granted(number) => number as u64,
-        Shown::Refused(refusal) => packed_refusals::pack_refusal(refusal),
-    }
-}
-
 // N.
 pub fn pack_cabinets(answer: &[u8]) -> u64
     ensures { result ≡ packed (cabinets_in answer.now) }
 {
-    pack_shown(answer_reader::cabinets(answer))
+    packing::pack_number(answer_reader::cabinets(answer))
 }
 
 // How many readings were accepted.
 pub fn pack_count(answer: &[u8]) -> u64
     ensures { result ≡ packed (count_in answer.now) }
 {
-    pack_shown(answer_reader::count(answer))
+    packing::pack_number(answer_reader::count(answer))
 }
 
 // The estimate.
 pub fn pack_estimate(answer: &[u8]) -> u64
     ensures { result ≡ packed (estimate_in answer.now) }
 {
-    pack_shown(answer_reader::estimate(answer))
+    packing::pack_number(answer_reader::estimate(answer))
 }
 
 // The new value.
 pub fn pack_value(answer: &[u8]) -> u64
     ensures { result ≡ packed (value_in answer.now) }
 {
-    pack_shown(answer_reader::value(answer))
+    packing::pack_number(answer_reader::value(answer))
 }
 
 // A cabinet's mark.
 pub fn pack_mark(answer: &[u8], cabinet: u32) -> u64
     ensures { result ≡ packed (mark_in answer.now cabinet) }
 {
-    pack_shown(answer_reader::mark(answer, cabinet))
+    packing::pack_number(answer_reader::mark(answer, cabinet))
 }
 
 // A cabinet's used value.
 pub fn pack_used(answer: &[u8], cabinet: u32) -> u64
     ensures { result ≡ packed (used_in answer.now cabinet) }
 {
-    pack_shown(answer_reader::used(answer, cabinet))
+    packing::pack_number(answer_reader::used(answer, cabinet))
 }

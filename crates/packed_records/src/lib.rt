@@ -3,13 +3,13 @@
 #![tactic(auto)]
 
 ghost use Rattle.std.specs.Prelude.{◌≡◌};
-ghost use Rattle.sheet_checks.specs.Answers.{opened_of};
+ghost use Rattle.refusals.specs.Answers.{verdict_of};
 ghost use Rattle.planner.specs.Answers.{planned_of};
 ghost use Rattle.packed_records.specs.Answers.{no_settings, opening_of, planning_of};
 
 use model::Settings;
-use planner::{Plan, Planned};
-use sheet_checks::Opened;
+use planner::Plan;
+use refusals::Refusal;
 
 // What the reader hands over: the number of entries, and the settings.
 #[repr(C)]
@@ -40,15 +40,15 @@ fn no_settings() -> Settings
 }
 
 // A round sheet's settings.
-pub fn pack_opened(opened: Opened) -> Opening
-    ensures { result ≡ opening_of (opened_of opened) }
+pub fn pack_opened(opened: Result<Settings, Refusal>) -> Opening
+    ensures { result ≡ opening_of (verdict_of opened) }
 {
     match opened {
-        Opened::Granted(settings) => Opening {
+        Ok(settings) => Opening {
             answer: sheet_sizes::entry_count(settings) as u64,
             settings,
         },
-        Opened::Refused(refusal) => Opening {
+        Err(refusal) => Opening {
             answer: packed_refusals::pack_refusal(refusal),
             settings: no_settings(),
         },
@@ -56,15 +56,15 @@ pub fn pack_opened(opened: Opened) -> Opening
 }
 
 // A plan.
-pub fn pack_planned(planned: Planned) -> Planning
+pub fn pack_planned(planned: Result<Plan, Refusal>) -> Planning
     ensures { result ≡ planning_of (planned_of planned) }
 {
     match planned {
-        Planned::Granted(plan) => Planning {
+        Ok(plan) => Planning {
             answer: plan.rounds as u64,
             plan,
         },
-        Planned::Refused(refusal) => Planning {
+        Err(refusal) => Planning {
             answer: packed_refusals::pack_refusal(refusal),
             plan: Plan {
                 settings: no_settings(),

@@ -4,13 +4,11 @@
 ghost use Rattle.std.specs.Prelude.{◌≡◌};
 ghost use Rattle.packed_rows.specs.Answers.{packed_row};
 
-use sheet_checks::Opened;
-
 // Where a cabinet's row of readings stands in the sheet: start × 2^32 + length of the part, 0 for an empty part.
 pub fn pack_row(sheet: &[u8], cabinet: u32) -> u64
     ensures { result ≡ packed_row sheet.now cabinet }
 {
-    let Opened::Granted(settings) = sheet_checks::validate(sheet) else {
+    let Ok(settings) = sheet_checks::validate(sheet) else {
         return 0;
     };
     if (settings.n as u32) <= cabinet {

@@ -15,7 +15,7 @@ pub fn settle_packed(sheet: &[u8], spread: u32, answer: &mut [u8]) -> u64
     ensures value { result ≡ packed (settle_spread sheet.now spread answer.old).verdict }
     ensures answer_after { answer.new ≡ (settle_spread sheet.now spread answer.old).buffer }
 {
-    packed_refusals::pack(settling::settle_spread(&*sheet, spread, answer).map(|size| size as u64))
+    packing::pack_length(settling::settle_spread(&*sheet, spread, answer))
 }
 
 // What is packed.

@@ -3,41 +3,22 @@
 #![tactic(auto)]
 
 ghost use Rattle.std.specs.Prelude.{◌≡◌};
-ghost use Rattle.settling.specs.Answers.{settled_of};
-ghost use Rattle.sheet_writer.specs.Answers.{filled_of};
-ghost use Rattle.planner.specs.Answers.{counted_of};
+ghost use Rattle.refusals.specs.Answers.{verdict_of};
 ghost use Rattle.packed_refusals.specs.Answers.{packed};
 
-use planner::Counted;
-use settling::Settled;
-use sheet_writer::Filled;
+use refusals::Refusal;
 
-// An answer sheet's length.
-pub fn pack_settled(settled: Settled) -> u64
-    ensures { result ≡ packed (settled_of settled) }
+// A length: of an answer sheet, a round sheet or the final values.
+pub fn pack_length(answer: Result<usize, Refusal>) -> u64
+    ensures { result ≡ packed (verdict_of answer) }
 {
-    match settled {
-        Settled::Granted(size) => size as u64,
-        Settled::Refused(refusal) => packed_refusals::pack_refusal(refusal),
-    }
+    packed_refusals::pack(answer.map(|length| length as u64))
 }
 
-// A round sheet's length.
-pub fn pack_filled(filled: Filled) -> u64
-    ensures { result ≡ packed (filled_of filled) }
+// A number of 32 bits: a count of rounds, or a field of an answer sheet.
+// Stays beside pack_length: usize has no From into u64, so that no bound of std serves both, and `pack` is one already.
+pub fn pack_number(answer: Result<u32, Refusal>) -> u64
+    ensures { result ≡ packed (verdict_of answer) }
 {
-    match filled {
-        Filled::Granted(size) => size as u64,
-        Filled::Refused(refusal) => packed_refusals::pack_refusal(refusal),
-    }
-}
-
-// A count of rounds.
-pub fn pack_counted(counted: Counted) -> u64
-    ensures { result ≡ packed (counted_of counted) }
-{
-    match counted {
-        Counted::Granted(rounds) => rounds as u64,
-        Counted::Refused(refusal) => packed_refusals::pack_refusal(refusal),
-    }
+    packed_refusals::pack(answer.map(|number| number as u64))
 }

@@ -5,22 +5,17 @@ ghost use Rattle.std.specs.Prelude.{◌≡◌, min, take, drop};
 ghost use Rattle.sheet_pairs.specs.Fallback.{readings_start, readings_length, readings_part, shown_by, fallback};
 ghost use Rattle.falling_back.specs.Answers.{pair_settled_of};
 
-use falling_back::PairSettled;
+use falling_back::{Settlement, Source};
 use model::{HEADER_SIZE, Settings};
-
-fn lesser(a: usize, b: usize) -> usize
-    ensures { result ≡ min a b }
-{
-    if a < b { a } else { b }
-}
+use refusals::Refusal;
 
 // The part of a sheet that holds the readings of so many entries, as far as the sheet goes.
 fn part_of(sheet: &[u8], settings: Settings) -> &[u8]
     ensures { result.now ≡ take (readings_length settings) (drop (readings_start settings) sheet.now) }
 {
     let entries = sheet_sizes::entry_count(settings);
-    let start = lesser(HEADER_SIZE + entries, sheet.len());
-    let end = lesser(HEADER_SIZE + entries + 4 * entries, sheet.len());
+    let start = (HEADER_SIZE + entries).min(sheet.len());
+    let end = (HEADER_SIZE + entries + 4 * entries).min(sheet.len());
     &sheet[start..end]
 }
 
@@ -32,13 +27,19 @@ fn readings_part(sheet: &[u8]) -> &[u8]
 }
 
 // The readings of the sheet that settled the round: a part of one of the two lent sheets, empty after a refusal.
-pub fn shown<'a>(crusaders: &'a [u8], direct: &'a [u8], fell: PairSettled) -> &'a [u8]
+pub fn shown<'a>(
+    crusaders: &'a [u8],
+    direct: &'a [u8],
+    fell: Result<Settlement, Refusal>,
+) -> &'a [u8]
     ensures { result.now ≡ shown_by (pair_settled_of fell) crusaders.now direct.now }
 {
     match fell {
-        PairSettled::Crusaders(_) => readings_part(crusaders),
-        PairSettled::Direct(_) => readings_part(direct),
-        PairSettled::Refused(_) => &crusaders[..0],
+        Ok(settled) => match settled.source {
+            Source::Crusaders => readings_part(crusaders),
+            Source::Direct => readings_part(direct),
+        },
+        Err(_) => &crusaders[..0],
     }
 }
 

@@ -23,7 +23,7 @@ pub extern "C" fn tohiranga_settle_spread(sheet: &[u8], spread: u32, answer: &mu
     ensures value { result ≡ packed (settle_spread sheet.now spread answer.old).verdict }
     ensures answer_after { answer.new ≡ (settle_spread sheet.now spread answer.old).buffer }
 {
-    packing::pack_settled(settling::settle_spread(&*sheet, spread, answer))
+    packing::pack_length(settling::settle_spread(&*sheet, spread, answer))
 }
 
 // The same without a spread.
@@ -57,7 +57,7 @@ pub extern "C" fn tohiranga_write(
     ensures sheet_after { sheet.new
         ≡ (write settings marks.now readings.now sheet.old).buffer }
 {
-    packing::pack_filled(sheet_writer::write(settings, marks, readings, sheet))
+    packing::pack_length(sheet_writer::write(settings, marks, readings, sheet))
 }
 
 // The plan some rounds on from a fresh plan. The answer is the rounds done.
@@ -81,7 +81,7 @@ pub extern "C" fn tohiranga_step(plan: Plan) -> Planning
 pub extern "C" fn tohiranga_target(settings: Settings, accuracy: u32, target: u32) -> u64
     ensures { TargetPacked settings accuracy target result }
 {
-    packing::pack_counted(planner::rounds_for(settings, accuracy, target))
+    packing::pack_number(planner::rounds_for(settings, accuracy, target))
 }
 
 // Where a cabinet's row of readings stands in the sheet: start × 2^32 + length of the part, 0 for an empty part.

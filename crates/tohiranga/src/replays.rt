@@ -9,5 +9,5 @@ pub extern "C" fn tohiranga_replay(trace: &[u8], values: &mut [u8]) -> u64
     ensures value { result ≡ packed (replay trace.now values.old).verdict }
     ensures values_after { values.new ≡ (replay trace.now values.old).buffer }
 {
-    replay_packing::pack_replayed(replaying::replay(trace, values))
+    packing::pack_length(replaying::replay(trace, values))
 }

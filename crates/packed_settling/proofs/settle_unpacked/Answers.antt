@@ -1,12 +1,12 @@
 -- What was packed is got back.
-use Rattle.settling.specs.Answers.{settled_of}
+use Rattle.refusals.specs.Answers.{verdict_of}
 use Rattle.packed_settling.proofs.Unpacking.{settled_back}
 use Rattle.packed_settling.proofs.settle_unpacked.Goals as goal
 
 pub returns : goal.returns
 returns c =
     let a = c.args in
-    settled_back a.sheet.now a.answer.now (settled_of c.unpack.result) c.settle_packed.result
+    settled_back a.sheet.now a.answer.now (verdict_of c.unpack.result) c.settle_packed.result
     c.settle_packed.new.answer
     c.unpack.ensures
     c.settle_packed.ensures.value

@@ -6,32 +6,11 @@ use Rattle.shown_readings.proofs.Parts.{part_is}
 use Rattle.shown_readings.proofs.part_of.Goals as goal
 
 pub overflow_add-entries : goal.overflow_add-entries
-overflow_add-entries c =
-    let few : c.entry_count-entries.result ≤ most_entries =
-    rw c.entry_count-entries.ensures (byte-entries-most c.args.settings (omega arith)) in
-    omega arith
-
-pub overflow_add-entries-2 : goal.overflow_add-entries-2
-overflow_add-entries-2 c =
-    let few : c.entry_count-entries.result ≤ most_entries =
-    rw c.entry_count-entries.ensures (byte-entries-most c.args.settings (omega arith)) in
-    omega arith
-
-pub overflow_mul-entries : goal.overflow_mul-entries
-overflow_mul-entries c =
-    let few : c.entry_count-entries.result ≤ most_entries =
-    rw c.entry_count-entries.ensures (byte-entries-most c.args.settings (omega arith)) in
-    omega arith
-
-pub overflow_add-entries-3 : goal.overflow_add-entries-3
-overflow_add-entries-3 c =
-    let few : c.entry_count-entries.result ≤ most_entries =
-    rw c.entry_count-entries.ensures (byte-entries-most c.args.settings (omega arith)) in
-    omega arith
+overflow_add-entries c = omega (arith, few_entries c.args.settings (omega arith) c.entry_count-entries.ensures)
 
 pub returns : goal.returns
 returns c =
     let n = c.entry_count-entries in
     rw (← n.ensures)
-    (part_is c.args.sheet.now (8 + n.result) (4 * n.result) c.lesser-start.result c.lesser-end.result
-    c.lesser-start.ensures c.lesser-end.ensures)
+    (part_is c.args.sheet.now (8 + n.result) (4 * n.result) c.min-start.result c.min-end.result
+    c.min-start.ensures c.min-end.ensures)

@@ -3,8 +3,9 @@
 -- Assumes nothing.
 use mathlib.Core.List.{List}
 use mathlib.Core.Option.{none, some}
+use Rattle.std.proofs.Common.{absurd}
 use mathlib.Core.Path.{◌≡◌, refl, ap, ap₂, ◌∙◌}
-use Prim.Native.Nat.{ℕ, ◌%◌, ◌<◌}
+use Prim.Native.Nat.{ℕ, ◌≤◌, ◌%◌, ◌<◌}
 use native.Mathlib.Omega.{arith}
 use borrow.Author.Tests.{lt-ltb, le-ltb}
 use lib.ListN.{length}
@@ -17,7 +18,7 @@ use Rattle.refusal_laws.proofs.Tables.{Sound}
 use Rattle.sheet_laws.proofs.Tables.{settle-sound, settled-few}
 use Rattle.packed_refusals.specs.Answers.{packed_refusal, packed}
 use Rattle.packed_refusals.proofs.Halves.{upper_back, lower-back}
-use Rattle.packed_settling.specs.Unpacking.{unpacked}
+use Rattle.packed_settling.specs.Unpacking.{unpacked, Packs}
 
 got_back :
     (check : Check) (size : ℕ) → Sound 12 check → (check ≡ none → size < two_to32)
@@ -57,3 +58,21 @@ module _ (s answer : List ℕ) where
     where
       outcome : Verdict ℕ → List ℕ → Outcome
       outcome v buffer = record { verdict = v; buffer = buffer }
+
+-- what settling packs is a length or a listed refusal
+packs : (check : Check) (size : ℕ) → Sound 12 check → (check ≡ none → size < two_to32) → Packs (packed (verdict check size))
+packs none size t small big = let few = small refl in absurd (omega arith)
+packs (some r) size t small big =
+    let told = t.told r refl in
+    let first = told.first in
+    let last = told.last in
+    let upper = upper_back r.number r.place told.small in
+    (omega arith, omega arith)
+
+pub settle-packs : (s answer : List ℕ) (said : ℕ) → said ≡ packed (settle_spread s 0 answer).verdict → Packs said
+unfolding settle_spread
+settle-packs s answer said e =
+    rw e
+    (packs (first_of (settle_checks s 0 (length answer))) (answer_length (settings_at s).n) (settle-sound s (length answer)) λ pass.
+    let cabinets = settled-few s 0 (length answer) pass in
+    omega arith)

@@ -1,7 +1,7 @@
 -- Inner: what a packed answer says.
 --   unpacked    the length or the refusal
 --   Packs       a length, or a refusal under 1 to 19
-use Rattle.std.specs.Prelude.{◌≤◌, ◌×◌, cond, ℕ, ◌%◌, ltb}
+use Rattle.std.specs.Prelude.{◌≤◌, cond, ℕ, ◌%◌, ltb}
 use Rattle.arithmetic.specs.Words.{two_to32}
 use Rattle.model.specs.Refusals.{refusal}
 use Rattle.model.specs.Calls.{Verdict, granted, refused}

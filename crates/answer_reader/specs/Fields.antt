@@ -3,7 +3,6 @@
 --   cabinets_in, count_in, estimate_in, value_in    N, the accepted count, the estimate, the new value
 --   mark_in, used_in   a cabinet's mark and used value
 --   signed_field      the number that 32 bits in two's complement are
---   shown_of          what this crate's enum says in these terms
 -- Estimate, new value and used value are given by their 32 bits.
 use Rattle.std.specs.Prelude.{List, ℕ, ◌+◌, ◌*◌, ℤ}
 use Rattle.std.specs.Int.{w32}
@@ -13,8 +12,6 @@ use Rattle.model.specs.AnswerSheet.{answer_header_size}
 use Rattle.model.specs.Refusals.{first_of}
 use Rattle.model.specs.Calls.{Verdict, granted, refused, verdict}
 unfoldable pub use Rattle.answer_checks.specs.Checks.{answer_checks, cabinet_checks}
-use Rattle.answer_reader.specs.declared.Shown.{Shown}
-use Rattle.answer_reader.specs.declared.Shown.TheVariants.{Granted, Refused}
 
 -- "Byte 0 N; byte 1 the accepted count; bytes 2 to 5 the estimate; bytes 6 to 9 the new value"
 unfoldable pub cabinets_in : List ℕ → Verdict ℕ
@@ -40,7 +37,3 @@ used_in a r = verdict (first_of (cabinet_checks a r)) (word a (answer_header_siz
 abbrev pub signed_field : Verdict ℕ → Verdict ℤ
 signed_field (granted bits) = granted (to_z w32 bits)
 signed_field (refused r) = refused r
-
-abbrev pub shown_of : Shown → Verdict ℕ
-shown_of (Granted number) = granted number
-shown_of (Refused r) = refused r

@@ -3,81 +3,61 @@
 #![tactic(auto)]
 
 ghost use Rattle.std.specs.Prelude.{◌≡◌};
-ghost use Rattle.refusals.specs.Answers.{check_of};
-ghost use Rattle.model.specs.Calls.{verdict};
-ghost use Rattle.answer_reader.specs.Fields.{shown_of};
+ghost use Rattle.refusals.specs.Answers.{verdict_of};
 ghost use Rattle.answer_reader.specs.Fields.{cabinets_in, count_in, estimate_in, value_in, mark_in, used_in};
 
-use model::Refusal;
-use refusals::Screened;
-
-// A number of the answer sheet, or a refusal: 2, 6 or 7.
-#[derive(Drop)]
-pub enum Shown {
-    Granted(u32),
-    Refused(Refusal),
-}
-
-// The number, unless the sheet is refused.
-fn unless_refused(screened: Screened, number: u32) -> Shown
-    ensures { shown_of result ≡ verdict (check_of screened) number }
-{
-    match screened {
-        Screened::Passed => Shown::Granted(number),
-        Screened::Refused(refusal) => Shown::Refused(refusal),
-    }
-}
+use refusals::Refusal;
 
 // N.
-pub fn cabinets(answer: &[u8]) -> Shown
-    ensures { shown_of result ≡ cabinets_in answer.now }
+#[tactic(auto, unfolding(crate::specs::Fields::cabinets_in))]
+pub fn cabinets(answer: &[u8]) -> Result<u32, Refusal>
+    ensures { verdict_of result ≡ cabinets_in answer.now }
 {
-    let screened = answer_checks::check(answer);
-    let number = answer_fields::cabinets(answer);
-    unless_refused(screened, number)
+    answer_checks::check(answer)?;
+    Ok(answer_fields::cabinets(answer))
 }
 
 // How many readings were accepted.
-pub fn count(answer: &[u8]) -> Shown
-    ensures { shown_of result ≡ count_in answer.now }
+#[tactic(auto, unfolding(crate::specs::Fields::count_in))]
+pub fn count(answer: &[u8]) -> Result<u32, Refusal>
+    ensures { verdict_of result ≡ count_in answer.now }
 {
-    let screened = answer_checks::check(answer);
-    let number = answer_fields::count(answer);
-    unless_refused(screened, number)
+    answer_checks::check(answer)?;
+    Ok(answer_fields::count(answer))
 }
 
 // The estimate.
-pub fn estimate(answer: &[u8]) -> Shown
-    ensures { shown_of result ≡ estimate_in answer.now }
+#[tactic(auto, unfolding(crate::specs::Fields::estimate_in))]
+pub fn estimate(answer: &[u8]) -> Result<u32, Refusal>
+    ensures { verdict_of result ≡ estimate_in answer.now }
 {
-    let screened = answer_checks::check(answer);
-    let number = answer_fields::estimate(answer);
-    unless_refused(screened, number)
+    answer_checks::check(answer)?;
+    Ok(answer_fields::estimate(answer))
 }
 
 // The new value.
-pub fn value(answer: &[u8]) -> Shown
-    ensures { shown_of result ≡ value_in answer.now }
+#[tactic(auto, unfolding(crate::specs::Fields::value_in))]
+pub fn value(answer: &[u8]) -> Result<u32, Refusal>
+    ensures { verdict_of result ≡ value_in answer.now }
 {
-    let screened = answer_checks::check(answer);
-    let number = answer_fields::value(answer);
-    unless_refused(screened, number)
+    answer_checks::check(answer)?;
+    Ok(answer_fields::value(answer))
 }
 
 // A cabinet's mark.
-pub fn mark(answer: &[u8], cabinet: u32) -> Shown
-    ensures { shown_of result ≡ mark_in answer.now cabinet }
+#[tactic(auto, unfolding(crate::specs::Fields::mark_in))]
+pub fn mark(answer: &[u8], cabinet: u32) -> Result<u32, Refusal>
+    ensures { verdict_of result ≡ mark_in answer.now cabinet }
 {
-    let screened = answer_checks::check_cabinet(answer, cabinet);
-    let number = answer_fields::mark(answer, cabinet);
-    unless_refused(screened, number)
+    answer_checks::check_cabinet(answer, cabinet)?;
+    Ok(answer_fields::mark(answer, cabinet))
 }
 
 // A cabinet's used value.
-pub fn used(answer: &[u8], cabinet: u32) -> Shown
-    ensures { shown_of result ≡ used_in answer.now cabinet }
+#[tactic(auto, unfolding(crate::specs::Fields::used_in))]
+pub fn used(answer: &[u8], cabinet: u32) -> Result<u32, Refusal>
+    ensures { verdict_of result ≡ used_in answer.now cabinet }
 {
-    let screened = answer_checks::check_cabinet(answer, cabinet);
-    let number = answer_fields::used(answer, cabinet);
-    unless_refused(screened, number)
+    answer_checks::check_cabinet(answer, cabinet)?;
+    Ok(answer_fields::used(answer, cabinet))
 }

@@ -8,23 +8,18 @@ ghost use Rattle.interval.specs.Interval.{max_precision, max_drift, out_of_range
 ghost use Rattle.interval.specs.Formula.{coefficient, needed, least_by, greatest_by};
 ghost use Rattle.interval_bounds.specs.Answers.{scheduled_of};
 
-use model::{BAD_INTERVAL, MAX_DRIFT, MAX_PRECISION, MAX_WINDOW, NO_INTERVAL, Refusal};
+use model::{MAX_DRIFT, MAX_PRECISION, MAX_WINDOW};
+use refusals::{Reason, Refusal};
 
 // The least and the greatest interval, in ticks.
-#[derive(Drop)]
+#[derive(Clone, Copy)]
 pub struct Interval {
     pub least: u64,
     pub greatest: u64,
 }
 
-// What the call answers.
-#[derive(Drop)]
-pub enum Scheduled {
-    Granted(Interval),
-    Refused(Refusal),
-}
-
 // Whether an input is outside its range.
+#[tactic(auto, unfolding(interval::specs::Interval::out_of_range))]
 fn is_outside(window: u32, precision: u32, drift: u32) -> bool
     ensures { result ≡ out_of_range window precision drift }
 {
@@ -32,6 +27,7 @@ fn is_outside(window: u32, precision: u32, drift: u32) -> bool
 }
 
 // What R is multiplied by in the second inequality.
+#[tactic(auto, unfolding(interval::specs::Formula::coefficient))]
 fn coefficient(drift: u64) -> u64
     requires { drift ≤ max_drift }
     ensures { result ≡ coefficient drift }
@@ -40,6 +36,7 @@ fn coefficient(drift: u64) -> u64
 }
 
 // What that product must reach.
+#[tactic(auto, using(crate::proofs::Sizes::rate_le), unfolding(interval::specs::Formula::needed))]
 fn needed(precision: u64, drift: u64) -> u64
     requires { (precision ≤ max_precision) × (drift ≤ max_drift) }
     ensures { (result ≡ needed precision drift) × (result ≤ 4002000000000000000) }
@@ -60,6 +57,7 @@ fn least(precision: u64, drift: u64) -> u64
 }
 
 // The greatest R that meets the first inequality; 0 where none of at least 1 does.
+#[tactic(auto, unfolding(interval::specs::Formula::greatest_by))]
 fn greatest(window: u64, precision: u64, drift: u64) -> u64
     requires { (window ≤ max_window) × (0 < drift) × (drift ≤ max_drift) }
     ensures { result ≡ greatest_by window precision drift }
@@ -71,18 +69,15 @@ fn greatest(window: u64, precision: u64, drift: u64) -> u64
 }
 
 // The least and the greatest interval between rounds for a window, a precision and a drift in parts per million.
-pub fn interval_for(window: u32, precision: u32, drift: u32) -> Scheduled
+#[tactic(auto, using(crate::proofs::Outcomes::outside_refused, crate::proofs::Outcomes::none_refused, crate::proofs::Outcomes::bounds_granted))]
+pub fn interval_for(window: u32, precision: u32, drift: u32) -> Result<Interval, Refusal>
     ensures { scheduled_of result ≡ interval window precision drift }
 {
-    if is_outside(window, precision, drift) {
-        return Scheduled::Refused(refusals::refuse(BAD_INTERVAL));
-    }
+    refusals::refuse_if(is_outside(window, precision, drift), Reason::BadInterval)?;
     let shortest = least(precision as u64, drift as u64);
     let longest = greatest(window as u64, precision as u64, drift as u64);
-    if longest < shortest {
-        return Scheduled::Refused(refusals::refuse(NO_INTERVAL));
-    }
-    Scheduled::Granted(Interval {
+    refusals::refuse_if(longest < shortest, Reason::NoInterval)?;
+    Ok(Interval {
         least: shortest,
         greatest: longest,
     })

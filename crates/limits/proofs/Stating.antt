@@ -2,7 +2,7 @@
 -- settings pass.
 -- Assumes nothing.
 use mathlib.Core.Bool.{Bool, true, false, cond, ◌&&◌}
-use mathlib.Core.Option.{none, some}
+use mathlib.Core.Option.{none}
 use mathlib.Core.Path.{◌≡◌, refl, ap, ap₂, ◌∙◌, subst}
 use Prim.Native.Nat.{ℕ, ◌+◌, ◌*◌, ◌-◌, ◌/◌, ◌%◌, ◌≤◌, ◌<◌}
 use native.Mathlib.Nat.{le_trans, mul-le-mul, mul-le-mul_left, mul-one, div-le_self}
@@ -11,7 +11,6 @@ use borrow.Author.Tests.{le-leb, lt-leb, leb-true, ltb-true, eqb-true}
 use lib.Dec.{leb, ltb, eqb}
 use Rattle.arithmetic.proofs.Bools.{and_left, and_right}
 use Rattle.model.specs.declared.Settings.{Settings}
-use Rattle.model.specs.Refusals.{Refusal}
 use Rattle.model.specs.RoundSheet.{fca, median}
 use Rattle.model.specs.Planner.{ceil_div, past_div, max_accuracy}
 use Rattle.model.specs.Cases.{settings}
@@ -24,8 +23,8 @@ use Rattle.value_laws.proofs.Means.{odd-one}
 use Rattle.demand_3.specs.Exact.{half_up, half_down}
 use Rattle.sharpness.specs.Sharpness.{Covered}
 use Rattle.reached_limits.specs.Reached.{reachable}
-use Rattle.limits.specs.Limits.{Stated, planned, wider, nothing, refused}
-use Rattle.limits.specs.Limits.{wider_at, bounds, stated}
+use Rattle.limits.specs.Limits.{Stated, planned, wider, nothing}
+use Rattle.limits.specs.Limits.{wider_at, bounds}
 
 ceil_div_le : (n : ℕ) → 0 < n → (a : ℕ) → ceil_div a n ≤ a
 ceil_div_le n some-n a =
@@ -137,11 +136,3 @@ module _ (c : Settings) where
         },
         leb-true c.window (2 * κ) (and_right inexact wide accuracy),
       )
-
-  pub stated-refused : (κ t : ℕ) {r : Refusal} → first_of (plan_checks c κ 0) ≡ some r → refused r ≡ stated c κ t
-  unfolding stated
-  stated-refused κ t e = rw e refl
-
-  pub stated-bounds : (κ t : ℕ) {s : Stated} → first_of (plan_checks c κ 0) ≡ none → s ≡ bounds c κ t → s ≡ stated c κ t
-  unfolding stated
-  stated-bounds κ t e h = rw e h

@@ -4,8 +4,8 @@
 --   bounds       what is stated of settings and an accuracy that the planner grants
 --   stated       what is stated of any
 --   wider_at      the wider limits
---   stated_of     what this crate's enum says in these terms
-use Rattle.std.specs.Prelude.{Bool, true, cond, ℕ, ◌-◌, leb}
+--   limits_of, stated_of    what the limits say in these terms; what the call does
+use Rattle.std.specs.Prelude.{Result, Ok, Err, Bool, true, cond, ℕ, ◌-◌, leb}
 use Rattle.std.proofs.Math.Option.{none, some}
 use Rattle.model.specs.declared.Settings.{Settings}
 use Rattle.model.specs.Refusals.{Refusal}
@@ -15,6 +15,8 @@ use Rattle.run.specs.Run.{Station}
 use Rattle.reached_limits.specs.Reached.{reachable}
 use Rattle.demand_3.specs.Guarantee.{wide_gap, wide_error}
 use Rattle.demand_3.specs.Exact.{exact_gap, exact_error}
+use Rattle.refusals.specs.declared.Refusal as code
+use Rattle.refusals.specs.Answers.{refusal_of}
 use Rattle.limits.specs.declared.Limits.{Limits}
 use Rattle.limits.specs.declared.Wider.{Wider}
 
@@ -53,8 +55,11 @@ stated c κ t = stated_after (first_of (plan_checks c κ 0)) (bounds c κ t)
 abbrev pub wider_of : Wider → Stated
 wider_of w = wider w.gap w.error w.widest w.farthest w.reached
 
-abbrev pub stated_of : Limits → Stated
-stated_of Limits.Planned = planned
-stated_of (Limits.Wider w) = wider_of w
-stated_of Limits.Nothing = nothing
-stated_of (Limits.Refused r) = refused r
+abbrev pub limits_of : Limits → Stated
+limits_of Limits.Planned = planned
+limits_of (Limits.Wider w) = wider_of w
+limits_of Limits.Nothing = nothing
+
+abbrev pub stated_of : Result Limits code.Refusal → Stated
+stated_of (Ok l) = limits_of l
+stated_of (Err r) = refused (refusal_of r)

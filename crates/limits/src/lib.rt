@@ -6,14 +6,14 @@ ghost use Rattle.std.proofs.Math.Option.{none};
 ghost use Rattle.std.specs.Prelude.{◌≡◌, ◌+◌, ◌*◌, ◌-◌, ◌/◌, ◌≤◌, ◌<◌};
 ghost use Rattle.model.specs.Ensemble.{max_cabinets};
 ghost use Rattle.model.specs.Refusals.{first_of, plan_checks};
-ghost use Rattle.limits.specs.Limits.{stated, bounds, stated_of, wider_at, wider_of};
+ghost use Rattle.limits.specs.Limits.{stated, bounds, limits_of, stated_of, wider_at, wider_of};
 
-use model::{Refusal, Settings};
-use refusals::Screened;
+use model::Settings;
+use refusals::Refusal;
 
 // After the first round, of new values: how far two may be apart and how far one may be from true time, by documents 01
 // and 02; both to the tick; and whether a round is known that reaches these.
-#[derive(Drop)]
+#[derive(Clone, Copy)]
 pub struct Wider {
     pub gap: u32,
     pub error: u32,
@@ -22,7 +22,8 @@ pub struct Wider {
     pub reached: bool,
 }
 
-#[derive(Drop)]
+// What holds for t bad cabinets.
+#[derive(Clone, Copy)]
 pub enum Limits {
     // At most m are bad: the planned windows and accuracies hold in every round.
     Planned,
@@ -30,8 +31,6 @@ pub enum Limits {
     Wider(Wider),
     // N-m or more are bad: nothing is promised.
     Nothing,
-    // The planner refuses the settings or the accuracy.
-    Refused(Refusal),
 }
 
 // (2 × excess + half) / 2N
@@ -71,7 +70,7 @@ fn widened(settings: Settings, accuracy: u32, t: u32) -> Wider
 // The limits of settings and an accuracy that the planner grants.
 fn bound(settings: Settings, accuracy: u32, t: u32) -> Limits
     requires { first_of (plan_checks settings accuracy 0) ≡ none }
-    ensures { stated_of result ≡ bounds settings accuracy t }
+    ensures { limits_of result ≡ bounds settings accuracy t }
 {
     let n = settings.n as u32;
     let m = settings.m as u32;
@@ -84,12 +83,11 @@ fn bound(settings: Settings, accuracy: u32, t: u32) -> Limits
     Limits::Wider(widened(settings, accuracy, t))
 }
 
-// The limits for t bad cabinets.
-pub fn limits_for(settings: Settings, accuracy: u32, t: u32) -> Limits
+// The limits for t bad cabinets, unless the planner refuses the settings or the accuracy.
+#[tactic(auto, unfolding(crate::specs::Limits::stated))]
+pub fn limits_for(settings: Settings, accuracy: u32, t: u32) -> Result<Limits, Refusal>
     ensures { stated_of result ≡ stated settings accuracy t }
 {
-    match plan_checks::check_start(settings, accuracy, 0) {
-        Screened::Refused(refusal) => Limits::Refused(refusal),
-        Screened::Passed => bound(settings, accuracy, t),
-    }
+    plan_checks::check_start(settings, accuracy, 0)?;
+    Ok(bound(settings, accuracy, t))
 }

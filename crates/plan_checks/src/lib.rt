@@ -6,8 +6,8 @@ ghost use Rattle.model.specs.Planner.{max_accuracy, max_rounds, max_step_accurac
 ghost use Rattle.model.specs.Refusals.{first_of, planning_checks, plan_checks, step_checks};
 ghost use Rattle.refusals.specs.Answers.{check_of};
 
-use model::{BAD_PLAN, MAX_ACCURACY, MAX_ROUNDS, MAX_STEP_ACCURACY, Settings};
-use refusals::Screened;
+use model::{MAX_ACCURACY, MAX_ROUNDS, MAX_STEP_ACCURACY, Settings};
+use refusals::{Reason, Refusal};
 
 fn bad_start(accuracy: u32, rounds: u32) -> bool
     ensures { result ≡ (ltb max_accuracy accuracy || ltb max_rounds rounds) }
@@ -22,23 +22,25 @@ fn bad_step(accuracy: u32, rounds: u32) -> bool
 }
 
 // Checks 2 to 5, and then 11.
-fn check_all(settings: Settings, fails: bool) -> Screened
+#[tactic(auto, unfolding(model::specs::Refusals::planning_checks, model::specs::Refusals::planner_checks, model::specs::Refusals::first_of, model::specs::Refusals::bad_plan))]
+fn check_all(settings: Settings, fails: bool) -> Result<(), Refusal>
     ensures { check_of result ≡ first_of (planning_checks settings fails) }
 {
-    let of_settings = settings_checks::screen_plan(settings);
-    let of_plan = refusals::refuse_if(fails, BAD_PLAN);
-    refusals::first_of(of_settings, of_plan)
+    settings_checks::screen_plan(settings)?;
+    refusals::refuse_if(fails, Reason::BadPlan)
 }
 
 // The checks of a start for some rounds.
-pub fn check_start(settings: Settings, accuracy: u32, rounds: u32) -> Screened
+#[tactic(auto, unfolding(model::specs::Refusals::plan_checks))]
+pub fn check_start(settings: Settings, accuracy: u32, rounds: u32) -> Result<(), Refusal>
     ensures { check_of result ≡ first_of (plan_checks settings accuracy rounds) }
 {
     check_all(settings, bad_start(accuracy, rounds))
 }
 
 // The checks of a step from a plan.
-pub fn check_step(settings: Settings, accuracy: u32, rounds: u32) -> Screened
+#[tactic(auto, unfolding(model::specs::Refusals::step_checks))]
+pub fn check_step(settings: Settings, accuracy: u32, rounds: u32) -> Result<(), Refusal>
     ensures { check_of result ≡ first_of (step_checks (record { settings = settings; accuracy = accuracy; rounds = rounds })) }
 {
     check_all(settings, bad_step(accuracy, rounds))

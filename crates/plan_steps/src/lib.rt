@@ -6,14 +6,11 @@ ghost use Rattle.model.specs.Calls.{step};
 ghost use Rattle.planner.specs.Answers.{plan_of};
 ghost use Rattle.run.specs.Run.{stepped};
 
-use planner::{Plan, Planned};
+use planner::Plan;
 
 // The plan one round on; one that can go no further stays.
 pub fn stepped(plan: Plan) -> Plan
     ensures { plan_of result ≡ stepped (step (plan_of plan)) (plan_of plan) }
 {
-    match plan.step() {
-        Planned::Granted(next) => next,
-        Planned::Refused(r) => plan,
-    }
+    plan.step().unwrap_or(plan)
 }

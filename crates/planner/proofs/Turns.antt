@@ -3,36 +3,41 @@
 -- Assumes nothing.
 use mathlib.Core.Option.{none}
 use mathlib.Core.Path.{◌≡◌, sym, ap, subst, ◌∙◌}
-use Prim.Native.Nat.{ℕ, suc, ◌≤◌, ◌<◌}
+use Prim.Native.Nat.{ℕ, ◌+◌, ◌≤◌, ◌<◌}
 use native.Mathlib.Omega.{arith}
+use Rattle.std.proofs.Common.{add-one}
 use Rattle.model.specs.declared.Settings.{Settings}
 use Rattle.model.specs.Planner.{Plan, plan_from, advance, after, window_after, max_rounds, max_step_accuracy}
 use Rattle.model.specs.Refusals.{refusal, first_of, planner_checks, plan_checks, target_missed_number}
 use Rattle.model.specs.Calls.{granted, refused, Target}
 use Rattle.refusal_laws.proofs.Limits.{planner_pass}
-use Rattle.planner_laws.proofs.Checks.{MayStart, MayStep}
+use Rattle.planner_laws.proofs.Checks.{MayStep, none-may-start}
 use Rattle.planner_laws.proofs.Steps.{may-step-after}
 use Rattle.planner_laws.proofs.Targets.{target-missed, target-reached}
 
 -- no turn: a plan with no round done is a fresh one
-pub no_turn : (p : Plan) {k : ℕ} → p.rounds ≡ 0 → k ≡ 0 → p ≡ after k (plan_from p.settings p.accuracy)
+pub no_turn : (p : Plan) → p.rounds ≡ 0 → p ≡ after 0 (plan_from p.settings p.accuracy)
 unfolding after
-no_turn p e z =
-    ap (λ (j : ℕ). record { settings = p.settings; accuracy = p.accuracy; rounds = j }) e
-    ∙ ap (λ (j : ℕ). after j (plan_from p.settings p.accuracy)) (sym z)
+no_turn p e = ap (λ (j : ℕ). record { settings = p.settings; accuracy = p.accuracy; rounds = j }) e
 
 module _ (c : Settings) (κ k : ℕ) {q : Plan} (e : q ≡ after k (plan_from c κ)) where
   -- one turn more
-  pub turn : {r : Plan} {j : ℕ} → r ≡ advance q → j ≡ suc k → r ≡ after j (plan_from c κ)
+  pub turn : {r : Plan} → r ≡ advance q → r ≡ after (k + 1) (plan_from c κ)
   unfolding after
-  turn d s = d ∙ ap advance e ∙ ap (λ (j : ℕ). after j (plan_from c κ)) (sym s)
+  turn d = rw add-one (d ∙ ap advance e)
 
   -- the next turn's step is granted
-  pub turn-allowed : (j : ℕ) → MayStart c κ j → k < max_rounds
-      → (first_of (planner_checks q.settings) ≡ none) × ((q.rounds < max_rounds) × (q.accuracy ≤ max_step_accuracy))
-  turn-allowed j s l =
-      let step = subst MayStep (sym e) (may-step-after (plan_from c κ) k s.passes s.accurate (omega arith)) in
-      (planner_pass q.settings step.passes, (step.early, step.accurate))
+  module _ (j : ℕ) (s : first_of (plan_checks c κ j) ≡ none) (l : k < max_rounds) where
+    may_step : MayStep q
+    may_step =
+        let start = none-may-start c κ j s in
+        subst MayStep (sym e) (may-step-after (plan_from c κ) k start.passes start.accurate (omega arith))
+
+    pub turn_passes : first_of (planner_checks q.settings) ≡ none
+    turn_passes = planner_pass q.settings may_step.passes
+
+    pub turn_early : (q.rounds < max_rounds) × (q.accuracy ≤ max_step_accuracy)
+    turn_early = (may_step.early, may_step.accurate)
 
   module _ (target : ℕ) (s : first_of (plan_checks c κ 0) ≡ none) (l : k ≤ max_rounds) where
     window_is : q.settings.window ≡ window_after k c κ

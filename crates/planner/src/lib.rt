@@ -6,10 +6,11 @@ ghost use Rattle.std.proofs.Math.Option.{none};
 ghost use Rattle.model.specs.Planner.{plan_from, advance, after, max_rounds, max_step_accuracy};
 ghost use Rattle.model.specs.Refusals.{first_of, planner_checks, plan_checks};
 ghost use Rattle.model.specs.Calls.{plan, step, Target};
-ghost use Rattle.planner.specs.Answers.{plan_of, planned_of, counted_of};
+ghost use Rattle.refusals.specs.Answers.{verdict_of};
+ghost use Rattle.planner.specs.Answers.{plan_of, planned_of};
 
-use model::{Refusal, Settings, TARGET_MISSED};
-use refusals::Screened;
+use model::{MAX_ROUNDS, Settings};
+use refusals::{Reason, Refusal};
 
 // The settings with the next round's window, the accuracy planned by then, the rounds done. Any contents may stand
 // here.
@@ -21,20 +22,6 @@ pub struct Plan {
     pub rounds: u32,
 }
 
-// What the planner and a step answer.
-#[derive(Drop)]
-pub enum Planned {
-    Granted(Plan),
-    Refused(Refusal),
-}
-
-// How many rounds reach a target.
-#[derive(Drop)]
-pub enum Counted {
-    Granted(u32),
-    Refused(Refusal),
-}
-
 // The plan one round on.
 fn advance(current: Plan) -> Plan
     requires settings_pass { first_of (planner_checks current.settings) ≡ none }
@@ -42,10 +29,12 @@ fn advance(current: Plan) -> Plan
     ensures { plan_of result ≡ advance (plan_of current) }
 {
     let settings = current.settings;
-    let mut next = settings;
-    next.window = shares::next_window(settings) as u32;
+    let next = shares::next_window(settings) as u32;
     Plan {
-        settings: next,
+        settings: Settings {
+            window: next,
+            ..settings
+        },
         accuracy: current.accuracy + (shares::growth(settings) as u32),
         rounds: current.rounds + 1,
     }
@@ -53,73 +42,68 @@ fn advance(current: Plan) -> Plan
 
 impl Plan {
     // The plan one round on.
-    pub fn step(self) -> Planned
+    #[tactic(auto, unfolding(model::specs::Calls::step))]
+    pub fn step(self) -> Result<Plan, Refusal>
         ensures { planned_of result ≡ step (plan_of self) }
     {
-        let settings = self.settings;
-        match plan_checks::check_step(settings, self.accuracy, self.rounds) {
-            Screened::Refused(refusal) => Planned::Refused(refusal),
-            Screened::Passed => Planned::Granted(advance(self)),
-        }
+        plan_checks::check_step(self.settings, self.accuracy, self.rounds)?;
+        Ok(advance(self))
     }
 }
 
 // The plan some rounds on from a fresh plan.
+#[tactic(auto, using(crate::proofs::Turns::turn))]
 fn run(start: Plan, rounds: u32) -> Plan
     requires start_passes { first_of (plan_checks start.settings start.accuracy rounds) ≡ none }
     requires start_fresh { start.rounds ≡ 0 }
     ensures { plan_of result ≡ after rounds (plan_from start.settings start.accuracy) }
 {
     let mut reached = start;
-    let mut left = rounds;
-    'rounds: while 0 < left {
+    'rounds: for _ in 0..rounds {
         reached = advance(reached);
-        left -= 1;
     }
     reached
 }
 
 // The plan some rounds on. A fresh plan is the one for 0 rounds.
-pub fn plan_for(settings: Settings, accuracy: u32, rounds: u32) -> Planned
+#[tactic(auto, unfolding(model::specs::Calls::plan))]
+pub fn plan_for(settings: Settings, accuracy: u32, rounds: u32) -> Result<Plan, Refusal>
     ensures { planned_of result ≡ plan settings accuracy rounds }
 {
-    match plan_checks::check_start(settings, accuracy, rounds) {
-        Screened::Refused(refusal) => Planned::Refused(refusal),
-        Screened::Passed => {
-            let start = Plan {
-                settings,
-                accuracy,
-                rounds: 0,
-            };
-            Planned::Granted(run(start, rounds))
-        }
-    }
+    plan_checks::check_start(settings, accuracy, rounds)?;
+    let start = Plan {
+        settings,
+        accuracy,
+        rounds: 0,
+    };
+    Ok(run(start, rounds))
 }
 
 // Goes forward from a fresh plan until its window is at or below the target.
-fn reach(start: Plan, target: u32) -> Counted
+#[tactic(auto, using(crate::proofs::Turns::turn))]
+fn reach(start: Plan, target: u32) -> Result<u32, Refusal>
     requires start_passes { first_of (plan_checks start.settings start.accuracy 0) ≡ none }
     requires start_fresh { start.rounds ≡ 0 }
-    ensures { Target start.settings start.accuracy target (counted_of result) }
+    ensures { Target start.settings start.accuracy target (verdict_of result) }
 {
     let mut reached = start;
-    let mut k: u32 = 0;
-    'rounds: while plan_tests::is_above(reached.settings.window, target) {
+    'rounds: for k in 0..=MAX_ROUNDS {
+        if !plan_tests::is_above(reached.settings.window, target) {
+            return Ok(k);
+        }
         if plan_tests::is_last(k) {
-            return Counted::Refused(refusals::refuse(TARGET_MISSED));
+            break;
         }
         reached = advance(reached);
-        k += 1;
     }
-    Counted::Granted(k)
+    Err(Reason::TargetMissed.into())
 }
 
 // A count of at most 32 rounds whose window is at or below the target. Which of those that fit is not promised.
-pub fn rounds_for(settings: Settings, accuracy: u32, target: u32) -> Counted
-    ensures { Target settings accuracy target (counted_of result) }
+#[tactic(auto, using(crate::proofs::Fresh::start_refused))]
+pub fn rounds_for(settings: Settings, accuracy: u32, target: u32) -> Result<u32, Refusal>
+    ensures { Target settings accuracy target (verdict_of result) }
 {
-    match plan_for(settings, accuracy, 0) {
-        Planned::Refused(refusal) => Counted::Refused(refusal),
-        Planned::Granted(start) => reach(start, target),
-    }
+    let start = plan_for(settings, accuracy, 0)?;
+    reach(start, target)
 }

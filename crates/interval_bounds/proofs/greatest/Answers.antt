@@ -1,6 +1,5 @@
--- `interval_bounds::greatest` meets its contract: the product does not wrap, and the body is the quotient.
-use Rattle.std.proofs.Common.{refl, sym, arith}
-use Rattle.interval.specs.Formula.{greatest_by}
+-- A window at most as wide as the precision has no interval.
+use Rattle.std.proofs.Common.{sym, arith}
 use Rattle.interval.proofs.Formula.{greatest-narrow}
 use Rattle.interval_bounds.proofs.greatest.Goals as goal
 
@@ -8,7 +7,3 @@ pub returns-then-window-precision : goal.returns-then-window-precision
 returns-then-window-precision c =
     let a = c.args in
     sym (greatest-narrow a.window a.precision a.drift (omega arith))
-
-pub returns : goal.returns
-unfolding greatest_by
-returns c = refl

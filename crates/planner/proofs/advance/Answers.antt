@@ -11,7 +11,7 @@ pub overflow_cast-next : goal.overflow_cast-next
 overflow_cast-next c =
     let settings = c.args.current.settings in
     let passes = planner_limits settings c.requires.settings_pass in
-    omega (arith, passes.window, next-window-le settings passes, c.next_window.ensures)
+    omega (arith, passes.window, next-window-le settings passes, c.next_window-next.ensures)
 
 pub overflow_cast-result : goal.overflow_cast-result
 overflow_cast-result c =
@@ -33,5 +33,5 @@ returns c =
     ap₂
     (λ (w g : ℕ).
     record { settings = with_window current.settings w; accuracy = current.accuracy + g; rounds = rounds })
-    c.next_window.ensures
+    c.next_window-next.ensures
     c.growth.ensures

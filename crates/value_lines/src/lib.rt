@@ -10,6 +10,7 @@ use fields::Writer;
 use model::TRACE_HEADER_SIZE;
 
 // Puts a line for each of the cabinets 0 to n-1: number, role, value.
+// Stays: beside its twin text::put_cabinets, since a loop for both would take a closure, and be no shorter.
 pub fn put_lines(text: &mut Writer, trace: &[u8], values: &[u8], n: u32)
     ensures { Writes text.old (value_lines (role_at trace.now) (value_at values.now) n) text.new }
 {

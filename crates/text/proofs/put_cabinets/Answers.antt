@@ -1,5 +1,4 @@
 -- A cabinet's line is put after those of the cabinets passed.
-use Rattle.std.proofs.Common.{◌≡◌, arith}
 use Rattle.fields.proofs.Writing.{writes_none}
 use Rattle.text.specs.Text.{answer_round}
 use Rattle.text.proofs.Lines.{cabinets-none}
@@ -13,9 +12,3 @@ pub cabinets-preserved : goal.cabinets-preserved
 cabinets-preserved c =
     cabinet-put c.args.answer.now c.args.n c.cabinets.r c.byte_at-mark.result c.word_at-used.result c.requires
     c.byte_at-mark.ensures c.word_at-used.ensures c.cabinets.invariant c.put_cabinet.ensures
-
-pub returns : goal.returns
-returns c = rw whole at c.cabinets.invariant
-  where
-    whole : c.cabinets.r ≡ c.args.n
-    whole = omega arith

@@ -1,5 +1,4 @@
 -- A cabinet's field is put after those of the cabinets passed.
-use Rattle.std.proofs.Common.{◌≡◌, arith}
 use Rattle.fields.proofs.Writing.{writes_none}
 use Rattle.value_lines.specs.Values.{value_at}
 use Rattle.value_fields.proofs.Fields.{values-none, value-put}
@@ -12,9 +11,3 @@ pub cabinets-preserved : goal.cabinets-preserved
 cabinets-preserved c =
     value-put c.args.values.now c.cabinets.p c.word_at-value.result c.word_at-value.ensures c.cabinets.invariant
     c.put_signed_field.ensures
-
-pub returns : goal.returns
-returns c = rw whole at c.cabinets.invariant
-  where
-    whole : c.cabinets.p ≡ c.args.n
-    whole = omega arith

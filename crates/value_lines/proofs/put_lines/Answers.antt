@@ -1,5 +1,4 @@
 -- A cabinet's line is put after those of the cabinets passed.
-use Rattle.std.proofs.Common.{◌≡◌, arith}
 use Rattle.trace.specs.Trace.{role_at}
 use Rattle.fields.proofs.Writing.{writes_none}
 use Rattle.value_lines.specs.Values.{value_at}
@@ -14,9 +13,3 @@ pub cabinets-preserved : goal.cabinets-preserved
 cabinets-preserved c =
     value-put c.args.trace.now c.args.values.now c.cabinets.p c.byte_at-role.result c.word_at-value.result
     c.byte_at-role.ensures c.word_at-value.ensures c.cabinets.invariant c.put_cabinet.ensures
-
-pub returns : goal.returns
-returns c = rw whole at c.cabinets.invariant
-  where
-    whole : c.cabinets.p ≡ c.args.n
-    whole = omega arith

@@ -4,21 +4,12 @@
 ghost use Rattle.std.specs.Prelude.{◌≡◌, not, ◌&&◌, ◌||◌, ◌+◌, ◌*◌, ◌≤◌, ◌<◌, eqb, ltb, length};
 ghost use Rattle.arithmetic.specs.Counting.{count};
 ghost use Rattle.model.specs.Ensemble.{max_cabinets};
-ghost use Rattle.copies.specs.Copies.{copy_bits, holds_copy, copies_in};
+ghost use Rattle.copies.specs.Copies.{holds_copy, copies_in};
 
 use model::MAX_CABINETS;
 
 // The most copies.
 const MOST: usize = MAX_CABINETS as usize;
-
-// The number of the copy t.
-fn copy_bits(row: &[u8], t: usize) -> u32
-    requires { 4 * t + 3 < length row.now }
-    ensures { result ≡ copy_bits row.now t }
-{
-    let at = 4 * t;
-    words::join(row[at], row[at + 1], row[at + 2], row[at + 3])
-}
 
 // Whether a copy is present and holds a value.
 pub fn holds(mark: u8, value: u32, bits: u32) -> bool
@@ -28,16 +19,15 @@ pub fn holds(mark: u8, value: u32, bits: u32) -> bool
 }
 
 // How many present copies hold a value.
+#[tactic(auto, using(loop_laws::proofs::Loops::count_next), unfolding(arithmetic::specs::Counting::count))]
 fn count_each(marks: &[u8], row: &[u8], value: u32) -> u32
     requires { (length marks.now ≤ max_cabinets) × (length row.now ≡ 4 * length marks.now) }
     ensures { result
         ≡ count (holds_copy marks.now row.now value) (length marks.now) }
 {
     let mut copies: u32 = 0;
-    let mut t = 0;
-    'copies: while t < marks.len() {
-        copies += holds(marks[t], value, copy_bits(row, t)) as u32;
-        t += 1;
+    'copies: for (t, mark) in marks.iter().enumerate() {
+        copies += u32::from(holds(*mark, value, words::word_in(row, 4 * t)));
     }
     copies
 }
@@ -45,14 +35,12 @@ fn count_each(marks: &[u8], row: &[u8], value: u32) -> u32
 fn misfit(marks: usize, row: usize) -> bool
     ensures { result ≡ (ltb max_cabinets marks || not (eqb row (4 * marks))) }
 {
-    if MOST < marks {
-        return true;
-    }
-    row != 4 * marks
+    MOST < marks || row != 4 * marks
 }
 
 // How many present copies hold a value, where there are at most 64 copies and four bytes of each; any other row counts
 // none.
+#[tactic(auto, unfolding(crate::specs::Copies::copies_in))]
 pub fn count_copies(marks: &[u8], row: &[u8], value: u32) -> u32
     ensures { result ≡ copies_in marks.now row.now value }
 {

@@ -7,6 +7,7 @@ ghost use Rattle.decisions.specs.Rows.{copy_at};
 ghost use Rattle.sent_readings.specs.Sizes.{readings_taken};
 
 // How many readings are taken: all that have a mark, or none where their bytes or the lent lists are too short.
+#[tactic(auto, unfolding(crate::specs::Sizes::readings_taken))]
 fn takes(sent: usize, row: usize, marks: usize, values: usize) -> usize
     ensures { result ≡ readings_taken sent row marks values }
 {
@@ -29,13 +30,10 @@ pub fn receive_sent(sent: &[u8], row: &[u8], marks: &mut [u8], values: &mut [u32
         marks.old values.old marks.new values.new }
 {
     let n = takes(sent.len(), row.len(), marks.len(), values.len());
-    let mut t: usize = 0;
-    'readings: while t < n {
-        let at = 4 * t;
-        let bits = words::join(row[at], row[at + 1], row[at + 2], row[at + 3]);
+    'readings: for t in 0..n {
         let mark = sent[t];
+        let bits = words::word_in(row, 4 * t);
         marks[t] = held::entry_mark(mark, bits);
         values[t] = held::entry_value(mark, bits);
-        t += 1;
     }
 }

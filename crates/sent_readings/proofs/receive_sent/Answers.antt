@@ -29,7 +29,7 @@ readings-preserved c =
     let a = c.args in
     let r = c.readings in
     let mark = get_or a.sent.now r.t 0 in
-    let read : c.join-bits.result ≡ word a.row.now (4 * r.t) = c.join-bits.ensures in
+    let read : c.word_in-bits.result ≡ word a.row.now (4 * r.t) = c.word_in-bits.ensures in
     record {
       taken = r.invariant.taken;
       room = r.invariant.room;

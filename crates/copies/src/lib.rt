@@ -7,6 +7,7 @@ ghost use Rattle.model.specs.Ensemble.{max_cabinets};
 ghost use Rattle.copies.specs.Copies.{holds_copy, copies_in};
 
 use model::MAX_CABINETS;
+use words::Entries;
 
 // The most copies.
 const MOST: usize = MAX_CABINETS as usize;
@@ -20,14 +21,15 @@ pub fn holds(mark: u8, value: u32, bits: u32) -> bool
 
 // How many present copies hold a value.
 #[tactic(auto, using(loop_laws::proofs::Loops::count_next), unfolding(arithmetic::specs::Counting::count))]
-fn count_each(marks: &[u8], row: &[u8], value: u32) -> u32
-    requires { (length marks.now ≤ max_cabinets) × (length row.now ≡ 4 * length marks.now) }
+fn count_each(row: &Entries, value: u32) -> u32
+    requires { length row.now.marks.now ≤ max_cabinets }
     ensures { result
-        ≡ count (holds_copy marks.now row.now value) (length marks.now) }
+        ≡ count (holds_copy row.now.marks.now row.now.bytes.now value)
+        (length row.now.marks.now) }
 {
     let mut copies: u32 = 0;
-    'copies: for (t, mark) in marks.iter().enumerate() {
-        copies += u32::from(holds(*mark, value, words::word_in(row, 4 * t)));
+    'copies: for (t, mark) in row.marks.iter().enumerate() {
+        copies += u32::from(holds(*mark, value, row.bits(t)));
     }
     copies
 }
@@ -47,5 +49,5 @@ pub fn count_copies(marks: &[u8], row: &[u8], value: u32) -> u32
     if misfit(marks.len(), row.len()) {
         return 0;
     }
-    count_each(marks, row, value)
+    count_each(&Entries { marks, bytes: row }, value)
 }

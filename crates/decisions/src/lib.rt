@@ -9,6 +9,7 @@ ghost use Rattle.copies.specs.Copies.{copies_in};
 ghost use Rattle.decisions.specs.Rows.{Elected, decision_of, row_decision};
 
 use model::MAX_CABINETS;
+use words::Entries;
 
 // The most copies.
 const MOST: usize = MAX_CABINETS as usize;
@@ -16,13 +17,12 @@ const MOST: usize = MAX_CABINETS as usize;
 // A row of at most 64 copies, with four bytes for each, of which need are more than half.
 #[derive(Clone, Copy)]
 struct Row<'a> {
-    marks: &'a [u8],
-    bytes: &'a [u8],
+    copies: Entries<'a>,
     need: u32,
-    ghost few: { length marks.now ≤ max_cabinets },
-    ghost sized: { length bytes.now ≡ 4 * length marks.now },
-    ghost most: { length marks.now < need + need },
-    ghost low: { (i : ℕ) → slice_index bytes.now i < 256 },
+    ghost few: { length copies.marks.now ≤ max_cabinets },
+    ghost sized: { length copies.bytes.now ≡ 4 * length copies.marks.now },
+    ghost most: { length copies.marks.now < need + need },
+    ghost low: { (i : ℕ) → slice_index copies.bytes.now i < 256 },
 }
 
 // The copies whose values are counted before a vote.
@@ -31,22 +31,22 @@ const TRIES: usize = 2;
 impl Row<'_> {
     // How many present copies hold a value.
     fn count(&self, value: u32) -> u32
-        ensures { result ≡ copies_in self.now.marks.now self.now.bytes.now value }
+        ensures { result ≡ copies_in self.now.copies.marks.now self.now.copies.bytes.now value }
     {
-        copies::count_copies(self.marks, self.bytes, value)
+        copies::count_copies(self.copies.marks, self.copies.bytes, value)
     }
 
     // What the count of the copies of the value of copy t tells: the decision, or nothing.
     fn try_copy(&self, t: usize) -> Option<Option<u32>>
-        requires { t < length self.now.marks.now }
-        ensures { IfSome result (λ d. decision_of d ≡ row_decision self.now.need self.now.marks.now self.now.bytes.now) }
+        requires { t < length self.now.copies.marks.now }
+        ensures { IfSome result (λ d. decision_of d ≡ row_decision self.now.need self.now.copies.marks.now self.now.copies.bytes.now) }
     {
-        let value = words::word_in(self.bytes, 4 * t);
+        let value = self.copies.bits(t);
         let copies = self.count(value);
         if tallies::enough(self.need, copies) {
             return Some(Some(value));
         }
-        if tallies::spent(self.marks.len() as u32, self.need, copies) {
+        if tallies::spent(self.copies.marks.len() as u32, self.need, copies) {
             return Some(None);
         }
         None
@@ -54,19 +54,19 @@ impl Row<'_> {
 
     // Tries the first copies until one tells.
     fn try_copies(&self) -> Option<Option<u32>>
-        ensures { IfSome result (λ d. decision_of d ≡ row_decision self.now.need self.now.marks.now self.now.bytes.now) }
+        ensures { IfSome result (λ d. decision_of d ≡ row_decision self.now.need self.now.copies.marks.now self.now.copies.bytes.now) }
     {
-        (0..self.marks.len().min(TRIES)).find_map(|t| self.try_copy(t))
+        (0..self.copies.marks.len().min(TRIES)).find_map(|t| self.try_copy(t))
     }
 
     // The candidate of the majority vote: the value that more than half of the copies hold, if there is one.
     fn vote(&self) -> u32
-        ensures { Elected self.now.marks.now self.now.bytes.now result }
+        ensures { Elected self.now.copies.marks.now self.now.copies.bytes.now result }
     {
         let mut candidate: u32 = 0;
         let mut lead: u32 = 0;
-        'copies: for (t, mark) in self.marks.iter().enumerate() {
-            let bits = words::word_in(self.bytes, 4 * t);
+        'copies: for (t, mark) in self.copies.marks.iter().enumerate() {
+            let bits = self.copies.bits(t);
             if copies::holds(*mark, candidate, bits) {
                 lead += 1;
             } else if 0 < lead {
@@ -81,7 +81,7 @@ impl Row<'_> {
 
     // The decision by a vote.
     fn elect(&self) -> Option<u32>
-        ensures { decision_of result ≡ row_decision self.now.need self.now.marks.now self.now.bytes.now }
+        ensures { decision_of result ≡ row_decision self.now.need self.now.copies.marks.now self.now.copies.bytes.now }
     {
         let candidate = self.vote();
         if tallies::enough(self.need, self.count(candidate)) {
@@ -109,8 +109,7 @@ pub fn decide(marks: &[u8], row: &[u8], need: u32) -> Option<u32>
         return None;
     }
     let row = Row {
-        marks,
-        bytes: row,
+        copies: Entries { marks, bytes: row },
         need,
     };
     match row.try_copies() {

@@ -8,4 +8,4 @@ use Rattle.copies.proofs.count_each.Goals as goal
 pub overflow_add-copies : goal.overflow_add-copies
 overflow_add-copies c =
     let a = c.args in
-    omega (arith, count-le (holds_copy a.marks.now a.row.now a.value) c.copies.t, flag_small c.holds.result)
+    omega (arith, count-le (holds_copy a.row.now.marks.now a.row.now.bytes.now a.value) c.copies.t, flag_small c.holds.result)

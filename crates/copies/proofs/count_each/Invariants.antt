@@ -5,4 +5,4 @@ use Rattle.copies.specs.Copies.{holds_copy}
 use Rattle.copies.proofs.count_each.Given as goal
 
 abbrev pub invariant-copies : goal.invariant-copies
-invariant-copies l = l.copies ≡ count (holds_copy l.marks l.row l.value) l.t
+invariant-copies l = l.copies ≡ count (holds_copy l.mark-items l.row.bytes.now l.value) l.t

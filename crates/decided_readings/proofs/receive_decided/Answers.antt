@@ -11,7 +11,6 @@ pub rows-init : goal.rows-init
 rows-init c =
     let a = c.args in
     record {
-      taken = c.takes-rows.ensures;
       room = rows-room a.n _ _ _ _ c.takes-rows.result c.takes-rows.ensures;
       stored = begin (row_reading a.sent.now a.copies.now a.n a.need) c.takes-rows.result a.marks.now a.values.now;
     }
@@ -32,7 +31,6 @@ rows-preserved c =
     rw (width_back start a.n, bytes_back start a.n) at c.decide-decided.ensures
     in
     record {
-      taken = r.invariant.taken;
       room = room;
       stored =
           store

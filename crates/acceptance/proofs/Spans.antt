@@ -6,10 +6,10 @@ use mathlib.Core.List.{List}
 use mathlib.Core.Logic.{◌⊎◌, inr, ⊎_elim}
 use mathlib.Core.Path.{◌≡◌, refl, sym, ap, ◌∙◌}
 use Prim.Native.Nat.{ℕ, zero, suc, ◌+◌, ◌-◌, ◌≤◌, ◌<◌, zero-le, suc-le-suc}
-use native.Mathlib.Nat.{le_refl, le_trans, le_of_suc-le-suc, not-suc-le-zero, lt_irrefl}
+use native.Mathlib.Nat.{le_refl, le_trans, le_of_suc-le-suc, not-suc-le-zero}
 use native.Mathlib.Omega.{arith}
 use borrow.Author.Count.{below_more}
-use borrow.Author.Tests.{le-leb, lt-leb, leb-true, eqb-true, eqb-false, lt-ltb, le-ltb, ltb-true}
+use borrow.Author.Tests.{le-leb, lt-leb, leb-true, eqb-true, eqb-false, ltb-true}
 use lib.Dec.{leb, ltb, eqb}
 use lib.ListN.{length, get_or, set, length-set}
 use mir.Val.{bool_byte}
@@ -27,8 +27,12 @@ use Rattle.loop_laws.proofs.Loops.{flag, count_next}
 use Rattle.held.specs.Held.{value_at, present_in}
 use Rattle.spans.specs.Spans.{in_span, held_at}
 use Rattle.span_counts.specs.Places.{places}
-use Rattle.acceptance.specs.Values.{accepted_in, enough_at, admits, admitted, Remembered, Holds}
+use Rattle.acceptance.specs.Values.{accepted_in, enough_at, admits, admitted, Remembered, Holds, Begins}
 use Rattle.acceptance.specs.Values.{one_pass, passed_at, Counting}
+use Rattle.starts.specs.declared.Known.{Known}
+use Rattle.starts.specs.declared.Known.TheVariants.{Uncounted, Enough}
+use Rattle.starts.specs.Starts.{judged_of, is_short, spanned_from}
+use Rattle.std.specs.Prelude.{Option, None, Some, is_some, IfSome}
 
 -- ---- counting
 
@@ -149,7 +153,7 @@ module _ (w need : ℕ) (marks values : List ℕ) where
   accepted-held r = accepted-shifted w (present_in marks) (value_at values) two_to31 need (length marks) r
 
   -- it asks of a present reading for a start that admits it
-  accepted-admitted :
+  pub accepted-admitted :
       (r : ℕ)
       → present_in marks r ≡ true
       → accepted_in w need marks values r ≡ admitted w need marks values (value_at values r)
@@ -163,7 +167,7 @@ module _ (w need : ℕ) (marks values : List ℕ) where
   held-present r e =
       accepted-present w (present_in marks) (value_at values) need (length marks) r (sym (accepted-held r) ∙ e)
 
-  missing-not : (r : ℕ) → present_in marks r ≡ false → accepted_in w need marks values r ≡ false
+  pub missing-not : (r : ℕ) → present_in marks r ≡ false → accepted_in w need marks values r ≡ false
   missing-not r m = go (accepted_in w need marks values r) refl
     where
       go : (b : Bool) → accepted_in w need marks values r ≡ b → b ≡ false
@@ -173,31 +177,33 @@ module _ (w need : ℕ) (marks values : List ℕ) where
   -- a present reading in the span of a start that holds enough is accepted
   span-accepts :
       (s r : ℕ)
-      → s < length marks
-      → (present_in marks s ≡ true) × (enough_at w need marks values s ≡ true)
+      → Holds w need marks values s
       → present_in marks r ≡ true
       → in_span (value_at values s) w (value_at values r) ≡ true
       → accepted_in w need marks values r ≡ true
   unfolding admitted admits
-  span-accepts s r below holds present inside =
+  span-accepts s r holds present inside =
       accepted-admitted r present
-      ∙ any-true (admits w need marks values (value_at values r)) (length marks) s below
-      (and_intro (and_intro holds.0 inside) holds.1)
+      ∙ any-true (admits w need marks values (value_at values r)) (length marks) s holds.0
+      (and_intro (and_intro holds.1 inside) holds.2)
 
-  -- as the code tests it
+  -- the start that accepted an earlier reading, where its span holds this one too
   pub joined-accepted :
-      (s r : ℕ) {b : Bool}
-      → length values ≡ length marks
-      → Holds w need marks values s
-      → b ≡ (present_in marks r && (ltb s (length values) && in_span (value_at values s) w (value_at values r)))
-      → b ≡ true
-      → accepted_in w need marks values r ≡ true
-  joined-accepted s r alike holds e t =
-      let both = sym e ∙ t in
-      let span = and_right (present_in marks r) _ both in
-      let below : s < length marks = omega (arith, ltb-true s (length values) (and_left _ _ span)) in
-      span-accepts s r below (holds below) (and_left (present_in marks r) _ both)
-      (and_right (ltb s (length values)) _ span)
+      (earlier : Option ℕ) (r : ℕ)
+      → present_in marks r ≡ true
+      → IfSome earlier (Begins w need marks values)
+      → IfSome (spanned_from earlier w (value_at values r)) (Begins w need marks values)
+      × (is_some (spanned_from earlier w (value_at values r)) ≡ true → accepted_in w need marks values r ≡ true)
+  joined-accepted None r present begins = (tt, λ t. absurd (clash t refl))
+  joined-accepted (Some v) r present begins = go (in_span v w (value_at values r)) refl
+    where
+      go :
+          (b : Bool)
+          → in_span v w (value_at values r) ≡ b
+          → IfSome (cond b (Some v) None) (Begins w need marks values)
+          × (is_some (cond b (Some v) None) ≡ true → accepted_in w need marks values r ≡ true)
+      go true e = (begins, λ _. span-accepts begins.0 r begins.1 present (rw begins.2 e))
+      go false e = (tt, λ t. absurd (clash t refl))
 
   -- so an accepted reading is one of enough
   accepted-enough :
@@ -214,7 +220,7 @@ module _ (w need : ℕ) (marks values : List ℕ) where
       le_trans (leb-true need _ enough)
       (count_mono (held_at (value_at values s) w marks values) (accepted_in w need marks values) (length marks)
       (λ t _ h.
-      span-accepts s t found.1 (start, enough) (and_left (present_in marks t) _ h)
+      span-accepts s t (found.1, start, enough) (and_left (present_in marks t) _ h)
       (and_right (present_in marks t) _ h)))
 
   -- where those before a reading and those left are too few, it is not
@@ -232,16 +238,16 @@ module _ (w need : ℕ) (marks values : List ℕ) where
       go false e = refl
 
   -- what is answered of v: a start that admits it, or none
-  abbrev pub Answer : ℕ → List ℕ → ℕ → Type 0
+  abbrev pub Answer : ℕ → List Known → Option ℕ → Type 0
   Answer v known s =
-      ((s ≤ length marks) × (ltb s (length marks) ≡ admitted w need marks values v))
-      × (Holds w need marks values s × Remembered w need marks values known)
+      (is_some s ≡ admitted w need marks values v)
+      × (IfSome s (Holds w need marks values) × Remembered w need marks values known)
 
   -- the start a is stored as what it is
   remember :
-      (known : List ℕ) (a v : ℕ)
+      (known : List Known) (a : ℕ) (v : Known)
       → a < length known
-      → (a < length marks → v ≡ 1 + bit (enough_at w need marks values a))
+      → (a < length marks → v ≡ judged_of (enough_at w need marks values a))
       → Remembered w need marks values known
       → Remembered w need marks values (set known a v)
   remember known a v h e f b l = go (eqb b a) refl
@@ -249,72 +255,42 @@ module _ (w need : ℕ) (marks values : List ℕ) where
       go :
           (t : Bool)
           → eqb b a ≡ t
-          → (get_or (set known a v) b 0 ≡ 0) ⊎ (get_or (set known a v) b 0 ≡ 1 + bit (enough_at w need marks values b))
+          → (get_or (set known a v) b Uncounted ≡ Uncounted)
+          ⊎ (get_or (set known a v) b Uncounted ≡ judged_of (enough_at w need marks values b))
       go true q =
           let s : b ≡ a = eqb-true b a q in
           let m : a < length marks = omega (arith, l) in
-          rw s (inr (get_or-set_same known a v 0 h ∙ e m))
-      go false q = rw (get_or-set_other known a b v 0 (eqb-false b a q)) (f b l)
+          rw s (inr (get_or-set_same known a v Uncounted h ∙ e m))
+      go false q = rw (get_or-set_other known a b v Uncounted (eqb-false b a q)) (f b l)
 
-  -- what is answered of r's reading
-  abbrev pub Decision : ℕ → List ℕ → ℕ → Type 0
-  Decision r known s =
-      (ltb s (length marks) ≡ accepted_in w need marks values r)
-      × (Holds w need marks values s × Remembered w need marks values known)
-
-  -- one that is not accepted
-  decided-not :
-      (r : ℕ) (known : List ℕ)
-      → accepted_in w need marks values r ≡ false
-      → Remembered w need marks values known
-      → Decision r known (length marks)
-  decided-not r known e m = (
-    le-ltb (length marks) (length marks) (le_refl (length marks)) ∙ sym e,
-    (λ l. absurd (lt_irrefl (length marks) l), m),
-  )
-
-  -- a missing one
-  pub decided-missing :
-      (r : ℕ) (known : List ℕ)
-      → present_in marks r ≡ false
-      → Remembered w need marks values known
-      → Decision r known (length marks)
-  decided-missing r known e m = decided-not r known (missing-not r e) m
-
-  -- one where the accepted ones before it and those left are too few
+  -- one where the accepted ones before it and those left are too few is not accepted
   pub decided_too_few :
-      (r : ℕ) (known : List ℕ) (before : ℕ) {b : Bool}
+      (r before : ℕ) {b : Bool}
       → r < length marks
       → before ≡ count (accepted_in w need marks values) r
       → b ≡ ltb (before + (length marks - r)) need
       → b ≡ true
-      → Remembered w need marks values known
-      → Decision r known (length marks)
-  decided_too_few r known before l exact e t m =
+      → false ≡ accepted_in w need marks values r
+  decided_too_few r before l exact e t =
       let few = ltb-true (before + (length marks - r)) need (sym e ∙ t) in
-      decided-not r known (too_few-not r l (omega (arith, few, exact))) m
+      sym (too_few-not r l (omega (arith, few, exact)))
 
-  -- the answer of its value is its own, and the start that gives it is remembered
-  pub decided-answered :
-      (r : ℕ) (known : List ℕ) (s : ℕ)
-      → present_in marks r ≡ true
-      → length known ≡ 65
+  -- the start that gives the answer is remembered
+  pub remembered-answered :
+      (known : List Known) (s : ℕ)
+      → length known ≡ max_cabinets
       → length marks ≤ max_cabinets
-      → Answer (value_at values r) known s
-      → Decision r (set known s 2) s
-  decided-answered r known s present long few a = (
-    a.0.1 ∙ sym (accepted-admitted r present),
-    (
-      a.1.0,
-      remember known s 2 (omega (arith, a.0.0)) (λ l. ap (λ (b : Bool). 1 + bit b) (sym (a.1.0 l).1)) a.1.1,
-    ),
-  )
+      → Holds w need marks values s
+      → Remembered w need marks values known
+      → Remembered w need marks values (set known s Enough)
+  remembered-answered known s long few holds m =
+      let below = holds.0 in
+      remember known s Enough (omega arith) (λ _. ap judged_of (sym holds.2)) m
 
   -- where the starts below s are tried, and the memory is sound
-  pub record Tried (v : ℕ) (known : List ℕ) (s : ℕ) : Type 0 where
-    pub up_to : s ≤ length marks
+  pub record Tried (v : ℕ) (known : List Known) (s : ℕ) : Type 0 where
     pub few : length marks ≤ max_cabinets
-    pub long : length known ≡ 65
+    pub long : length known ≡ max_cabinets
     pub none : (a : ℕ) → a < s → admits w need marks values v a ≡ false
     pub memory : Remembered w need marks values known
 
@@ -326,25 +302,19 @@ module _ (w need : ℕ) (marks values : List ℕ) where
 
   -- the loop over starts begins
   pub untried :
-      (v : ℕ) (known : List ℕ)
+      (v : ℕ) (known : List Known)
       → length marks ≤ max_cabinets
-      → length known ≡ 65
+      → length known ≡ max_cabinets
       → Remembered w need marks values known
       → Tried v known 0
   untried v known f l m =
-      record { up_to = zero-le; few = f; long = l; none = λ a h. absurd (not-suc-le-zero h); memory = m }
+      record { few = f; long = l; none = λ a h. absurd (not-suc-le-zero h); memory = m }
 
   -- no start admits v
-  pub unanswered : (v : ℕ) (known : List ℕ) (s : ℕ) → Tried v known s → length marks ≤ s → Answer v known s
+  pub unanswered : (v : ℕ) (known : List Known) (s : ℕ) → Tried v known s → length marks ≤ s → false ≡ admitted w need marks values v
   unfolding admitted
-  unanswered v known s tried h = (
-    (
-      tried.up_to,
-      le-ltb s (length marks) h
-          ∙ sym (any_false (admits w need marks values v) (length marks) (λ a l. tried.none a (omega (arith, l, h)))),
-    ),
-    (λ l. absurd (omega (arith, l, h)), tried.memory),
-  )
+  unanswered v known s tried h =
+      sym (any_false (admits w need marks values v) (length marks) (λ a l. tried.none a (omega (arith, l, h))))
 
   -- the loop over readings begins
   pub uncounted : (s : ℕ) → Counted s 0 0
@@ -352,17 +322,16 @@ module _ (w need : ℕ) (marks values : List ℕ) where
   uncounted s =
       record { up_to = zero-le; exact = (refl, λ _ _. refl); short = λ h. absurd (not-suc-le-zero h) }
 
-  module _ (v : ℕ) (known : List ℕ) (s : ℕ) (below : s < length marks) (tried : Tried v known s) where
+  module _ (v : ℕ) (known : List Known) (s : ℕ) (below : s < length marks) (tried : Tried v known s) where
     -- a start that does not admit v is passed
     pass :
-        (known' : List ℕ)
-        → length known' ≡ 65
+        (known' : List Known)
+        → length known' ≡ max_cabinets
         → Remembered w need marks values known'
         → admits w need marks values v s ≡ false
         → Tried v known' (s + 1)
     pass known' l m e =
         record {
-          up_to = omega arith;
           few = tried.few;
           long = l;
           none = below_more (λ (a : ℕ). admits w need marks values v a ≡ false) s tried.none e;
@@ -371,7 +340,7 @@ module _ (w need : ℕ) (marks values : List ℕ) where
 
     module _ {b : Bool}
         (tries :
-        b ≡ (not (eqb (get_or known s 0) 1) && (present_in marks s && in_span (value_at values s) w v))) where
+        b ≡ (not (is_short (get_or known s Uncounted)) && (present_in marks s && in_span (value_at values s) w v))) where
       -- a start that is remembered as short, or whose span does not hold v
       pub pass-untried : b ≡ false → Tried v known (s + 1)
       unfolding admits
@@ -383,48 +352,46 @@ module _ (w need : ℕ) (marks values : List ℕ) where
         where
           go :
               (a b : Bool)
-              → (get_or known s 0 ≡ 0) ⊎ (get_or known s 0 ≡ 1 + bit b)
-              → (not (eqb (get_or known s 0) 1) && a) ≡ false
+              → (get_or known s Uncounted ≡ Uncounted) ⊎ (get_or known s Uncounted ≡ judged_of b)
+              → (not (is_short (get_or known s Uncounted)) && a) ≡ false
               → (a && b) ≡ false
           go false b m q = refl
           go true false m q = refl
-          go true true m q = absurd (⊎_elim (λ z. differ 0 z refl) (λ z. differ 2 z refl) m)
+          go true true m q = absurd (⊎_elim (λ z. differ Uncounted z refl) (λ z. differ Enough z refl) m)
             where
-              differ : (k : ℕ) → get_or known s 0 ≡ k → eqb k 1 ≡ false → ⊥
-              differ k z f = clash (ap (λ (v : ℕ). not (eqb v 1) && true) z ∙ ap (λ (t : Bool). not t && true) f) q
+              differ : (k : Known) → get_or known s Uncounted ≡ k → is_short k ≡ false → ⊥
+              differ k z f = clash (ap (λ (v : Known). not (is_short v) && true) z ∙ ap (λ (t : Bool). not t && true) f) q
 
       -- a start that is tried, and holds enough
-      pub answered : b ≡ true → enough_at w need marks values s ≡ true → Answer v known s
-      unfolding admitted admits
-      answered t e =
-          let o = and_right (not (eqb (get_or known s 0) 1)) _ (sym tries ∙ t) in (
-            (
-              tried.up_to,
-              lt-ltb s (length marks) below
-                  ∙ sym (any-true (admits w need marks values v) (length marks) s below (and_intro o e)),
-            ),
-            (λ _. (and_left (present_in marks s) _ o, e), tried.memory),
-          )
+      module _ (t : b ≡ true) where
+        tested : (present_in marks s && in_span (value_at values s) w v) ≡ true
+        tested = and_right (not (is_short (get_or known s Uncounted))) _ (sym tries ∙ t)
 
-      -- one that is remembered as such
-      pub answered-known : b ≡ true → get_or known s 0 ≡ 2 → Answer v known s
-      answered-known t two =
-          answered t
-          (⊎_elim (λ z. absurd (none z)) (λ z. go (enough_at w need marks values s) z) (tried.memory s below))
+        pub answered : enough_at w need marks values s ≡ true → true ≡ admitted w need marks values v
+        unfolding admitted admits
+        answered e = sym (any-true (admits w need marks values v) (length marks) s below (and_intro tested e))
+
+        pub answered-holds : enough_at w need marks values s ≡ true → Holds w need marks values s
+        answered-holds e = (below, and_left (present_in marks s) _ tested, e)
+
+      -- one that is remembered as such holds enough
+      pub known_enough : get_or known s Uncounted ≡ Enough → enough_at w need marks values s ≡ true
+      known_enough two =
+          ⊎_elim (λ z. absurd (none (sym z ∙ two))) (λ z. go (enough_at w need marks values s) (sym z ∙ two)) (tried.memory s below)
         where
-          none : get_or known s 0 ≡ 0 → ⊥
-          none z = omega (arith, two)
+          none : Uncounted ≡ Enough → ⊥
+          none z = cc
 
-          go : (b : Bool) → get_or known s 0 ≡ 1 + bit b → b ≡ true
+          go : (b : Bool) → judged_of b ≡ Enough → b ≡ true
           go true z = refl
-          go false z = absurd (omega (arith, two))
+          go false z = cc
 
     -- the count reached n: the start is short, and is stored so
     pub pass-counted :
-        (c t k : ℕ)
+        (c t : ℕ) (k : Known)
         → Counted s c t
         → length marks ≤ t
-        → k ≡ 1 + bit (leb need c)
+        → k ≡ judged_of (leb need c)
         → Tried v (set known s k) (s + 1)
     unfolding enough_at admits
     pass-counted c t k so_far h judged =
@@ -433,7 +400,7 @@ module _ (w need : ℕ) (marks values : List ℕ) where
         let exact : c ≡ count held (length marks) = so_far.exact.0 ∙ ap (count held) n in
         let room : s < length known = omega (arith, tried.few, tried.long) in
         pass (set known s k) (length-set known s k ∙ tried.long)
-        (remember known s k room (λ _. judged ∙ ap (λ (i : ℕ). 1 + bit (leb need i)) exact) tried.memory)
+        (remember known s k room (λ _. judged ∙ ap (λ (i : ℕ). judged_of (leb need i)) exact) tried.memory)
         (and_false (present_in marks s && in_span (value_at values s) w v)
         (ap (leb need) (sym exact) ∙ lt-leb need c (so_far.short (omega arith))))
 

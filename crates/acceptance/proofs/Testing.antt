@@ -1,11 +1,10 @@
 -- The readings tested one after the other; and what `accept` answers.
 -- Assumes nothing.
-use mathlib.Core.Bool.{Bool, true, false, cond, not, ◌||◌}
-use mathlib.Core.List.{List}
+use mathlib.Core.Bool.{Bool, true, false, not, ◌||◌}
+use mathlib.Core.List.{List, [], ◌∷◌}
 use mathlib.Core.Logic.{inl}
-use mathlib.Core.Path.{◌≡◌, refl, sym, ap, ap₂, ◌∙◌}
-use Prim.Native.Nat.{ℕ, ◌+◌, ◌≤◌, ◌<◌, zero-le}
-use native.Mathlib.Nat.{lt_irrefl}
+use mathlib.Core.Path.{◌≡◌, refl, sym, ap, ◌∙◌}
+use Prim.Native.Nat.{ℕ, zero, suc, ◌+◌, ◌≤◌, ◌<◌, zero-le}
 use native.Mathlib.Omega.{arith}
 use borrow.Author.Tests.{ltb-false, eqb-true, not-false}
 use lib.Dec.{ltb, eqb}
@@ -16,30 +15,41 @@ use Rattle.arithmetic.proofs.Bools.{or_left, or_right}
 use Rattle.arithmetic.proofs.Counting.{count-le}
 use Rattle.arithmetic.proofs.Writing.{length-table, length-overwrite}
 use Rattle.model.specs.Ensemble.{max_cabinets}
+use Rattle.held.specs.Held.{present_in}
+use Rattle.acceptance.proofs.Spans.{missing-not}
 use Rattle.acceptance.specs.Values.{accepted_in, accepted_count, lists_misfit, count_given, flags_of}
-use Rattle.acceptance.specs.Values.{Alike, Remembered, Holds}
+use Rattle.acceptance.specs.Values.{Alike, Remembered, Begins}
+use Rattle.starts.specs.declared.Known.{Known}
+use Rattle.starts.specs.declared.Known.TheVariants.{Uncounted}
+use Rattle.std.specs.Prelude.{Option, None, is_some, IfSome}
 use Rattle.loop_laws.proofs.Loops.{count_next, store-none, store-next, store-ended}
+
+-- a flag that is stored again
+set_again : (l : List Bool) (i : ℕ) (a b : Bool) → set (set l i a) i b ≡ set l i b
+set_again [] i a b = refl
+set_again (x ∷ xs) zero a b = refl
+set_again (x ∷ xs) (suc i) a b = ap (λ (ys : List Bool). x ∷ ys) (set_again xs i a b)
 
 module _ (w need : ℕ) (marks values : List ℕ) (flags₀ : List Bool) where
   abbrev passing : ℕ → Bool
   passing = accepted_in w need marks values
 
   -- where the readings below r are tested
-  pub record Testing (known : List ℕ) (flags : List Bool) (counted earlier r : ℕ) : Type 0 where
+  pub record Testing (known : List Known) (flags : List Bool) (counted : ℕ) (earlier : Option ℕ) (r : ℕ) : Type 0 where
     pub up_to : r ≤ length marks
     pub alike : Alike marks values known
     pub room : length marks ≤ length flags₀
     pub memory : Remembered w need marks values known
-    pub start : Holds w need marks values earlier
+    pub start : IfSome earlier (Begins w need marks values)
     pub exact : counted ≡ count passing r
     pub written : flags ≡ overwrite (table passing r) flags₀
 
   pub test-none :
-      (known : List ℕ)
+      (known : List Known)
       → Alike marks values known
       → length marks ≤ length flags₀
       → Remembered w need marks values known
-      → Testing known flags₀ 0 (length marks) 0
+      → Testing known flags₀ 0 None 0
   unfolding count
   test-none known a s m =
       record {
@@ -47,12 +57,12 @@ module _ (w need : ℕ) (marks values : List ℕ) (flags₀ : List Bool) where
         alike = a;
         room = s;
         memory = m;
-        start = λ l. absurd (lt_irrefl (length marks) l);
+        start = tt;
         exact = refl;
         written = store-none passing flags₀;
       }
 
-  module _ (known : List ℕ) (flags : List Bool) (c earlier r : ℕ)
+  module _ (known : List Known) (flags : List Bool) (c : ℕ) (earlier : Option ℕ) (r : ℕ)
       (so_far : Testing known flags c earlier r) where
     pub flags_long : length flags ≡ length flags₀
     flags_long =
@@ -72,56 +82,48 @@ module _ (w need : ℕ) (marks values : List ℕ) (flags₀ : List Bool) where
     -- a reading's test
     test-next :
         r < length marks
-        → (known' : List ℕ)
+        → (known' : List Known)
         → length known' ≡ length known
         → Remembered w need marks values known'
         → (b : Bool)
         → b ≡ accepted_in w need marks values r
-        → (next : ℕ)
-        → Holds w need marks values next
+        → (next : Option ℕ)
+        → IfSome next (Begins w need marks values)
         → (k : ℕ)
-        → k ≡ bit b
-        → Testing known' (set flags r b) (c + k) next (r + 1)
-    test-next h known' l m b e next holds k q =
+        → k ≡ c + bit b
+        → Testing known' (set flags r b) k next (r + 1)
+    test-next h known' l m b e next begins k q =
         record {
           up_to = omega arith;
           alike = (so_far.alike.0, so_far.alike.1, l ∙ so_far.alike.2);
           room = so_far.room;
           memory = m;
-          start = holds;
-          exact =
-              ap₂ (λ (x y : ℕ). x + y) so_far.exact (q ∙ ap bit e)
-              ∙ sym (count_next passing r);
+          start = begins;
+          exact = omega (arith, so_far.exact, q, ap bit e, count_next passing r);
           written = store-next passing r flags₀ flags b so_far.written e (omega (arith, so_far.room));
         }
 
-    -- by the start that accepted an earlier one
-    pub test-joined :
-        r < length marks
-        → accepted_in w need marks values r ≡ true
-        → Testing known (set flags r true) (c + 1) earlier (r + 1)
-    test-joined h e = test-next h known refl so_far.memory true (sym e) earlier so_far.start 1 refl
+    -- a missing one
+    pub test-missing :
+        r < length marks → present_in marks r ≡ false → Testing known (set flags r false) c earlier (r + 1)
+    test-missing h m =
+        test-next h known refl so_far.memory false (sym (missing-not w need marks values r m)) earlier so_far.start c
+        (omega arith)
 
-    -- by the start that is found
-    pub test-one :
-        r < length marks
-        → (known' : List ℕ)
-        → length known' ≡ length known
-        → Remembered w need marks values known'
-        → (s : ℕ)
-        → ltb s (length marks) ≡ accepted_in w need marks values r
-        → Holds w need marks values s
-        → (next : ℕ)
-        → next ≡ cond (ltb s (length marks)) s earlier
-        → (k : ℕ)
-        → k ≡ bit (ltb s (length marks))
-        → Testing known' (set flags r (ltb s (length marks))) (c + k) next (r + 1)
-    test-one h known' l m s e holds next n k q =
-        test-next h known' l m (ltb s (length marks)) e next (rw n (go (ltb s (length marks)))) k q
-      where
-        go : (b : Bool) → Holds w need marks values (cond b s earlier)
-        go true = holds
-        go false = so_far.start
+    -- by the start that is found, or where none is
+    module _ (h : r < length marks) (known' : List Known) (l : length known' ≡ length known)
+        (m : Remembered w need marks values known') (s : Option ℕ) (e : is_some s ≡ accepted_in w need marks values r)
+        (k : ℕ) (q : k ≡ bit (is_some s)) where
+      pub test-found :
+          is_some s ≡ true
+          → IfSome s (Begins w need marks values)
+          → Testing known' (set (set flags r false) r true) (c + k) s (r + 1)
+      test-found t begins =
+          rw set_again
+          (test-next h known' l m true (sym t ∙ e) s begins (c + k) (omega (arith, q, ap bit t)))
+
+      pub test-not : is_some s ≡ false → Testing known' (set flags r false) (c + k) earlier (r + 1)
+      test-not t = test-next h known' l m false (sym t ∙ e) earlier so_far.start (c + k) (omega (arith, q, ap bit t))
 
     pub all-counted : length marks ≤ r → c ≡ accepted_count w need marks values
     unfolding accepted_count
@@ -133,8 +135,8 @@ module _ (w need : ℕ) (marks values : List ℕ) (flags₀ : List Bool) where
 
 -- nothing is remembered of any start
 pub remember-none :
-    (w need : ℕ) (marks values : List ℕ) → length marks ≤ max_cabinets → Remembered w need marks values (replicate 65 0)
-remember-none w need marks values few a l = inl (get_or-replicate 65 a 0 0 (omega arith))
+    (w need : ℕ) (marks values : List ℕ) → length marks ≤ max_cabinets → Remembered w need marks values (replicate 64 Uncounted)
+remember-none w need marks values few a l = inl (get_or-replicate 64 a Uncounted Uncounted (omega arith))
 
 -- ---- the answers
 

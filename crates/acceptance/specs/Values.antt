@@ -7,18 +7,22 @@
 -- What the functions below it give:
 --   enough_at               whether the span that starts at a reading holds enough
 --   admits, admitted       a present reading's span holds a number and enough readings; some reading's does
---   Holds                  a start's reading is present, and its span holds enough
---   Alike                  as many values as marks, at most 64, and a memory of one start more
+--   Holds                  a start is a present reading's, and its span holds enough
+--   Begins                 a number is that of such a start
+--   Alike                  as many values as marks, at most 64, and a memory of 64 starts
 --   Remembered             what the memory of counted spans says of each start
 --   one_pass, passed_at,     the readings of a span are counted one by one, or from some number on all at once
 --   Counting
 use Rattle.std.specs.Prelude.{Bool, true, cond, not, ◌&&◌, ◌||◌, List, ◌⊎◌, ◌≡◌, ℕ, ◌+◌, ◌≤◌, ◌<◌, leb, ltb, eqb, length, get_or}
-use Rattle.arithmetic.specs.Counting.{bit, count, any_below}
+use Rattle.arithmetic.specs.Counting.{count, any_below}
 use Rattle.arithmetic.specs.Writing.{table, overwrite}
 use Rattle.model.specs.Steps.{accepted}
 use Rattle.model.specs.Ensemble.{max_cabinets}
 use Rattle.held.specs.Held.{readings_in, value_at, present_in}
 use Rattle.spans.specs.Spans.{in_span, held_at}
+use Rattle.starts.specs.declared.Known.{Known}
+use Rattle.starts.specs.declared.Known.TheVariants.{Uncounted}
+use Rattle.starts.specs.Starts.{judged_of}
 
 unfoldable pub accepted_in : ℕ → ℕ → List ℕ → List ℕ → ℕ → Bool
 accepted_in w need marks values r = accepted w need (length marks) (readings_in marks values) r
@@ -53,16 +57,21 @@ admitted w need marks values v = any_below (admits w need marks values v) (lengt
 -- of a start among the readings
 abbrev pub Holds : ℕ → ℕ → List ℕ → List ℕ → ℕ → Type 0
 Holds w need marks values a =
-    a < length marks → (present_in marks a ≡ true) × (enough_at w need marks values a ≡ true)
+    (a < length marks) × (present_in marks a ≡ true) × (enough_at w need marks values a ≡ true)
 
-abbrev pub Alike : List ℕ → List ℕ → List ℕ → Type 0
+-- of the number of a start
+abbrev pub Begins : ℕ → ℕ → List ℕ → List ℕ → ℕ → Type 0
+Begins w need marks values v = (a : ℕ) × Holds w need marks values a × (value_at values a ≡ v)
+
+abbrev pub Alike : List ℕ → List ℕ → List Known → Type 0
 Alike marks values known =
-    (length values ≡ length marks) × (length marks ≤ max_cabinets) × (length known ≡ 65)
+    (length values ≡ length marks) × (length marks ≤ max_cabinets) × (length known ≡ max_cabinets)
 
--- 0 for a start that was not counted, 1 for one that is short, 2 for one that holds enough
-abbrev pub Remembered : ℕ → ℕ → List ℕ → List ℕ → List ℕ → Type 0
+abbrev pub Remembered : ℕ → ℕ → List ℕ → List ℕ → List Known → Type 0
 Remembered w need marks values known =
-    (a : ℕ) → a < length marks → (get_or known a 0 ≡ 0) ⊎ (get_or known a 0 ≡ 1 + bit (enough_at w need marks values a))
+    (a : ℕ)
+    → a < length marks
+    → (get_or known a Uncounted ≡ Uncounted) ⊎ (get_or known a Uncounted ≡ judged_of (enough_at w need marks values a))
 
 -- from this number of readings on a span is counted in one pass
 abbrev pub one_pass : ℕ

@@ -1,18 +1,19 @@
 // Who is accepted. A mark of 1 is a present reading, any other is none; the values are ticks moved up by 2^31.
 #![tactic(auto)]
 
-ghost use Rattle.std.specs.Prelude.{◌≡◌, true, cond, not, ◌&&◌, ◌||◌, ◌+◌, ◌≤◌, ◌<◌, ltb, eqb, length};
+ghost use Rattle.std.specs.Prelude.{◌≡◌, true, not, ◌&&◌, ◌||◌, ◌+◌, ◌≤◌, ◌<◌, ltb, eqb, length, is_some, IfSome};
 ghost use Rattle.arithmetic.specs.Counting.{bit, count};
 ghost use Rattle.arithmetic.specs.Writing.{table, overwrite};
 ghost use Rattle.model.specs.Ensemble.{max_cabinets};
 ghost use Rattle.held.specs.Held.{present_in, value_at};
 ghost use Rattle.spans.specs.Spans.{in_span, held_at};
+ghost use Rattle.starts.specs.Starts.{is_short};
 ghost use Rattle.acceptance.specs.Values.{accepted_in, accepted_count, count_given, flags_of};
-ghost use Rattle.acceptance.specs.Values.{admitted, passed_at, Counting, Alike, Remembered, Holds};
+ghost use Rattle.acceptance.specs.Values.{admitted, passed_at, Counting, Alike, Remembered, Holds, Begins};
 
 use held::PRESENT;
 use model::MAX_CABINETS;
-use starts::{ENOUGH, SHORT, UNCOUNTED};
+use starts::Known;
 
 // The most readings.
 const MOST: usize = MAX_CABINETS as usize;
@@ -21,10 +22,10 @@ const MOST: usize = MAX_CABINETS as usize;
 const WIDE: usize = 8;
 
 // Whether a span is to be tried for a value: it starts at a present reading, holds the value, and was not found short.
-fn tries(known: u8, from: u8, start: u32, span: u32, value: u32) -> bool
-    ensures { result ≡ (not (eqb known 1) && (eqb from 1 && in_span start span value)) }
+fn tries(known: Known, from: u8, start: u32, span: u32, value: u32) -> bool
+    ensures { result ≡ (not (is_short known) && (eqb from 1 && in_span start span value)) }
 {
-    (known != SHORT) & ((from == PRESENT) & spans::spanned(start, span, value))
+    (known != Known::Short) & ((from == PRESENT) & spans::spanned(start, span, value))
 }
 
 // A count with one reading more, if the span from a start holds it.
@@ -63,31 +64,29 @@ fn passed(t: usize, n: usize) -> usize
     if WIDE <= n { n } else { t + 1 }
 }
 
-// The first start whose span holds a value, and enough readings; the number of readings where there is none. The
-// loops over starts and readings are left by a label at the first span that does. `known` remembers what was found of
-// each start, so that none is counted twice.
+// The first start whose span holds a value, and enough readings. The loops over starts and readings are left by a label
+// at the first span that does. `known` remembers what was found of each start, so that none is counted twice.
 fn accepts(
     marks: &[u8],
     values: &[u32],
     span: u32,
     need: u32,
-    known: &mut [u8],
+    known: &mut [Known],
     value: u32,
-) -> usize
+) -> Option<usize>
     requires alike { Alike marks.now values.now known.old }
     requires remembered { Remembered span need marks.now values.now known.old }
-    ensures admitted { (result ≤ length marks.now)
-        × (ltb result (length marks.now)
-        ≡ admitted span need marks.now values.now value) }
-    ensures holds { Holds span need marks.now values.now result }
+    ensures admitted { is_some result ≡ admitted span need marks.now values.now value }
+    ensures holds { IfSome result (Holds span need marks.now values.now) }
     ensures remembered_after { Remembered span need marks.now values.now known.new }
 {
-    let mut s = 0;
-    'starts: while s < marks.len() {
+    let mut found = None;
+    'starts: for s in 0..marks.len() {
         let start = values[s];
         let so_far = known[s];
         if tries(so_far, marks[s], start, span, value) {
-            if so_far == ENOUGH {
+            if so_far == Known::Enough {
+                found = Some(s);
                 break 'starts;
             }
             let mut count: u32 = 0;
@@ -96,14 +95,14 @@ fn accepts(
                 count = counted(count, marks, values, start, span, t);
                 t = passed(t, marks.len());
                 if need <= count {
+                    found = Some(s);
                     break 'starts;
                 }
             }
             known[s] = starts::judged(need, count);
         }
-        s += 1;
     }
-    s
+    found
 }
 
 // Whether the accepted readings and those left are fewer than needed.
@@ -114,65 +113,47 @@ fn too_few(before: u32, left: usize, need: u32) -> bool
     before + (left as u32) < need
 }
 
-// The first start whose span accepts a reading, by how many before it are accepted; the number of readings where none
-// does. Such a span holds accepted readings alone: where those before it and those left are too few, no start is tried.
-// A start that accepts is remembered; the place behind the last one is that of none.
+// The number of a start whose span accepts a present reading: the one that accepted an earlier reading, or else the first
+// of all. Such a span holds accepted readings alone: where those before a reading and those left are too few, no start is
+// tried. A start that accepts is remembered.
 fn find_start(
     marks: &[u8],
     values: &[u32],
     span: u32,
     need: u32,
-    known: &mut [u8],
+    known: &mut [Known],
     before: u32,
+    earlier: Option<u32>,
     r: usize,
-) -> usize
+) -> Option<u32>
     requires alike { Alike marks.now values.now known.old × (r < length marks.now) }
+    requires present { present_in marks.now r ≡ true }
     requires before { before ≡ count (accepted_in span need marks.now values.now) r }
     requires remembered { Remembered span need marks.now values.now known.old }
-    ensures accepted { ltb result (length marks.now)
-        ≡ accepted_in span need marks.now values.now r }
-    ensures holds { Holds span need marks.now values.now result }
+    requires begins { IfSome earlier (Begins span need marks.now values.now) }
+    ensures accepted { is_some result ≡ accepted_in span need marks.now values.now r }
+    ensures holds { IfSome result (Begins span need marks.now values.now) }
     ensures remembered_after { Remembered span need marks.now values.now known.new }
 {
-    if marks[r] != PRESENT {
-        return marks.len();
+    let joined = starts::spanned_from(earlier, span, values[r]);
+    if joined.is_some() {
+        return joined;
     }
     if too_few(before, marks.len() - r, need) {
-        return marks.len();
+        return None;
     }
-    let s = accepts(marks, values, span, need, &mut *known, values[r]);
-    known[s] = ENOUGH;
-    s
+    let s = accepts(marks, values, span, need, &mut *known, values[r])?;
+    known[s] = Known::Enough;
+    Some(values[s])
 }
 
-// Whether a present reading lies in the span of the start that accepted an earlier one.
-fn joins(marks: &[u8], values: &[u32], span: u32, earlier: usize, r: usize) -> bool
-    requires { (length values.now ≡ length marks.now) × (r < length marks.now) }
-    ensures { result
-        ≡ (present_in marks.now r
-        && (ltb earlier (length values.now)
-        && in_span (value_at values.now earlier) span (value_at values.now r))) }
-{
-    if marks[r] != PRESENT {
-        return false;
-    }
-    starts::spanned_from(values, earlier, span, values[r])
-}
-
-fn later(first: usize, n: usize, second: usize) -> usize
-    ensures { result ≡ cond (ltb first n) first second }
-{
-    if first < n { first } else { second }
-}
-
-// Says of each reading whether it is accepted, and counts the accepted ones. The start that accepted an earlier one is
-// tried first.
+// Says of each reading whether it is accepted, and counts the accepted ones.
 fn accept_each(
     marks: &[u8],
     values: &[u32],
     span: u32,
     need: u32,
-    known: &mut [u8],
+    known: &mut [Known],
     accepted: &mut [bool],
 ) -> u32
     requires alike { Alike marks.now values.now known.old × (length marks.now ≤ length accepted.old) }
@@ -184,19 +165,17 @@ fn accept_each(
         accepted.old }
 {
     let mut count: u32 = 0;
-    let mut earlier = marks.len();
-    let mut r = 0;
-    'readings: while r < marks.len() {
-        if joins(marks, values, span, earlier, r) {
-            accepted[r] = true;
-            count += 1;
-        } else {
-            let start = find_start(marks, values, span, need, &mut *known, count, r);
-            accepted[r] = start < marks.len();
-            count += starts::passes(start, marks.len());
-            earlier = later(start, marks.len(), earlier);
+    let mut earlier = None;
+    'readings: for r in 0..marks.len() {
+        accepted[r] = false;
+        if marks[r] == PRESENT {
+            let start = find_start(marks, values, span, need, &mut *known, count, earlier, r);
+            count += starts::passes(start);
+            if start.is_some() {
+                accepted[r] = true;
+                earlier = start;
+            }
         }
-        r += 1;
     }
     count
 }
@@ -217,6 +196,6 @@ pub fn accept(marks: &[u8], values: &[u32], span: u32, need: u32, accepted: &mut
     if misfit(marks.len(), values.len(), accepted.len()) {
         return 0;
     }
-    let mut known = [UNCOUNTED; 65];
+    let mut known = [Known::Uncounted; 64];
     accept_each(marks, values, span, need, &mut known, accepted)
 }

@@ -10,10 +10,11 @@ use lib.ListN.{length, length-append}
 use Rattle.arithmetic.specs.Writing.{table}
 use Rattle.model.specs.Listing.{decimal, signed_decimal, line}
 use Rattle.trace.specs.ReplayText.{after_word, after_text}
-use Rattle.fields.specs.Putting.{Puts}
+use Rattle.fields.specs.declared.Writer.{Writer}
+use Rattle.fields.specs.Writing.{Writes}
 use Rattle.fields.proofs.Digits.{length-decimal-byte}
 use Rattle.fields.proofs.Signed.{length_signed}
-use Rattle.fields.proofs.Putting.{puts_then}
+use Rattle.fields.proofs.Writing.{writes_then}
 use Rattle.value_fields.specs.Spaced.{spaced, spaced_values}
 use Rattle.value_fields.proofs.Fields.{values-next}
 use Rattle.after_text.specs.After.{after_capacity}
@@ -48,13 +49,11 @@ module _ (n k : ℕ) (value : ℕ → ℤ) where
       line-spaced after_word (decimal k ∷ table (λ p. signed_decimal (value p)) n)
       ∙ ap (λ (l : List ℕ). after_word ++ l) (append_assoc (32 ∷ decimal k) (spaced_values value n) (10 ∷ []))
 
-  pub after-put :
-      {old a b c d : List ℕ} {i j h l m : ℕ} → Puts old i after_word a j
-      → Puts a j (32 ∷ decimal k) b h
-      → Puts b h (spaced_values value n) c l
-      → Puts c l (10 ∷ []) d m
-      → Puts old i (after_text n k value) d m
-  after-put p q r s = rw after-spaced (puts_then p (puts_then q (puts_then r s)))
+  pub after-put : {start a b c end : Writer} → Writes start after_word a → Writes a (32 ∷ decimal k) b
+      → Writes b (spaced_values value n) c
+      → Writes c (10 ∷ []) end
+      → Writes start (after_text n k value) end
+  after-put p q r s = rw after-spaced (writes_then p (writes_then q (writes_then r s)))
 
   pub length-after : n < 256 → k < 256 → length (after_text n k value) ≤ after_capacity
   length-after few small =

@@ -1,15 +1,26 @@
 // Writes the answer sheet of a settled round, of which the marks and the values are held beside each other.
 #![tactic(auto)]
 
-ghost use Rattle.std.specs.Prelude.{◌≡◌, ◌*◌, ◌≤◌, ◌++◌, length, drop};
+ghost use Rattle.std.specs.Prelude.{◌≡◌, ◌+◌, ◌*◌, ◌≤◌, ◌++◌, length, drop};
 ghost use Rattle.arithmetic.specs.Writing.{table, overwrite};
 ghost use Rattle.model.specs.RoundSheet.{reading_bytes};
+ghost use Rattle.sheet_laws.specs.Storing.{put_word};
 ghost use Rattle.model.specs.AnswerSheet.{answer_bytes, answer_length};
 ghost use Rattle.model.specs.Ensemble.{max_cabinets};
 ghost use Rattle.answer_parts.specs.Parts.{roomy};
 ghost use Rattle.answer_writer.specs.Answers.{used_in, round_held, written_of};
 
 use model::ANSWER_HEADER_SIZE;
+
+// Stores the four bytes of x as number r of a list of numbers.
+// Stays: with word_writer::put_word, which tests for room, the loop over 64 cabinets takes 107 ns in place of 47.
+#[tactic(auto, unfolding(sheet_laws::specs::Storing::put_word, model::specs::RoundSheet::bytes4))]
+fn store(tail: &mut [u8], r: usize, x: u32)
+    requires { 4 * r + 4 ≤ length tail.old }
+    ensures { tail.new ≡ put_word tail.old (4 * r) x }
+{
+    tail[4 * r..4 * r + 4].copy_from_slice(&x.to_le_bytes());
+}
 
 // Puts the marks at the front of a list that has room for them.
 fn copy(marks: &[u8], tail: &mut [u8])
@@ -30,7 +41,7 @@ fn put_used(marks: &[u8], values: &[u32], estimate: u32, tail: &mut [u8])
         tail.old }
 {
     'values: for (r, mark) in marks.iter().enumerate() {
-        word_writer::put_word_in(tail, 4 * r, answer_parts::used(*mark, values[r], estimate));
+        store(tail, r, answer_parts::used(*mark, values[r], estimate));
     }
 }
 

@@ -1,16 +1,15 @@
 -- Rows that fit, and the counts of their copies.
 -- Assumes nothing.
-use mathlib.Core.Bool.{Bool, true, false, not, ◌&&◌}
+use mathlib.Core.Bool.{Bool, ◌&&◌}
 use mathlib.Core.List.{List}
-use mathlib.Core.Path.{◌≡◌, sym, ap, ◌∙◌}
+use mathlib.Core.Path.{◌≡◌, ap, ◌∙◌}
 use Prim.Native.Nat.{ℕ, ◌*◌, ◌≤◌}
-use borrow.Author.Tests.{le-ltb, eq-eqb, ltb-false, eqb-true, not-false}
-use lib.Dec.{ltb, eqb}
+use borrow.Author.Tests.{le-ltb, eq-eqb}
+use lib.Dec.{eqb}
 use lib.ListN.{length, get_or}
 use Rattle.arithmetic.specs.Counting.{count}
-use Rattle.arithmetic.proofs.Bools.{or_left, or_right}
 use Rattle.model.specs.Ensemble.{max_cabinets}
-use Rattle.copies.specs.Copies.{copy_bits, holds_copy, row_unfit, copies_in}
+use Rattle.copies.specs.Copies.{copy_bits, holds_copy, copies_in}
 
 module _ (marks row : List ℕ) where
   -- the test that the code makes of the copy t
@@ -26,21 +25,3 @@ module _ (marks row : List ℕ) where
     unfolding copies_in
     copies-fit v few =
         rw (le-ltb max_cabinets (length marks) few, eq-eqb (length row) (4 * length marks) sized)
-
-  -- by the test of the lengths
-  module _ {b : Bool} (test : b ≡ row_unfit (length marks) (length row)) where
-    pub copies-none : (v : ℕ) → b ≡ true → 0 ≡ copies_in marks row v
-    unfolding copies_in
-    copies-none v t = rw (sym test ∙ t)
-
-    module _ (f : b ≡ false) where
-      pub row_sized : length row ≡ 4 * length marks
-      row_sized =
-          eqb-true (length row) (4 * length marks)
-          (not-false (eqb (length row) (4 * length marks))
-          (or_right (ltb max_cabinets (length marks)) (not (eqb (length row) (4 * length marks))) (sym test ∙ f)))
-
-      pub row-few : length marks ≤ max_cabinets
-      row-few =
-          ltb-false max_cabinets (length marks)
-          (or_left (ltb max_cabinets (length marks)) (not (eqb (length row) (4 * length marks))) (sym test ∙ f))

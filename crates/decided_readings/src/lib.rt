@@ -6,40 +6,28 @@ ghost use Rattle.std.specs.Prelude.{◌≡◌, length};
 ghost use Rattle.model.specs.Steps.{decided_reading};
 ghost use Rattle.held.specs.Held.{held_mark, held_value};
 ghost use Rattle.held_laws.specs.Stored.{Stored};
-ghost use Rattle.decisions.specs.Rows.{row_decision};
+ghost use Rattle.decisions.specs.Rows.{decision_of};
 ghost use Rattle.decided_readings.specs.Rows.{row_reading, rows_taken};
 
-use decisions::Decided;
 use held::{MISSING, PRESENT};
 use model::MAX_CABINETS;
 
-// A reading as it is held.
-#[derive(Drop)]
-struct Held {
-    mark: u8,
-    value: u32,
+// The mark that what a row decides is held with.
+fn decided_mark(decided: Option<u32>) -> u8
+    ensures { result ≡ held_mark (decided_reading (decision_of decided)) }
+{
+    if decided.is_some() { PRESENT } else { MISSING }
 }
 
-// The reading that a row of copies decides.
-fn receive_row(sent: &[u8], row: &[u8], need: u32) -> Held
-    ensures mark { result.mark
-        ≡ held_mark (decided_reading (row_decision need sent.now row.now)) }
-    ensures value { result.value
-        ≡ held_value (decided_reading (row_decision need sent.now row.now)) }
+// The number that what a row decides is held as; 0 where the row is known faulty.
+fn decided_value(decided: Option<u32>) -> u32
+    ensures { result ≡ held_value (decided_reading (decision_of decided)) }
 {
-    match decisions::decide(sent, row, need) {
-        Decided::Bits(bits) => Held {
-            mark: PRESENT,
-            value: held::bias(bits),
-        },
-        Decided::KnownFaulty => Held {
-            mark: MISSING,
-            value: 0,
-        },
-    }
+    decided.map_or(0, held::bias)
 }
 
 // How many rows are taken: all of at most 64, or none where the copies or the lent lists are too few.
+#[tactic(auto, unfolding(crate::specs::Rows::rows_taken))]
 fn takes(n: usize, sent: usize, copies: usize, marks: usize, values: usize) -> usize
     ensures { result ≡ rows_taken n sent copies marks values }
 {
@@ -74,13 +62,11 @@ pub fn receive_decided(
         marks.old values.old marks.new values.new }
 {
     let rows = takes(n, sent.len(), copies.len(), marks.len(), values.len());
-    let mut r: usize = 0;
-    'rows: while r < rows {
+    'rows: for r in 0..rows {
         let start = r * n;
         let end = start + n;
-        let held = receive_row(&sent[start..end], &copies[4 * start..4 * end], need);
-        marks[r] = held.mark;
-        values[r] = held.value;
-        r += 1;
+        let decided = decisions::decide(&sent[start..end], &copies[4 * start..4 * end], need);
+        marks[r] = decided_mark(decided);
+        values[r] = decided_value(decided);
     }
 }

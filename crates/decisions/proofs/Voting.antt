@@ -1,12 +1,12 @@
 -- The majority vote over the copies of a row, copy by copy, and the decision by one count of its candidate.
 -- Assumes nothing.
-use mathlib.Core.Bool.{Bool, true, false, cond, not, ◌&&◌, ◌||◌}
+use mathlib.Core.Bool.{Bool, true, false, cond, ◌&&◌}
 use mathlib.Core.List.{List}
 use mathlib.Core.Path.{◌≡◌, sym, ◌∙◌}
 use Prim.Native.Nat.{ℕ, ◌+◌, ◌*◌, ◌-◌, ◌/◌, ◌≤◌, ◌<◌, zero-le}
 use native.Mathlib.Omega.{arith}
-use borrow.Author.Tests.{lt-ltb, le-ltb, le-leb, lt-leb, eq-eqb, ne_eqb, leb-false, eqb-true, not-false}
-use lib.Dec.{leb, eqb}
+use borrow.Author.Tests.{le-ltb, lt-leb, eq-eqb, ne_eqb, leb-true, leb-false, ltb-true, eqb-true}
+use lib.Dec.{leb, ltb, eqb}
 use lib.ListN.{length, get_or}
 use mir.Syntax.{w32}
 use mir.Val.{to_z}
@@ -20,9 +20,13 @@ use Rattle.copies.proofs.Copies.{holds_test, copies-fit}
 use Rattle.decisions.specs.Majority.{Candidate}
 use Rattle.decisions.proofs.Majority.{candidate_lower}
 use Rattle.decisions.proofs.Candidates.{bits-begin, bits-agree, bits_replace, bits-missing, bits-enough, bits_spent, bits_decide, to_z_one}
-use Rattle.arithmetic.proofs.Bools.{or_left, or_right}
 use Rattle.arithmetic.specs.Words.{two_to32}
-use Rattle.decisions.specs.Rows.{copy_at, Elected, Fitting, row_decision}
+use Rattle.decisions.specs.Rows.{copy_at, Elected, row_decision}
+
+-- four bytes make a number of 32 bits
+bits-low : (row : List ℕ) → ((i : ℕ) → get_or row i 0 < 256) → (t : ℕ) → copy_bits row t < two_to32
+unfolding word
+bits-low row f t = omega (arith, f (4 * t), f (4 * t + 1), f (4 * t + 2), f (4 * t + 3))
 
 module _ (marks row : List ℕ) where
   pub record Voted (c k t : ℕ) : Type 0 where
@@ -75,48 +79,34 @@ module _ (marks row : List ℕ) where
       let e : t ≡ length marks = omega (arith, w.up_to) in
       record { lead = k; vote = rw e at w.vote }
 
-  -- ---- the answers
+  -- ---- the decision of a row that fits
 
-  pub decision-long : (need : ℕ) → max_cabinets < length marks → known_faulty ≡ row_decision need marks row
-  unfolding row_decision
-  decision-long need l = rw (lt-ltb max_cabinets (length marks) l)
+  module _ (need : ℕ) (few : length marks ≤ max_cabinets) (sized : length row ≡ 4 * length marks) (most : length marks < need + need) (bytes : (i : ℕ) → get_or row i 0 < 256) where
+    low : (t : ℕ) → copy_bits row t < two_to32
+    low = bits-low row bytes
 
-  module _ (need : ℕ) (few : length marks ≤ max_cabinets) {b : Bool} (test : b ≡ (not (eqb (length row) (4 * length marks)) || leb need (length marks / 2))) where
-    pub decision-unfit : b ≡ true → known_faulty ≡ row_decision need marks row
-    unfolding row_decision
-    decision-unfit e = rw (le-ltb max_cabinets (length marks) few, sym test ∙ e)
-
-    pub fitting : b ≡ false → Fitting need marks row
-    fitting f =
-        let rest : (not (eqb (length row) (4 * length marks)) || leb need (length marks / 2)) ≡ false = sym test ∙ f in
-        let sizes = or_left (not (eqb (length row) (4 * length marks))) (leb need (length marks / 2)) rest in
-        let half = or_right (not (eqb (length row) (4 * length marks))) (leb need (length marks / 2)) rest in
-        record {
-          few = few;
-          sized = eqb-true (length row) (4 * length marks) (not-false (eqb (length row) (4 * length marks)) sizes);
-          most = omega (arith, leb-false need (length marks / 2) half);
-        }
-
-  module _ (need : ℕ) (fit : Fitting need marks row) (low : (t : ℕ) → copy_bits row t < two_to32) where
     row-decided : decide_row need (length marks) (copy_at marks row) ≡ row_decision need marks row
     unfolding row_decision
     row-decided =
-        rw (le-ltb max_cabinets (length marks) fit.few, eq-eqb (length row) (4 * length marks) fit.sized, lt-leb need (length marks / 2) (omega (arith, fit.most)))
+        rw (le-ltb max_cabinets (length marks) few, eq-eqb (length row) (4 * length marks) sized, lt-leb need (length marks / 2) (omega (arith, most)))
 
     -- one count of a value
     module _ (c : ℕ) (below : c < two_to32) (n : ℕ) (copied : n ≡ copies_in marks row c) where
       counted : n ≡ count (holds_copy marks row c) (length marks)
-      counted = copied ∙ copies-fit marks row fit.sized c fit.few
+      counted = copied ∙ copies-fit marks row sized c few
 
-      pub decision-enough : need ≤ n → decided (to_z w32 c) ≡ row_decision need marks row
-      decision-enough l =
+      pub decision-enough : leb need n ≡ true → decided (to_z w32 c) ≡ row_decision need marks row
+      decision-enough e =
+          let l = leb-true need n e in
           sym
-          (bits-enough (to_z w32) two_to32 to_z_one (marked_at marks) (copy_bits row) (length marks) (λ t _. low t) c need below fit.most
+          (bits-enough (to_z w32) two_to32 to_z_one (marked_at marks) (copy_bits row) (length marks) (λ t _. low t) c need below most
           (omega (arith, counted)))
           ∙ row-decided
 
-      pub decision_spent : n < need → length marks - need < n → known_faulty ≡ row_decision need marks row
-      decision_spent l h =
+      pub decision_spent : leb need n ≡ false → ltb (length marks - need) n ≡ true → known_faulty ≡ row_decision need marks row
+      decision_spent e f =
+          let l = leb-false need n e in
+          let h = ltb-true (length marks - need) n f in
           sym
           (bits_spent (to_z w32) two_to32 to_z_one (marked_at marks) (copy_bits row) (length marks) (λ t _. low t) c need below
           (omega (arith, counted))
@@ -127,18 +117,13 @@ module _ (marks row : List ℕ) where
     module _ (c : ℕ) (elected : Elected marks row c) (n : ℕ) (copied : n ≡ copies_in marks row c) where
       candidate_decides : cond (leb need n) (decided (to_z w32 c)) known_faulty ≡ row_decision need marks row
       candidate_decides =
-          rw (copied ∙ copies-fit marks row fit.sized c fit.few)
+          rw (copied ∙ copies-fit marks row sized c few)
           (sym
-          (bits_decide (to_z w32) two_to32 to_z_one (marked_at marks) (copy_bits row) (length marks) (λ t _. low t) c elected.lead elected.vote need fit.most))
+          (bits_decide (to_z w32) two_to32 to_z_one (marked_at marks) (copy_bits row) (length marks) (λ t _. low t) c elected.lead elected.vote need most))
           ∙ row-decided
 
-      pub decision-short : n < need → known_faulty ≡ row_decision need marks row
-      decision-short l = rw (lt-leb need n l) at candidate_decides
+      pub decision-short : leb need n ≡ false → known_faulty ≡ row_decision need marks row
+      decision-short e = rw e at candidate_decides
 
-      pub decision-bits : need ≤ n → decided (to_z w32 c) ≡ row_decision need marks row
-      decision-bits l = rw (le-leb need n l) at candidate_decides
-
--- four bytes make a number of 32 bits
-pub bits-low : (row : List ℕ) → ((i : ℕ) → get_or row i 0 < 256) → (t : ℕ) → copy_bits row t < two_to32
-unfolding word
-bits-low row f t = omega (arith, f (4 * t), f (4 * t + 1), f (4 * t + 2), f (4 * t + 3))
+      pub decision-bits : leb need n ≡ true → decided (to_z w32 c) ≡ row_decision need marks row
+      decision-bits e = rw e at candidate_decides

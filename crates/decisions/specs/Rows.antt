@@ -1,29 +1,24 @@
 -- INNER: no reader needs this page to believe a public promise. A row's copies, as bytes
 -- (Rattle.copies.specs.Copies), and their decision.
 --   copy_at              the copy
---   decision_of          what this crate's enum says in document 01's terms
+--   decision_of          what the bits of a decided value, or none, say in document 01's terms
 --   row_decision         document 01's decision of a row of at most 64 copies, of which need are more than half
 -- What the functions below it give:
 --   Elected             the candidate of the majority vote
---   Fitting             a row that the definition decides
---   Tells               what the count of one value's copies tells of the decision
-use Rattle.std.specs.Prelude.{Bool, cond, not, ◌||◌, List, ◌≡◌, ℕ, ◌+◌, ◌*◌, ◌/◌, ◌≤◌, ◌<◌, leb, ltb, eqb, length}
+use Rattle.std.specs.Prelude.{Bool, cond, not, ◌||◌, List, Option, Some, None, ℕ, ◌*◌, ◌/◌, leb, ltb, eqb, length}
 use Rattle.std.specs.Int.{w32}
 use Rattle.std.proofs.Common.{to_z}
 use Rattle.model.specs.Ensemble.{Readings, missing, present, max_cabinets}
 use Rattle.model.specs.Steps.{Decision, decided, known_faulty, decide_row}
 use Rattle.copies.specs.Copies.{marked_at, copy_bits, holds_copy}
 use Rattle.decisions.specs.Majority.{Candidate}
-use Rattle.decisions.specs.declared.Decided.{Decided}
-use Rattle.decisions.specs.declared.Decided.TheVariants.{Bits, KnownFaulty}
-use Rattle.decisions.specs.declared.Tried.{Tried}
 
 abbrev pub copy_at : List ℕ → List ℕ → Readings
 copy_at marks row t = cond (marked_at marks t) (present (to_z w32 (copy_bits row t))) missing
 
-abbrev pub decision_of : Decided → Decision
-decision_of (Bits b) = decided (to_z w32 b)
-decision_of KnownFaulty = known_faulty
+abbrev pub decision_of : Option ℕ → Decision
+decision_of (Some b) = decided (to_z w32 b)
+decision_of None = known_faulty
 
 abbrev pub row_misfit : ℕ → List ℕ → List ℕ → Bool
 row_misfit need marks row =
@@ -39,14 +34,3 @@ row_decision need marks row =
 pub record Elected (marks row : List ℕ) (c : ℕ) : Type 0 where
   pub lead : ℕ
   pub vote : Candidate (holds_copy marks row) c lead (length marks)
-
--- at most 64 copies, four bytes for each, of which need are more than half
-pub record Fitting (need : ℕ) (marks row : List ℕ) : Type 0 where
-  pub few : length marks ≤ max_cabinets
-  pub sized : length row ≡ 4 * length marks
-  pub most : length marks < need + need
-
-abbrev pub Tells : Tried → ℕ → List ℕ → List ℕ → Type 0
-Tells (Tried.Bits b) need marks row = decided (to_z w32 b) ≡ row_decision need marks row
-Tells Tried.KnownFaulty need marks row = known_faulty ≡ row_decision need marks row
-Tells Tried.Open need marks row = Unit {0}

@@ -1,119 +1,95 @@
-// The crusaders decision of a row. The copies of its first values are counted, which decides most rows; where that
-// leaves it open, a majority vote finds the one value that can have enough copies, and one count decides.
+// The crusaders decision of a row: the bits of the decided value, or none where the row is known faulty. The copies of
+// its first values are counted, which decides most rows; where that leaves it open, a majority vote finds the one value
+// that can have enough copies, and one count decides.
 #![tactic(auto)]
 
-ghost use Rattle.std.specs.Prelude.{◌≡◌, not, ◌||◌, ◌+◌, ◌*◌, ◌/◌, ◌≤◌, ◌<◌, leb, eqb, length};
+ghost use Rattle.std.specs.Prelude.{◌≡◌, ℕ, not, ◌||◌, ◌+◌, ◌*◌, ◌/◌, ◌≤◌, ◌<◌, leb, eqb, length, slice_index, IfSome};
 ghost use Rattle.model.specs.Ensemble.{max_cabinets};
-ghost use Rattle.copies.specs.Copies.{copy_bits};
-ghost use Rattle.decisions.specs.Rows.{Elected, Fitting, Tells, decision_of, row_decision};
+ghost use Rattle.copies.specs.Copies.{copies_in};
+ghost use Rattle.decisions.specs.Rows.{Elected, decision_of, row_decision};
 
 use model::MAX_CABINETS;
+use words::Entries;
 
 // The most copies.
 const MOST: usize = MAX_CABINETS as usize;
 
-// The bits of the decided value, or "known faulty".
-#[derive(Drop)]
-pub enum Decided {
-    Bits(u32),
-    KnownFaulty,
-}
-
-// The number of the copy t.
-fn copy_bits(row: &[u8], t: usize) -> u32
-    requires { 4 * t + 3 < length row.now }
-    ensures { result ≡ copy_bits row.now t }
-{
-    let at = 4 * t;
-    words::join(row[at], row[at + 1], row[at + 2], row[at + 3])
-}
-
-// The candidate of the majority vote: the value that more than half of the copies hold, if there is one.
-fn vote(marks: &[u8], row: &[u8]) -> u32
-    requires { (length marks.now ≤ max_cabinets) × (length row.now ≡ 4 * length marks.now) }
-    ensures { Elected marks.now row.now result }
-{
-    let mut candidate: u32 = 0;
-    let mut lead: u32 = 0;
-    let mut t = 0;
-    'copies: while t < marks.len() {
-        let mark = marks[t];
-        let bits = copy_bits(row, t);
-        if copies::holds(mark, candidate, bits) {
-            lead += 1;
-        } else if 0 < lead {
-            lead -= 1;
-        } else if mark == 1 {
-            candidate = bits;
-            lead = 1;
-        }
-        t += 1;
-    }
-    candidate
+// A row of at most 64 copies, with four bytes for each, of which need are more than half.
+#[derive(Clone, Copy)]
+struct Row<'a> {
+    copies: Entries<'a>,
+    need: u32,
+    ghost few: { length copies.marks.now ≤ max_cabinets },
+    ghost sized: { length copies.bytes.now ≡ 4 * length copies.marks.now },
+    ghost most: { length copies.marks.now < need + need },
+    ghost low: { (i : ℕ) → slice_index copies.bytes.now i < 256 },
 }
 
 // The copies whose values are counted before a vote.
 const TRIES: usize = 2;
 
-// What a count of one value's copies tells of a row: that the value is decided, that no value is, or neither.
-#[derive(Drop)]
-enum Tried {
-    Bits(u32),
-    KnownFaulty,
-    Open,
-}
-
-// Counts the copies of the value of copy t.
-fn try_copy(marks: &[u8], row: &[u8], need: u32, t: usize) -> Tried
-    requires { Fitting need marks.now row.now × (t < length marks.now) }
-    ensures { Tells result need marks.now row.now }
-{
-    let value = copy_bits(row, t);
-    let copies = copies::count_copies(marks, row, value);
-    if tallies::enough(need, copies) {
-        return Tried::Bits(value);
+impl Row<'_> {
+    // How many present copies hold a value.
+    fn count(&self, value: u32) -> u32
+        ensures { result ≡ copies_in self.now.copies.marks.now self.now.copies.bytes.now value }
+    {
+        copies::count_copies(self.copies.marks, self.copies.bytes, value)
     }
-    if tallies::spent(marks.len() as u32, need, copies) {
-        return Tried::KnownFaulty;
-    }
-    Tried::Open
-}
 
-// Tries the first copies until one tells.
-fn try_copies(marks: &[u8], row: &[u8], need: u32) -> Tried
-    requires { Fitting need marks.now row.now }
-    ensures { Tells result need marks.now row.now }
-{
-    let mut t: usize = 0;
-    'copies: while t < marks.len() {
-        if TRIES <= t {
-            return Tried::Open;
+    // What the count of the copies of the value of copy t tells: the decision, or nothing.
+    fn try_copy(&self, t: usize) -> Option<Option<u32>>
+        requires { t < length self.now.copies.marks.now }
+        ensures { IfSome result (λ d. decision_of d ≡ row_decision self.now.need self.now.copies.marks.now self.now.copies.bytes.now) }
+    {
+        let value = self.copies.bits(t);
+        let copies = self.count(value);
+        if tallies::enough(self.need, copies) {
+            return Some(Some(value));
         }
-        match try_copy(marks, row, need, t) {
-            Tried::Bits(value) => {
-                return Tried::Bits(value);
-            }
-            Tried::KnownFaulty => {
-                return Tried::KnownFaulty;
-            }
-            Tried::Open => {}
+        if tallies::spent(self.copies.marks.len() as u32, self.need, copies) {
+            return Some(None);
         }
-        t += 1;
+        None
     }
-    Tried::Open
-}
 
-// The decision by a vote.
-fn elect(marks: &[u8], row: &[u8], need: u32) -> Decided
-    requires { Fitting need marks.now row.now }
-    ensures { decision_of result ≡ row_decision need marks.now row.now }
-{
-    let candidate = vote(marks, row);
-    let copies = copies::count_copies(marks, row, candidate);
-    if tallies::enough(need, copies) {
-        return Decided::Bits(candidate);
+    // Tries the first copies until one tells.
+    fn try_copies(&self) -> Option<Option<u32>>
+        ensures { IfSome result (λ d. decision_of d ≡ row_decision self.now.need self.now.copies.marks.now self.now.copies.bytes.now) }
+    {
+        (0..self.copies.marks.len().min(TRIES)).find_map(|t| self.try_copy(t))
     }
-    Decided::KnownFaulty
+
+    // The candidate of the majority vote: the value that more than half of the copies hold, if there is one.
+    fn vote(&self) -> u32
+        ensures { Elected self.now.copies.marks.now self.now.copies.bytes.now result }
+    {
+        let mut candidate: u32 = 0;
+        let mut lead: u32 = 0;
+        'copies: for (t, mark) in self.copies.marks.iter().enumerate() {
+            let bits = self.copies.bits(t);
+            if copies::holds(*mark, candidate, bits) {
+                lead += 1;
+            } else if 0 < lead {
+                lead -= 1;
+            } else if *mark == 1 {
+                candidate = bits;
+                lead = 1;
+            }
+        }
+        candidate
+    }
+
+    // The decision by a vote.
+    fn elect(&self) -> Option<u32>
+        ensures { decision_of result ≡ row_decision self.now.need self.now.copies.marks.now self.now.copies.bytes.now }
+    {
+        let candidate = self.vote();
+        if tallies::enough(self.need, self.count(candidate)) {
+            Some(candidate)
+        } else {
+            None
+        }
+    }
 }
 
 fn misfit(need: u32, marks: usize, row: usize) -> bool
@@ -125,18 +101,19 @@ fn misfit(need: u32, marks: usize, row: usize) -> bool
 
 // The decision of a row of at most 64 copies, with four bytes for each, where need are more than half; any other is
 // known faulty.
-pub fn decide(marks: &[u8], row: &[u8], need: u32) -> Decided
+#[tactic(auto, unfolding(crate::specs::Rows::row_decision))]
+pub fn decide(marks: &[u8], row: &[u8], need: u32) -> Option<u32>
     ensures { decision_of result ≡ row_decision need marks.now row.now }
 {
-    if MOST < marks.len() {
-        return Decided::KnownFaulty;
+    if MOST < marks.len() || misfit(need, marks.len(), row.len()) {
+        return None;
     }
-    if misfit(need, marks.len(), row.len()) {
-        return Decided::KnownFaulty;
-    }
-    match try_copies(marks, row, need) {
-        Tried::Bits(value) => Decided::Bits(value),
-        Tried::KnownFaulty => Decided::KnownFaulty,
-        Tried::Open => elect(marks, row, need),
+    let row = Row {
+        copies: Entries { marks, bytes: row },
+        need,
+    };
+    match row.try_copies() {
+        Some(decision) => decision,
+        None => row.elect(),
     }
 }

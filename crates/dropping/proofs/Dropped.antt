@@ -4,6 +4,7 @@ use mathlib.Core.Bool.{Bool, true, false}
 use mathlib.Core.List.{List}
 use mathlib.Core.Path.{◌≡◌, ap}
 use Prim.Native.Nat.{ℕ, ◌*◌, ◌≤◌, ◌<◌}
+use Rattle.std.specs.Prelude.{Some, None}
 use borrow.Author.Tests.{leb-false}
 use lib.ListN.{length, get_or}
 use Rattle.arithmetic.specs.Writing.{table}
@@ -26,7 +27,7 @@ module _ (m : ℕ) (marks values : List ℕ) (fit : unfit_for (length marks) (le
   some_left = leb-false (length marks) (2 * m) (or_right (unfit (length marks) (length values)) _ fit)
 
 module _ (m : ℕ) (marks numbers : List ℕ) where
-  pub sum-none : (rule : ℕ) → unfit_for (length marks) (length numbers) m ≡ true → 0 ≡ dropped_sum rule m marks numbers
+  pub sum-none : (rule : ℕ) → unfit_for (length marks) (length numbers) m ≡ true → None ≡ dropped_sum rule m marks numbers
   unfolding dropped_sum
   sum-none rule e = rw e
 
@@ -35,7 +36,7 @@ module _ (m : ℕ) (marks numbers : List ℕ) where
   marks-none e = rw e
 
   module _ (fit : unfit_for (length marks) (length numbers) m ≡ false) where
-    pub sum-some : (rule : ℕ) → trimmed_sum rule (length marks) m (value_at numbers) ≡ dropped_sum rule m marks numbers
+    pub sum-some : (rule : ℕ) → Some (trimmed_sum rule (length marks) m (value_at numbers)) ≡ dropped_sum rule m marks numbers
     unfolding dropped_sum
     sum-some rule = rw fit
 

@@ -34,18 +34,18 @@ module _ {keeps : ℕ → Bool} {marks₀ : List ℕ} where
 
   module _ {marks : List ℕ} {r : ℕ} (so_far : Striking keeps marks₀ marks r) where
     pub strike_one :
-        r < length marks → (x : ℕ) → x ≡ kept_mark (keeps r) (get_or marks r 0)
+        {x : ℕ} → r < length marks₀ → x ≡ kept_mark (keeps r) (get_or marks r 0)
         → Striking keeps marks₀ (set marks r x) (r + 1)
-    strike_one h x e =
+    strike_one {x} h e =
         let here = storing_behind (struck keeps marks₀) (length marks₀) marks₀ marks r so_far.stores 0 in
         striking
-        (storing_next (struck keeps marks₀) (length marks₀) marks₀ marks r so_far.stores (omega (arith, so_far.long)) x
+        (storing_next (struck keeps marks₀) (length marks₀) marks₀ marks r so_far.stores h x
         (e ∙ ap (kept_mark (keeps r)) here))
 
-    pub all-struck : length marks ≤ r → marks ≡ table (struck keeps marks₀) (length marks₀)
+    pub all-struck : length marks₀ ≤ r → marks ≡ table (struck keeps marks₀) (length marks₀)
     all-struck h =
         let t = length-table (struck keeps marks₀) (length marks₀) in
-        storing_all (struck keeps marks₀) (length marks₀) marks₀ marks r so_far.stores (omega (arith, so_far.long))
+        storing_all (struck keeps marks₀) (length marks₀) marks₀ marks r so_far.stores h
         ∙ overwrite-whole (table (struck keeps marks₀) (length marks₀)) marks₀ (omega arith)
 
 -- ---- summing, r of n, each at most b
@@ -55,29 +55,29 @@ pub record Summing (f : ℕ → ℕ) (b n sum r : ℕ) : Type 0 where
   pub exact : sum ≡ total f r
   pub small : sum ≤ r * b
 
-module _ (f : ℕ → ℕ) (b n : ℕ) where
+module _ {f : ℕ → ℕ} {b n : ℕ} where
   pub summing_none : Summing f b n 0 0
   unfolding total
   summing_none = record { up_to = omega arith; exact = refl; small = omega arith }
 
   pub summing_one :
-      (sum r x : ℕ) → Summing f b n sum r → r < n → x ≡ f r → x ≤ b → Summing f b n (sum + x) (r + 1)
-  summing_one sum r x k here e most =
+      {sum r x : ℕ} → Summing f b n sum r → r < n → x ≡ f r → x ≤ b → Summing f b n (sum + x) (r + 1)
+  summing_one {sum} {r} {x} k here e most =
       record {
         up_to = omega arith;
         exact = ap₂ (λ (i j : ℕ). i + j) k.exact e ∙ sym (total-next f r);
         small = omega (arith, k.small, add-mul r 1 b, one-mul b);
       }
 
-  pub all-summed : (sum r : ℕ) → Summing f b n sum r → n ≤ r → sum ≡ total f n
-  all-summed sum r k ended =
+  pub all-summed : {sum r : ℕ} → Summing f b n sum r → n ≤ r → sum ≡ total f n
+  all-summed {sum} {r} k ended =
       let all : r ≡ n = omega (arith, k.up_to) in
       rw (← all) k.exact
 
   -- what is added fits 64 bits
-  pub sum_fits : (sum r x : ℕ) → Summing f b n sum r → r < n → n ≤ max_cabinets → x ≤ b → b < two_to32 + two_to32
+  pub sum_fits : {sum r x : ℕ} → Summing f b n sum r → r < n → n ≤ max_cabinets → x ≤ b → b < two_to32 + two_to32
       → sum + x < 18446744073709551616
-  sum_fits sum r x k here few most small =
+  sum_fits {sum} {r} {x} k here few most small =
       let c = mul-le-mul k.up_to (le_refl b) in
       let d = mul-le-mul few (le_refl b) in
       omega (arith, k.small)

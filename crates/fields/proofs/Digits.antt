@@ -139,8 +139,11 @@ read_digits (suc k) x below =
 
 -- ---- numbers of 32 bits
 
-pub decimal-small : (x : ℕ) → x < 10 → decimal x ≡ (48 + x) ∷ []
-decimal-small x h = digits_small 9 x h
+pub decimal-small : (x : ℕ) → x < 10 → decimal x ≡ (48 + x % 10) ∷ []
+decimal-small x h = digits_small 9 x h ∙ ap (λ (d : ℕ). (48 + d) ∷ []) last
+  where
+    last : x ≡ x % 10
+    last = omega arith
 
 -- the tenth part in decimal, then the last digit
 pub decimal_large : (x : ℕ) → x < two_to32 → 10 ≤ x → decimal x ≡ decimal (x / 10) ++ ((48 + x % 10) ∷ [])

@@ -1,31 +1,30 @@
--- Signed numbers in decimal: by the bits that a number is, at most eleven bytes, and read back they are the number.
+-- Signed numbers in decimal: by the sign, at most eleven bytes, and read back they are the number.
 -- Assumes nothing.
 use mathlib.Core.Bool.{true, false}
 use mathlib.Core.List.{List, [], ◌∷◌}
 use mathlib.Core.Path.{◌≡◌, refl, ap, ◌∙◌}
-use Prim.Native.Nat.{ℕ, zero, suc, ◌+◌, ◌-◌, ◌≤◌, ◌<◌}
+use Prim.Native.Nat.{ℕ, zero, suc, ◌≤◌, ◌<◌}
 use native.Mathlib.Omega.{arith}
-use borrow.Author.Tests.{lt-ltb, le-ltb, ne_eqb}
+use borrow.Author.Tests.{ltb-true, ne_eqb}
 use lib.Dec.{eqb}
-use lib.IntN.{ℤ, pos, negsuc}
+use lib.IntN.{ℤ, pos, negsuc, nat_abs}
+use lib.Signed.{lt_z}
 use lib.ListN.{length, get_or}
 use mir.Syntax.{w32}
-use mir.Val.{SFits, to_z}
-use Rattle.arithmetic.specs.Words.{two_to31, two_to32}
+use mir.Val.{SFits}
+use Rattle.arithmetic.specs.Words.{two_to31}
 use Rattle.model.specs.Listing.{decimal, signed_decimal}
 use Rattle.fields.proofs.Digits.{length-decimal, read_from, read-decimal, decimal-some, all_digits}
 
--- ---- by the bits
+-- ---- by the sign
 
-pub signed_low : (bits : ℕ) → bits < two_to31 → signed_decimal (to_z w32 bits) ≡ decimal bits
-signed_low bits h = rw (lt-ltb bits two_to31 h)
+pub signed_below : (z : ℤ) → lt_z z (pos 0) ≡ true → signed_decimal z ≡ 45 ∷ decimal (nat_abs z)
+signed_below (pos x) h = absurd (omega (arith, ltb-true x 0 h))
+signed_below (negsuc x) h = refl
 
-pub signed_high : (bits : ℕ) → bits < two_to32 → two_to31 ≤ bits
-    → signed_decimal (to_z w32 bits) ≡ 45 ∷ decimal (4_294_967_295 - bits + 1)
-signed_high bits fits h = rw (le-ltb bits two_to31 h) (ap (λ (x : ℕ). 45 ∷ decimal x) magnitude)
-  where
-    magnitude : suc (two_to32 - suc bits) ≡ 4_294_967_295 - bits + 1
-    magnitude = omega arith
+pub signed_from : (z : ℤ) → lt_z z (pos 0) ≡ false → signed_decimal z ≡ decimal (nat_abs z)
+signed_from (pos x) h = refl
+signed_from (negsuc x) h = cc
 
 pub length_signed : (z : ℤ) → length (signed_decimal z) ≤ 11
 length_signed (pos x) = omega (arith, length-decimal x)

@@ -11,5 +11,5 @@ pub const MAX_INPUT: usize = 20_489;
 pub fn read_size(size: usize) -> usize
     ensures { result ≡ min size max_input }
 {
-    if size < MAX_INPUT { size } else { MAX_INPUT }
+    size.min(MAX_INPUT)
 }

@@ -12,10 +12,10 @@ use lib.Dec.{leb, ltb, eqb}
 use Rattle.arithmetic.proofs.Bools.{and_left, and_right}
 use Rattle.model.specs.declared.Settings.{Settings}
 use Rattle.model.specs.RoundSheet.{fca, median}
-use Rattle.model.specs.Planner.{ceil_div, past_div, max_accuracy}
+use Rattle.model.specs.Planner.{ceil_div, past_div}
 use Rattle.model.specs.Cases.{settings}
 use Rattle.model.specs.Refusals.{first_of, plan_checks}
-use Rattle.model.specs.Ensemble.{max_cabinets, max_window}
+use Rattle.model.specs.Ensemble.{max_window}
 use Rattle.planner_laws.proofs.Ceiling.{ceil_div_least}
 use Rattle.planner_laws.proofs.Checks.{none-may-start}
 use Rattle.refusal_laws.proofs.Limits.{Planned}
@@ -23,6 +23,7 @@ use Rattle.value_laws.proofs.Means.{odd-one}
 use Rattle.demand_3.specs.Exact.{half_up, half_down}
 use Rattle.sharpness.specs.Sharpness.{Covered}
 use Rattle.reached_limits.specs.Reached.{reachable}
+use Rattle.limits.specs.Sizes.{Sizes}
 use Rattle.limits.specs.Limits.{Stated, planned, wider, nothing}
 use Rattle.limits.specs.Limits.{wider_at, bounds}
 
@@ -58,23 +59,16 @@ module _ (c : Settings) where
     share-le : ceil_div (parts * c.window) c.n ≤ 256000000
     share-le = le_trans (ceil_div_le c.n l.some_cabinet (parts * c.window)) product_le
 
-  -- the sizes of what is multiplied and added, where the planner grants the settings and fewer than N-m are bad
-  pub record Sizes (κ t : ℕ) : Type 0 where
-    pub passes : Planned c
-    pub accurate : κ ≤ max_accuracy
-    pub few : t ≤ max_cabinets
-    pub gap : past_div ((c.n + 2 * t + 2 * c.m) * c.window) c.n ≤ 256000001
-    pub growth : ceil_div ((c.m + t) * c.window) c.n ≤ 256000000
-    pub excess : (c.m + t) * c.window ≤ 256000000
-
-  pub granted-sizes : (κ t : ℕ) → first_of (plan_checks c κ 0) ≡ none → t < c.n - c.m → Sizes κ t
+  pub granted-sizes : (κ t : ℕ) → first_of (plan_checks c κ 0) ≡ none → t < c.n - c.m → Sizes c κ t
   granted-sizes κ t e h =
       let start = none-may-start c κ 0 e in
       let l = start.passes in
       let cabinets = l.cabinets in
       let faults = l.faults in
       record {
-        passes = l;
+        some_cabinet = l.some_cabinet;
+        cabinets = cabinets;
+        window = l.window;
         accurate = start.accurate;
         few = omega arith;
         gap = past-le l (c.n + 2 * t + 2 * c.m) (omega arith);

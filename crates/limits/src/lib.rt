@@ -6,6 +6,7 @@ ghost use Rattle.std.proofs.Math.Option.{none};
 ghost use Rattle.std.specs.Prelude.{◌≡◌, ◌+◌, ◌*◌, ◌-◌, ◌/◌, ◌≤◌, ◌<◌};
 ghost use Rattle.model.specs.Ensemble.{max_cabinets};
 ghost use Rattle.model.specs.Refusals.{first_of, plan_checks};
+ghost use Rattle.limits.specs.Sizes.{Sizes};
 ghost use Rattle.limits.specs.Limits.{stated, bounds, limits_of, stated_of, wider_at, wider_of};
 
 use model::Settings;
@@ -35,15 +36,19 @@ pub enum Limits {
 
 // (2 × excess + half) / 2N
 fn nearest(n: u32, excess: u32, half: u32) -> u32
-    requires { (0 < n) × (n ≤ max_cabinets) × (half ≤ max_cabinets) × (excess ≤ 256000000) }
-    ensures { (result ≡ (2 * excess + half) / (2 * n)) × (result ≤ 512000064) }
+    requires some_cabinet { 0 < n }
+    requires cabinets { n ≤ max_cabinets }
+    requires half { half ≤ max_cabinets }
+    requires excess { excess ≤ 256000000 }
+    ensures value { result ≡ (2 * excess + half) / (2 * n) }
+    ensures bound { result ≤ 512000064 }
 {
     (2 * excess + half) / (2 * n)
 }
 
 // The wider limits, where m < t < N-m.
 fn widened(settings: Settings, accuracy: u32, t: u32) -> Wider
-    requires { (first_of (plan_checks settings accuracy 0) ≡ none) × (t < settings.n - settings.m) }
+    requires { Sizes settings accuracy t }
     ensures { wider_of result ≡ wider_at settings accuracy t }
 {
     let n = settings.n as u32;

@@ -28,10 +28,10 @@ module _ (value digit : ℕ) (small : value < two_to32) where
         let fits = lt-ltb (10 * value + (digit - 48)) two_to32 h in
         rw (lt-leb two_to32 value small, le-ltb digit 48 is.0, le-ltb 57 digit is.1, fits) (rw fits refl)
 
-    pub added : (tens : ℕ) → tens ≡ value * 10 → (r : Option ℕ) → SomeIff r (tens + (digit - 48) < two_to32) (tens + (digit - 48))
+    pub grown-next : (tens : ℕ) → tens ≡ value * 10 → (r : Option ℕ) → SomeIff r (tens + (digit - 48) < two_to32) (tens + (digit - 48))
         → r ≡ number_of (grown value digit)
-    added tens e None h = none_past (omega arith)
-    added tens e (Some x) h = let f : x ≡ 10 * value + (digit - 48) = omega (arith, h.1) in rw f (one_more (omega (arith, h.0)))
+    grown-next tens e None h = none_past (omega arith)
+    grown-next tens e (Some x) h = let f : x ≡ 10 * value + (digit - 48) = omega (arith, h.1) in rw f (one_more (omega (arith, h.0)))
 
 -- ---- a number of 32 bits, or none
 

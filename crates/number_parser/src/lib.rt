@@ -34,5 +34,5 @@ pub fn number_in(text: &[u8]) -> Option<u32>
 pub fn microseconds(ticks: u32) -> u64
     ensures { result ≡ ceil_div (ticks * 1000000) ticks_per_second }
 {
-    ((ticks as u64) * 1_000_000 + 16_777_215) / 16_777_216
+    ((ticks as u64) * 1_000_000).div_ceil(16_777_216)
 }

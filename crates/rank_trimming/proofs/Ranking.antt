@@ -38,49 +38,34 @@ pub record Dropping (ranks numbers marks₀ : List ℕ) (m : ℕ) (marks : List 
   pub sums : Summing (kept_at ranks numbers m (length marks₀ - m)) (two_to32 - 1) (length marks₀) sum r
   pub sums_ends : Summing (end_at ranks numbers m (length marks₀ - m - 1)) (2 * (two_to32 - 1)) (length marks₀) ends r
 
-module _ (ranks numbers marks₀ : List ℕ) (m : ℕ) where
+module _ {ranks numbers marks₀ : List ℕ} {m : ℕ} where
   pub dropping_none : Dropping ranks numbers marks₀ m marks₀ 0 0 0
-  dropping_none =
-      record {
-        strikes = strike_none;
-        sums = summing_none (kept_at ranks numbers m (length marks₀ - m)) (two_to32 - 1) (length marks₀);
-        sums_ends = summing_none (end_at ranks numbers m (length marks₀ - m - 1)) (2 * (two_to32 - 1)) (length marks₀);
-      }
+  dropping_none = record { strikes = strike_none; sums = summing_none; sums_ends = summing_none }
 
-  module _ {marks : List ℕ} {sum ends r : ℕ} (k : Dropping ranks numbers marks₀ m marks sum ends r) (here : r < length marks)
-    where
-      below : r < length marks₀
-      below = omega (arith, k.strikes.long)
+  module _ {marks : List ℕ} {sum ends r : ℕ} (k : Dropping ranks numbers marks₀ m marks sum ends r)
+      (here : r < length marks₀) where
+    -- one more
+    pub dropping_one :
+        {x y z v : ℕ} → x ≡ kept_mark (between ranks m (length marks₀ - m) r) (get_or marks r 0)
+        → (y ≡ kept_at ranks numbers m (length marks₀ - m) r) × (y < two_to32)
+        → (z ≡ cond (eqb (get_or ranks r 0) m) (value_at numbers r) 0) × (z < two_to32)
+        → (v ≡ cond (eqb (get_or ranks r 0) (length marks₀ - m - 1)) (value_at numbers r) 0) × (v < two_to32)
+        → Dropping ranks numbers marks₀ m (set marks r x) (sum + y) (ends + (z + v)) (r + 1)
+    dropping_one ex ey ez ev =
+        record {
+          strikes = strike_one k.strikes here ex;
+          sums = summing_one k.sums here ey.0 (omega (arith, ey.1));
+          sums_ends =
+              summing_one k.sums_ends here (ap₂ (λ (i j : ℕ). i + j) ez.0 ev.0) (omega (arith, ez.1, ev.1));
+        }
 
-      -- one more
-      pub dropping_one :
-          (x y z v : ℕ) → x ≡ kept_mark (between ranks m (length marks₀ - m) r) (get_or marks r 0)
-          → (y ≡ kept_at ranks numbers m (length marks₀ - m) r) × (y < two_to32)
-          → (z ≡ cond (eqb (get_or ranks r 0) m) (value_at numbers r) 0) × (z < two_to32)
-          → (v ≡ cond (eqb (get_or ranks r 0) (length marks₀ - m - 1)) (value_at numbers r) 0) × (v < two_to32)
-          → Dropping ranks numbers marks₀ m (set marks r x) (sum + y) (ends + (z + v)) (r + 1)
-      dropping_one x y z v ex ey ez ev =
-          record {
-            strikes = strike_one k.strikes here x ex;
-            sums =
-                summing_one (kept_at ranks numbers m (length marks₀ - m)) (two_to32 - 1) (length marks₀) sum r y k.sums
-                below ey.0 (omega (arith, ey.1));
-            sums_ends =
-                summing_one (end_at ranks numbers m (length marks₀ - m - 1)) (2 * (two_to32 - 1)) (length marks₀) ends r
-                (z + v) k.sums_ends below (ap₂ (λ (i j : ℕ). i + j) ez.0 ev.0) (omega (arith, ez.1, ev.1));
-          }
+    -- both sums fit
+    pub sum-small : (y : ℕ) → length marks₀ ≤ max_cabinets → y < two_to32 → sum + y < 18446744073709551616
+    sum-small y few hy = sum_fits k.sums here few (omega arith) (omega arith)
 
-      -- both sums fit
-      pub sum-small : (y : ℕ) → length marks₀ ≤ max_cabinets → y < two_to32 → sum + y < 18446744073709551616
-      sum-small y few hy =
-          sum_fits (kept_at ranks numbers m (length marks₀ - m)) (two_to32 - 1) (length marks₀) sum r y k.sums below few
-          (omega arith) (omega arith)
-
-      pub ends-small :
-          (z v : ℕ) → length marks₀ ≤ max_cabinets → z < two_to32 → v < two_to32 → ends + (z + v) < 18446744073709551616
-      ends-small z v few hz hv =
-          sum_fits (end_at ranks numbers m (length marks₀ - m - 1)) (2 * (two_to32 - 1)) (length marks₀) ends r (z + v)
-          k.sums_ends below few (omega arith) (omega arith)
+    pub ends-small :
+        (z v : ℕ) → length marks₀ ≤ max_cabinets → z < two_to32 → v < two_to32 → ends + (z + v) < 18446744073709551616
+    ends-small z v few hz hv = sum_fits k.sums_ends here few (omega arith) (omega arith)
 
 -- ---- the sums, of n numbers
 

@@ -27,41 +27,29 @@ fn sum_kept(marks: &mut [u8], numbers: &[u32], ranks: &[u8], m: u8, rule: u8) ->
     let last = end - 1;
     let mut sum: u64 = 0;
     let mut ends: u64 = 0;
-    let mut r = 0;
-    'readings: while r < marks.len() {
+    'readings: for (r, mark) in marks.iter_mut().enumerate() {
         let rank = ranks[r];
         let number = numbers[r];
         let kept = (m <= rank) & (rank < end);
-        marks[r] = held::kept_mark(kept, marks[r]);
+        *mark = held::kept_mark(kept, *mark);
         sum += dropping::part(number, kept);
         ends += dropping::part(number, rank == m) + dropping::part(number, rank == last);
-        r += 1;
     }
     if rule == TRIMMED_MIDPOINT { ends } else { sum }
 }
 
-// The same of readings that are not ranked yet, with lent places for their ranks.
-fn drop_in(marks: &mut [u8], numbers: &[u32], m: u8, rule: u8, ranks: &mut [u8]) -> u64
-    requires marks_len_bound { (length marks.old ≤ max_cabinets) × (2 * m < length marks.old) }
-    requires numbers_len { (length numbers.now ≡ length marks.old) × (length ranks.old ≡ length marks.old) }
-    ensures value { result ≡ trimmed_sum rule (length marks.old) m (value_at numbers.now) }
-    ensures marks_after { marks.new
-        ≡ table (dropped_mark m marks.old numbers.now) (length marks.old) }
-{
-    ranks::rank(numbers, &mut *ranks);
-    sum_kept(marks, numbers, &*ranks, m, rule)
-}
-
 // Drops the m lowest and the m highest of at most 64 readings: strikes them out, and gives the sum that the rule takes
-// the mean of. Where the lists do not fit, or none is left, the sum is 0 and the marks are left as they are.
-pub fn drop_ends(marks: &mut [u8], numbers: &[u32], m: u8, rule: u8) -> u64
+// the mean of. Where the lists do not fit, or none is left, there is no sum and the marks are left as they are.
+pub fn drop_ends(marks: &mut [u8], numbers: &[u32], m: u8, rule: u8) -> Option<u64>
     ensures value { result ≡ dropped_sum rule m marks.old numbers.now }
     ensures marks_after { marks.new ≡ dropped_marks m marks.old numbers.now }
 {
     let n = marks.len();
     if dropping::unfit(n, numbers.len(), m) {
-        return 0;
+        return None;
     }
-    let mut ranks = [0u8; 64];
-    drop_in(marks, numbers, m, rule, &mut ranks[..n])
+    let mut places = [0u8; 64];
+    let ranks = &mut places[..n];
+    ranks::rank(numbers, &mut *ranks);
+    Some(sum_kept(marks, numbers, &*ranks, m, rule))
 }

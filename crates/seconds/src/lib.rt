@@ -22,13 +22,14 @@ pub fn billionths(ticks: u64) -> u64
 pub fn billionths_up(ticks: u64) -> u64
     ensures { result ≡ billionths_up ticks }
 {
-    (ticks % 16_777_216 * 1_000_000_000 + 16_777_215) / 16_777_216
+    (ticks % 16_777_216 * 1_000_000_000).div_ceil(16_777_216)
 }
 
 // The last nine decimal digits of a number.
 pub fn decimals(number: u64) -> [u8; 9]
     ensures { result ≡ decimals number }
 {
+    // Stays: as specs/Seconds.antt says them; a loop is no shorter, and its proof has to show n / 10 / 10 ≡ n / 100.
     [
         48 + ((number / 100_000_000 % 10) as u8),
         48 + ((number / 10_000_000 % 10) as u8),

@@ -3,10 +3,11 @@
 -- Assumes nothing.
 use mathlib.Core.Bool.{true, false, ◌||◌}
 use mathlib.Core.Path.{◌≡◌, sym, ap}
-use Prim.Native.Nat.{ℕ, ◌+◌, ◌*◌, ◌-◌, ◌≤◌, ◌<◌}
-use native.Mathlib.Nat.{mul-le-mul, div-zero}
+use Prim.Native.Nat.{ℕ, ◌+◌, ◌*◌, ◌-◌, ◌/◌, ◌%◌, ◌≤◌, ◌<◌, min}
+use native.Mathlib.Nat.{mul-le-mul, div-zero, div-lt_iff_lt-mul, le-div_iff_mul-le}
 use native.Mathlib.Omega.{arith}
 use lib.Dec.{eqb}
+use Rattle.std.proofs.lemmas.Grind.{div_ceil_times}
 use Rattle.arithmetic.specs.Words.{two_to32}
 use Rattle.model.specs.declared.Settings.{Settings}
 use Rattle.model.specs.Planner.{ceil_div, past_div, window_factor, next_window}
@@ -14,6 +15,18 @@ use Rattle.model.specs.Planner.{ceil_div, past_div, window_factor, next_window}
 pub none-of-none : (a n : ℕ) → n ≡ 0 → 0 ≡ ceil_div a n
 unfolding ceil_div
 none-of-none a n e = rw e (sym (div-zero (a + 0)))
+
+-- the library's quotient rounded up
+pub rounded-up : (a n : ℕ) → 0 < n → a / n + min 1 (a % n) ≡ ceil_div a n
+unfolding ceil_div
+rounded-up a n some =
+    let quotient = a / n + min 1 (a % n) in
+    let times = div_ceil_times a n some in
+    let above : a + (n - 1) < (quotient + 1) * n = omega (arith, times) in
+    let below : quotient * n ≤ a + (n - 1) = omega (arith, times) in
+    let most : (a + (n - 1)) / n < quotient + 1 = (div-lt_iff_lt-mul some).1 above in
+    let least : quotient ≤ (a + (n - 1)) / n = (le-div_iff_mul-le some).1 below in
+    omega arith
 
 pub past-none : (a n : ℕ) → n ≡ 0 → 1 ≡ past_div a n
 unfolding past_div

@@ -24,7 +24,7 @@ pub fn share(settings: Settings, parts: u32) -> u64
     if n == 0 {
         return 0;
     }
-    (product(settings, parts) + (n - 1)) / n
+    product(settings, parts).div_ceil(n)
 }
 
 // ⌊parts × window / N⌋ + 1; 1 where N is 0.

@@ -16,8 +16,9 @@ use Rattle.model.specs.Steps.{Round}
 use Rattle.model.specs.Listing.{cabinet_lines, round_text}
 use Rattle.sheet_laws.proofs.Answer.{answer-cabinets, answer-count, answer-estimate}
 use Rattle.sheet_laws.proofs.Answer.{answer-value, answer-mark, answer-used}
-use Rattle.fields.specs.Putting.{Puts}
-use Rattle.fields.proofs.Putting.{puts_then}
+use Rattle.fields.specs.declared.Writer.{Writer}
+use Rattle.fields.specs.Writing.{Writes}
+use Rattle.fields.proofs.Writing.{writes_then}
 use Rattle.lines.specs.Lines.{round_line, cabinet_line}
 use Rattle.text.specs.Text.{answer_round, round_capacity, text_in, round_written}
 use Rattle.text.proofs.Lines.{length-round-line, cabinets-more, length-cabinets}
@@ -31,9 +32,9 @@ module _ (s : List ℕ) where
     unfolding answer_round
     cabinet-next = rw (m, u, cabinets) (cabinets-more (answer_round s) r)
 
-    pub cabinet-put : {old text new : List ℕ} {at next end : ℕ} → Puts old at (cabinet_lines (answer_round s) r) text next
-        → Puts text next (cabinet_line r mark used) new end → Puts old at (cabinet_lines (answer_round s) (r + 1)) new end
-    cabinet-put before here = rw cabinet-next (puts_then before here)
+    pub cabinet-put : {old mid new : Writer} → Writes old (cabinet_lines (answer_round s) r) mid
+        → Writes mid (cabinet_line r mark used) new → Writes old (cabinet_lines (answer_round s) (r + 1)) new
+    cabinet-put before here = rw cabinet-next (writes_then before here)
 
   pub round_lines : (n count estimate value : ℕ) → n ≡ byte s 0 → count ≡ byte s 1 → estimate ≡ word s 2
       → value ≡ word s 6

@@ -11,7 +11,9 @@ use lib.Dec.{ltb}
 use lib.ListN.{length, take, drop, length-append, length-drop}
 use Rattle.arithmetic.specs.Writing.{overwrite}
 use Rattle.arithmetic.proofs.Writing.{take-overwrite}
+use Rattle.fields.specs.declared.Writer.{Writer}
 use Rattle.fields.specs.Putting.{Puts}
+use Rattle.fields.specs.Writing.{Writes}
 use Rattle.fields.proofs.Putting.{puts_end, puts_overwrite}
 use Rattle.text.specs.Text.{text_in}
 
@@ -38,9 +40,11 @@ module _ (capacity : ℕ) (text buffer : List ℕ) where
     pub text_shown : take (text_in capacity text buffer).size (text_in capacity text buffer).buffer ≡ text
     text_shown = rw (text_size, text_buffer) (take-overwrite text buffer)
 
-    pub text_written : {new : List ℕ} {next : ℕ} → length text ≤ capacity → Puts buffer 0 text new next
-        → (next ≡ (text_in capacity text buffer).size) × (new ≡ (text_in capacity text buffer).buffer)
-    text_written fits p =
+    -- a writer that began where the buffer does
+    pub text_written : {old new : Writer} → length text ≤ capacity → old.bytes.now ≡ buffer → old.at ≡ 0 → Writes old text new
+        → (new.at ≡ (text_in capacity text buffer).size) × (new.bytes.now ≡ (text_in capacity text buffer).buffer)
+    text_written {old} {new} fits whole start w =
+        let p : Puts buffer 0 text new.bytes.now new.at = rw (whole, start) at w.puts in
         (puts_end (le_trans fits room) p ∙ sym text_size, puts_overwrite (le_trans fits room) p ∙ sym text_buffer)
 
   -- a buffer that keeps its length holds the whole text

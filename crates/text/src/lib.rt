@@ -4,9 +4,10 @@
 ghost use Rattle.std.specs.Prelude.{◌≡◌};
 ghost use Rattle.model.specs.RoundSheet.{byte};
 ghost use Rattle.model.specs.Listing.{cabinet_lines};
-ghost use Rattle.fields.specs.Putting.{Puts};
+ghost use Rattle.fields.specs.Writing.{Writes};
 ghost use Rattle.text.specs.Text.{answer_round, round_written, refusal_written};
 
+use fields::Writer;
 use model::ANSWER_HEADER_SIZE;
 
 // Bytes that hold the longest text of an answer sheet, and of a refusal.
@@ -22,25 +23,22 @@ pub fn refusal_text(number: u8, place: u32, text: &mut [u8]) -> usize
     if text.len() < REFUSAL_CAPACITY {
         return 0;
     }
-    lines::put_refusal(text, 0, number, place)
+    let mut writer = Writer::new(text);
+    lines::put_refusal(&mut writer, number, place);
+    writer.at
 }
 
 // Puts a line for each of the cabinets 0 to n-1, as the answer sheet has them.
-fn put_cabinets(text: &mut [u8], at: usize, answer: &[u8], n: u32) -> usize
+fn put_cabinets(text: &mut Writer, answer: &[u8], n: u32)
     requires { n ≡ byte answer.now 0 }
-    ensures { Puts text.old at (cabinet_lines (answer_round answer.now) n) text.new result }
+    ensures { Writes text.old (cabinet_lines (answer_round answer.now) n) text.new }
 {
-    let mut next = at;
-    let mut passed: u32 = 0;
-    'cabinets: while passed < n {
-        let r = passed;
-        passed += 1;
+    'cabinets: for r in 0..n {
         let i = r as usize;
         let mark = words::byte_at(answer, ANSWER_HEADER_SIZE + i) as u32;
         let used = words::word_at(answer, ANSWER_HEADER_SIZE + (n as usize) + 4 * i);
-        next = lines::put_cabinet(text, next, r, mark, used);
+        lines::put_cabinet(text, r, mark, used);
     }
-    next
 }
 
 // The text of an answer sheet: the round's line, then a line for each cabinet. A buffer below the capacity is left as
@@ -56,6 +54,8 @@ pub fn round_text(answer: &[u8], text: &mut [u8]) -> usize
     let count = words::byte_at(answer, 1) as u32;
     let estimate = words::word_at(answer, 2);
     let value = words::word_at(answer, 6);
-    let cabinets = lines::put_round(text, 0, n, count, estimate, value);
-    put_cabinets(text, cabinets, answer, n)
+    let mut writer = Writer::new(text);
+    lines::put_round(&mut writer, n, count, estimate, value);
+    put_cabinets(&mut writer, answer, n);
+    writer.at
 }

@@ -1,26 +1,28 @@
 -- What is between two thresholds is what is left when the m lowest and the m highest of n numbers are dropped.
 -- Assumes nothing.
-use mathlib.Core.Bool.{Bool, true, false, not, cond, ◌&&◌}
+use mathlib.Core.Bool.{Bool, true, false, not, cond, ◌&&◌, ◌||◌}
 use mathlib.Core.List.{List}
 use mathlib.Core.Logic.{⊎_elim}
-use mathlib.Core.Path.{◌≡◌, sym, ap, ap₂, ◌∙◌}
-use Prim.Native.Nat.{ℕ, ◌+◌, ◌*◌, ◌-◌, min, ◌≤◌, ◌<◌}
+use mathlib.Core.Path.{◌≡◌, refl, sym, ap, ap₂, ◌∙◌}
+use Prim.Native.Nat.{ℕ, ◌+◌, ◌*◌, ◌-◌, ◌≤◌, ◌<◌}
+use Rattle.std.specs.Prelude.{Some}
 use native.Mathlib.Omega.{arith}
-use borrow.Author.Tests.{le-ltb, le-leb, lt-leb, ltb-true, ltb-false}
+use borrow.Author.Tests.{le-leb, lt-leb, eq-eqb, ne_eqb, ltb-true, ltb-false}
 use lib.Dec.{leb, ltb, eqb}
 use lib.ListN.{length, get_or}
-use Rattle.arithmetic.specs.Counting.{count}
 use Rattle.arithmetic.specs.Words.{two_to32}
 use Rattle.arithmetic.specs.Writing.{table}
-use Rattle.arithmetic.proofs.Bools.{both_ways, or_false}
+use Rattle.arithmetic.proofs.Bools.{both_ways, or_inl, or_inr}
 use Rattle.model.specs.Ensemble.{max_cabinets}
 use Rattle.model.specs.RoundSheet.{trimmed_midpoint}
 use Rattle.round_laws.specs.Naturals.{rank_nat, kept_nat, ranked_nat, kept-total}
 use Rattle.held.specs.Held.{value_at, kept_mark}
-use Rattle.thresholds.specs.Thresholds.{Split, Splits, misfit}
+use Rattle.thresholds.specs.declared.Thresholds.{Thresholds}
+use Rattle.thresholds.specs.Thresholds.{Split, SplitsBoth, misfit}
 use Rattle.dropping.specs.Dropping.{unfit_for, trimmed_sum, dropped_sum, dropped_marks}
-use Rattle.dropping.proofs.Dropped.{fits-few, fits-even, some_left, sum-some, marks-some, marks-left}
-use Rattle.threshold_trimming.specs.Trimming.{least_from, greatest_to, left_at, between_total}
+use Rattle.dropping.proofs.Dropped.{fits-few, some_left, sum-some, marks-some, marks-left}
+use Rattle.threshold_trimming.specs.declared.Left.{Left}
+use Rattle.threshold_trimming.specs.Trimming.{EndOf, least_from, greatest_to, left_at, between_total}
 use Rattle.threshold_trimming.proofs.Splitting.{before-rank, least-ranked, greatest-ranked}
 use Rattle.threshold_trimming.proofs.Totals.{kept-between}
 
@@ -31,95 +33,95 @@ not-below k r =
     ⊎_elim (λ t. ap not t ∙ sym (lt-leb k r (ltb-true r k t))) (λ f. ap not f ∙ sym (le-leb k r (ltb-false r k f)))
     (both_ways (ltb r k))
 
--- places behind as many numbers equal to a threshold as are among the m lowest, and as are not among the m highest
-pub record Places (x : ℕ → ℕ) (n low dropped high kept start end : ℕ) : Type 0 where
-  pub start_up_to : start ≤ n
-  pub drops_first : count (λ s. eqb (x s) low) start ≡ min dropped (count (λ s. eqb (x s) low) n)
-  pub end_up_to : end ≤ n
-  pub keeps_first : count (λ s. eqb (x s) high) end ≡ min kept (count (λ s. eqb (x s) high) n)
-
-module _ (x : ℕ → ℕ) (n m : ℕ) (rest : 2 * m < n) (low dropped high kept : ℕ) (lowest : Split x n m low dropped)
-    (highest : Split x n (n - m) high kept) where
-  pub left-kept : (start end : ℕ) → Places x n low dropped high kept start end → (r : ℕ) → r < n → left_at x low start high end r ≡ kept_nat n m x r
+module _ (x : ℕ → ℕ) (n m : ℕ) (rest : 2 * m < n) (t : Thresholds) (lowest : Split x n m t.low)
+    (highest : Split x n (n - m) t.high) where
+  pub left-kept :
+      (l : Left) → EndOf x n t.low l.low → EndOf x n t.high l.high → (r : ℕ) → r < n → left_at x l r ≡ kept_nat n m x r
   unfolding kept_nat
-  left-kept start end p r l =
+  left-kept l start end r h =
       ap₂ (λ (a b : Bool). not a && b)
-      (before-rank x n m low dropped lowest (omega arith) start p.start_up_to p.drops_first r l)
-      (before-rank x n (n - m) high kept highest (omega arith) end p.end_up_to p.keeps_first r l)
+      (before-rank x n m t.low lowest (omega arith) l.low start r h)
+      (before-rank x n (n - m) t.high highest (omega arith) l.high end r h)
       ∙ ap (λ (b : Bool). b && ltb (rank_nat n x r) (n - m)) (not-below m (rank_nat n x r))
 
   ends-are :
       ((j : ℕ) → x j < two_to32)
-      → least_from x low n + greatest_to x (cond (eqb kept 0) (high - 1) high) n
+      → least_from x t.low.at n + greatest_to x (cond (eqb t.high.ties 0) (t.high.at - 1) t.high.at) n
       ≡ ranked_nat n x m + ranked_nat n x (n - m - 1)
   ends-are small =
-      ap₂ (λ (a b : ℕ). a + b) (least-ranked x n m low dropped lowest small (omega arith))
-      (greatest-ranked x n (n - m) high kept highest (omega arith) (omega arith))
+      ap₂ (λ (a b : ℕ). a + b) (least-ranked x n m t.low lowest small (omega arith))
+      (greatest-ranked x n (n - m) t.high highest (omega arith) (omega arith))
 
 -- ---- lists that fit
 
-pub fits_both : (m : ℕ) (marks numbers : List ℕ) → unfit_for (length marks) (length numbers) m ≡ false → misfit (length numbers) m ≡ false
-fits_both m marks numbers fit =
-    let even = fits-even m marks numbers fit in
-    or_false (le-ltb max_cabinets (length numbers) (omega (arith, fits-few m marks numbers fit)))
-    (lt-leb (length numbers) (2 * m) (omega (arith, some_left m marks numbers fit)))
+module _ (m : ℕ) (marks numbers : List ℕ) where
+  pub uneven : (length marks ≡ length numbers → ⊥) → unfit_for (length marks) (length numbers) m ≡ true
+  uneven ne =
+      or_inl (leb (length marks) (2 * m))
+      (or_inr (ltb max_cabinets (length marks)) (ap not (ne_eqb (length numbers) (length marks) (λ e. ne (sym e)))))
 
-module _ (rule m : ℕ) (marks numbers : List ℕ) (fit : unfit_for (length marks) (length numbers) m ≡ false)
-    (low dropped high kept : ℕ) (lowest : Splits numbers m low dropped)
-    (highest : Splits numbers (length numbers - m) high kept) where
+  pub same-test : length marks ≡ length numbers → misfit (length numbers) m ≡ unfit_for (length marks) (length numbers) m
+  same-test even = rw (even, eq-eqb (length numbers) (length numbers) refl) (go (ltb max_cabinets (length numbers)))
+    where
+      go : (a : Bool) → (a || leb (length numbers) (2 * m)) ≡ ((a || false) || leb (length numbers) (2 * m))
+      go true = refl
+      go false = refl
+
+module _ (m : ℕ) (marks numbers : List ℕ) (t : Thresholds) (even : length marks ≡ length numbers)
+    (both : SplitsBoth numbers m t) where
+  fit : unfit_for (length marks) (length numbers) m ≡ false
+  fit = sym (same-test m marks numbers even) ∙ both.fits
+
   abbrev n : ℕ
   n = length marks
 
   abbrev x : ℕ → ℕ
   x = value_at numbers
 
-  even : length numbers ≡ n
-  even = fits-even m marks numbers fit
-
   rest : 2 * m < n
   rest = some_left m marks numbers fit
 
-  from : Split x n m low dropped
-  from = rw (← even) lowest
+  from : Split x n m t.low
+  from = rw even both.lowest
 
-  to : Split x n (n - m) high kept
-  to = rw (← even) highest
+  to : Split x n (n - m) t.high
+  to = rw even both.highest
 
   -- by the one rule the least and the greatest that are left
   pub by-ends :
-      ((j : ℕ) → x j < two_to32) → eqb rule trimmed_midpoint ≡ true → (last : ℕ) → last ≡ cond (eqb kept 0) (high - 1) high
-      → least_from x low (length numbers) + greatest_to x last (length numbers) ≡ dropped_sum rule m marks numbers
-  by-ends small e last is =
-      rw (even, is) (ends-are x n m rest low dropped high kept from to small)
-      ∙ ends
-      ∙ sum-some m marks numbers fit rule
+      (rule : ℕ) → eqb rule trimmed_midpoint ≡ true → ((j : ℕ) → x j < two_to32)
+      → (last : ℕ) → last ≡ cond (eqb t.high.ties 0) (t.high.at - 1) t.high.at
+      → Some (least_from x t.low.at (length numbers) + greatest_to x last (length numbers)) ≡ dropped_sum rule m marks numbers
+  by-ends rule e small last is =
+      ap Some (rw (← even, is) (ends-are x n m rest t from to small) ∙ ends) ∙ sum-some m marks numbers fit rule
     where
       ends : ranked_nat n x m + ranked_nat n x (n - m - 1) ≡ trimmed_sum rule n m x
       ends = rw e
 
   -- by the other all: the sum between the thresholds is what is left and what is dropped at the lower one
   abbrev between : ℕ
-  between = between_total x low high (length numbers)
+  between = between_total x t.low.at t.high.at (length numbers)
 
-  all-sums : kept-total n m x + dropped * low ≡ between + kept * high
-  all-sums = rw even (kept-between x n m rest low dropped high kept from to)
+  all-sums : kept-total n m x + t.low.ties * t.low.at ≡ between + t.high.ties * t.high.at
+  all-sums = rw (← even) (kept-between x n m rest t from to)
 
-  pub dropped-fits : dropped * low ≤ between + kept * high
+  pub dropped-fits : t.low.ties * t.low.at ≤ between + t.high.ties * t.high.at
   dropped-fits = omega (arith, all-sums)
 
-  pub kept-few : kept ≤ max_cabinets
+  pub kept-few : t.high.ties ≤ max_cabinets
   kept-few = omega (arith, to.exact, fits-few m marks numbers fit)
 
-  pub by_all : eqb rule trimmed_midpoint ≡ false → between + kept * high - dropped * low ≡ dropped_sum rule m marks numbers
-  by_all e = omega (arith, all-sums) ∙ all ∙ sum-some m marks numbers fit rule
+  pub by_all :
+      (rule : ℕ) → eqb rule trimmed_midpoint ≡ false
+      → Some (between + t.high.ties * t.high.at - t.low.ties * t.low.at) ≡ dropped_sum rule m marks numbers
+  by_all rule e = ap Some (omega (arith, all-sums) ∙ all) ∙ sum-some m marks numbers fit rule
     where
       all : kept-total n m x ≡ trimmed_sum rule n m x
       all = rw e
 
-  module _ (start end : ℕ) (found : Places x (length numbers) low dropped high kept start end) where
-    pub marks-are :
-        table (λ r. kept_mark (left_at x low start high end r) (get_or marks r 0)) n ≡ dropped_marks m marks numbers
-    marks-are =
-        marks-left m marks numbers (left_at x low start high end)
-        (left-kept x n m rest low dropped high kept from to start end (rw (← even) found))
-        ∙ marks-some m marks numbers fit
+  pub marks-are :
+      (l : Left) → EndOf x (length numbers) t.low l.low → EndOf x (length numbers) t.high l.high
+      → table (λ r. kept_mark (left_at x l r) (get_or marks r 0)) n ≡ dropped_marks m marks numbers
+  marks-are l start end =
+      marks-left m marks numbers (left_at x l) (left-kept x n m rest t from to l (rw even start) (rw even end))
+      ∙ marks-some m marks numbers fit

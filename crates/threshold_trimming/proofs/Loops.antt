@@ -2,7 +2,7 @@
 -- low on and the greatest up to high.
 -- Assumes nothing.
 use borrow.Author.Tests.{ltb-true, ltb-false}
-use mathlib.Core.Bool.{Bool, true, false, cond, ◌&&◌}
+use mathlib.Core.Bool.{Bool, cond}
 use mathlib.Core.Logic.{⊎_elim}
 use mathlib.Core.Path.{◌≡◌, refl, ap, ap₂, ◌∙◌}
 use Prim.Native.Nat.{ℕ, zero, suc, ◌+◌, ◌-◌, min, max, ◌≤◌, ◌<◌}
@@ -13,7 +13,7 @@ use lib.Dec.{ltb}
 use mir.Val.{bool_byte}
 use Rattle.arithmetic.specs.Counting.{count}
 use Rattle.arithmetic.specs.Words.{two_to32}
-use Rattle.arithmetic.proofs.Bools.{both_ways, and_left, and_right, and_intro, clash}
+use Rattle.arithmetic.proofs.Bools.{both_ways}
 use Rattle.loop_laws.proofs.Loops.{flag, flag_small, count_next}
 use Rattle.threshold_trimming.specs.Trimming.{least_from, greatest_to}
 
@@ -43,32 +43,25 @@ module _ {p : ℕ → Bool} {ties n : ℕ} where
   finding_none = record { up_to = omega arith; rest = omega arith }
 
   module _ {left r : ℕ} (so_far : Finding p ties n left r) where
-    module _ (more : (ltb r n && ltb 0 left) ≡ true) where
-      pub finding_here : r < n
-      finding_here = ltb-true r n (and_left (ltb r n) (ltb 0 left) more)
-
+    module _ (more : left ≡ 0 → ⊥) where
       pub finding_fits : bool_byte (p r) ≤ left
-      finding_fits =
-          omega (arith, flag_small (p r), ltb-true 0 left (and_right (ltb r n) (ltb 0 left) more))
+      finding_fits = omega (arith, flag_small (p r))
 
-      pub finding_one : Finding p ties n (left - bool_byte (p r)) (r + 1)
-      finding_one =
+      pub finding_one : r < n → Finding p ties n (left - bool_byte (p r)) (r + 1)
+      finding_one here =
           record {
-            up_to = omega (arith, finding_here);
+            up_to = omega arith;
             rest = omega (arith, finding_fits, flag (p r), count_next p r, so_far.rest);
           }
 
-    pub found : (ltb r n && ltb 0 left) ≡ false → count p r ≡ min ties (count p n)
-    found ended =
-        ⊎_elim
-        (λ t.
-        ⊎_elim (λ u. clash (and_intro t u) ended)
-        (λ f. omega (arith, ltb-false 0 left f, so_far.rest, count_longer p r n so_far.up_to))
-        (both_ways (ltb 0 left)))
-        (λ f.
-        let all : r ≡ n = omega (arith, ltb-false r n f, so_far.up_to) in
-        omega (arith, ap (count p) all, so_far.rest))
-        (both_ways (ltb r n))
+    -- none is to come, or no number
+    pub found : left ≡ 0 → count p r ≡ min ties (count p n)
+    found none = omega (arith, so_far.rest, count_longer p r n so_far.up_to)
+
+    pub all-found : n ≤ r → count p n ≡ min ties (count p n)
+    all-found ended =
+        let all : r ≡ n = omega (arith, so_far.up_to) in
+        omega (arith, ap (count p) all, so_far.rest)
 
 -- ---- the least number from low on and the greatest up to high, of the first r of n
 
@@ -87,13 +80,13 @@ module _ {x : ℕ → ℕ} {low high n : ℕ} where
 
   module _ {least most r : ℕ} (so_far : Ends x low high n least most r) where
     pub ends-one :
-        r < n → (l m a b : ℕ) → l ≡ cond (ltb (x r) low) (two_to32 - 1) (x r) → m ≡ cond (ltb high (x r)) 0 (x r)
-        → a ≡ min l least → b ≡ max most m → a < two_to32 → b < two_to32 → Ends x low high n a b (r + 1)
+        {l m a b : ℕ} → r < n → l ≡ cond (ltb (x r) low) (two_to32 - 1) (x r) → m ≡ cond (ltb high (x r)) 0 (x r)
+        → a ≡ min least l → b ≡ max most m → a < two_to32 → b < two_to32 → Ends x low high n a b (r + 1)
     unfolding least_from greatest_to
-    ends-one here l m a b el em ea eb fa fb =
+    ends-one {l} {m} {a} {b} here el em ea eb fa fb =
         record {
           up_to = omega arith;
-          lowest = rw (add-one r) (ea ∙ ap₂ min el so_far.lowest);
+          lowest = rw (add-one r) (omega (arith, so_far.lowest));
           highest = rw (add-one r) (eb ∙ ap₂ max so_far.highest em);
           low_fits = fa;
           high_fits = fb;

@@ -1,12 +1,12 @@
 -- The k lowest of n numbers, equal ones by index, lie below a threshold; so a number's rank is told by two thresholds,
 -- and the lowest and the highest number that are left are told by them too.
---   before-rank          a number comes before the threshold just where its rank is below k
+--   before-rank          a number comes before the threshold's end just where its rank is below k
 --   least-ranked, greatest-ranked    the number of rank k, and the one before it
 -- Assumes nothing.
 use mathlib.Core.Bool.{Bool, false, cond, ◌&&◌, ◌||◌}
 use mathlib.Core.Logic.{⊎_elim}
 use mathlib.Core.Path.{◌≡◌, refl, sym, ap, ◌∙◌}
-use Prim.Native.Nat.{ℕ, zero, suc, ◌+◌, ◌-◌, min, ◌≤◌, ◌<◌}
+use Prim.Native.Nat.{ℕ, zero, suc, ◌+◌, ◌-◌, ◌≤◌, ◌<◌}
 use native.Mathlib.Omega.{arith}
 use borrow.Author.Tests.{lt-ltb, le-ltb, le-leb, eq-eqb, ne_eqb, ltb-true, ltb-false, leb-true, leb-false}
 use borrow.Author.Tests.{eqb-true, eqb-false}
@@ -20,10 +20,12 @@ use Rattle.round_laws.specs.Naturals.{precedes_nat, rank_nat, ranked_nat}
 use Rattle.value_laws.proofs.Order.{count-more, lower-precedes, precedes-at-most, precedes-self, rank_less, rank-small, below-rank}
 use Rattle.value_laws.proofs.Order.{ranked-found}
 use Rattle.ranks.proofs.Seeing.{rank-equal}
+use Rattle.thresholds.specs.declared.Threshold.{Threshold}
 use Rattle.thresholds.specs.Thresholds.{Split}
 use Rattle.thresholds.proofs.Narrowing.{none-counted}
 use Rattle.threshold_trimming.proofs.Loops.{count_longer}
-use Rattle.threshold_trimming.specs.Trimming.{least_from, greatest_to, before}
+use Rattle.threshold_trimming.specs.declared.End.{End}
+use Rattle.threshold_trimming.specs.Trimming.{EndOf, least_from, greatest_to, before}
 
 pub positive : (t : ℕ) → (t ≡ 0 → ⊥) → 0 < t
 positive zero ne = absurd (ne refl)
@@ -138,93 +140,93 @@ module _ (x : ℕ → ℕ) (n : ℕ) where
       count_mono (λ t. ltb (x t) at) (λ t. precedes_nat x t r) n
       (λ t _ p. lower-precedes x t r (omega (arith, ltb-true (x t) at p)))
 
-  module _ (k at ties : ℕ) (s : Split x n k at ties) where
+  module _ (k : ℕ) (edge : Threshold) (s : Split x n k edge) where
     -- a number above the threshold comes behind the k
-    pub rank-beyond : (r : ℕ) → r < n → at < x r → k ≤ rk r
+    pub rank-beyond : (r : ℕ) → r < n → edge.at < x r → k ≤ rk r
     rank-beyond r l h =
         ⊎_elim
-        (λ t. omega (arith, s.exact, eqb-true ties 0 t, rank-over r at (omega arith)))
+        (λ t. omega (arith, s.exact, eqb-true edge.ties 0 t, rank-over r edge.at (omega arith)))
         (λ f.
-        let some : 0 < ties = positive ties (eqb-false ties 0 f) in
-        omega (arith, s.tied some, below-rank x n r at h, rank-small x n r l))
-        (both_ways (eqb ties 0))
+        let some : 0 < edge.ties = positive edge.ties (eqb-false edge.ties 0 f) in
+        omega (arith, s.tied some, below-rank x n r edge.at h, rank-small x n r l))
+        (both_ways (eqb edge.ties 0))
 
     -- one equal to it comes behind those below, and behind equal ones of a lower index
-    rank-here : (r : ℕ) → r < n → x r ≡ at → rk r ≡ below at + count (λ s. eqb (x s) at) r
+    rank-here : (r : ℕ) → r < n → x r ≡ edge.at → rk r ≡ below edge.at + count (λ s. eqb (x s) edge.at) r
     rank-here r l e =
         rank-equal x n r l ∙ ap (λ (v : ℕ). count (λ t. ltb (x t) v) n + count (λ s. eqb (x s) v) r) e
 
     -- how many are equal to the threshold, of the first r and of all
     abbrev passed : ℕ → ℕ
-    passed r = count (λ t. eqb (x t) at) r
+    passed r = count (λ t. eqb (x t) edge.at) r
 
     -- no more of these are among the k than there are
-    enough : k ≤ n → ties ≤ passed n
+    enough : k ≤ n → edge.ties ≤ passed n
     enough l =
-        ⊎_elim (λ t. omega (arith, eqb-true ties 0 t))
-        (λ f. omega (arith, s.exact, s.tied (positive ties (eqb-false ties 0 f)), up-to-both x n at))
-        (both_ways (eqb ties 0))
+        ⊎_elim (λ t. omega (arith, eqb-true edge.ties 0 t))
+        (λ f. omega (arith, s.exact, s.tied (positive edge.ties (eqb-false edge.ties 0 f)), up-to-both x n edge.at))
+        (both_ways (eqb edge.ties 0))
 
-    -- where as many are passed before a place as are among the k, a number comes before the threshold just where its rank
-    -- is below k
-    module _ (most : k ≤ n) (end : ℕ) (up : end ≤ n) (first : passed end ≡ min ties (passed n)) where
-      ends_there : (r : ℕ) → r < n → x r ≡ at → ltb r end ≡ ltb (rk r) k
+    -- a number comes before the end just where its rank is below k
+    module _ (most : k ≤ n) (stop : End) (o : EndOf x n edge stop) where
+      ends_there : (r : ℕ) → r < n → x r ≡ edge.at → ltb r stop.place ≡ ltb (rk r) k
       ends_there r l here =
           let own = rank-here r l here in
-          let one = ap bit (eq-eqb (x r) at here) in
-          iff_eq (ltb r end) (ltb (rk r) k)
+          let one = ap bit (eq-eqb (x r) edge.at here) in
+          iff_eq (ltb r stop.place) (ltb (rk r) k)
           (λ p.
-          let more = count_longer (λ t. eqb (x t) at) (r + 1) end (omega (arith, ltb-true r end p)) in
-          lt-ltb (rk r) k (omega (arith, s.exact, count_next (λ t. eqb (x t) at) r)))
+          let more = count_longer (λ t. eqb (x t) edge.at) (r + 1) stop.place (omega (arith, ltb-true r stop.place p)) in
+          lt-ltb (rk r) k (omega (arith, s.exact, count_next (λ t. eqb (x t) edge.at) r)))
           (λ p.
           ⊎_elim (λ t. t)
           (λ f.
-          let fewer = count_longer (λ t. eqb (x t) at) end r (ltb-false r end f) in
+          let fewer = count_longer (λ t. eqb (x t) edge.at) stop.place r (ltb-false r stop.place f) in
           absurd (omega (arith, s.exact, ltb-true (rk r) k p, enough most)))
-          (both_ways (ltb r end)))
+          (both_ways (ltb r stop.place)))
 
-      pub before-rank : (r : ℕ) → r < n → before (x r) r at end ≡ ltb (rk r) k
+      pub before-rank : (r : ℕ) → r < n → before (x r) r stop ≡ ltb (rk r) k
       before-rank r l =
-          ⊎_elim
+          ap (λ (v : ℕ). ltb (x r) v || (eqb (x r) v && ltb r stop.place)) o.same
+          ∙ ⊎_elim
           (λ t.
-          or_inl (eqb (x r) at && ltb r end) t
-          ∙ sym (lt-ltb (rk r) k (omega (arith, s.exact, rank-under r at l (ltb-true (x r) at t)))))
+          or_inl (eqb (x r) edge.at && ltb r stop.place) t
+          ∙ sym (lt-ltb (rk r) k (omega (arith, s.exact, rank-under r edge.at l (ltb-true (x r) edge.at t)))))
           (λ f.
           ⊎_elim
           (λ t.
-          ap (λ (b : Bool). b || (eqb (x r) at && ltb r end)) f
-          ∙ ap (λ (b : Bool). b && ltb r end) t
-          ∙ ends_there r l (eqb-true (x r) at t))
+          ap (λ (b : Bool). b || (eqb (x r) edge.at && ltb r stop.place)) f
+          ∙ ap (λ (b : Bool). b && ltb r stop.place) t
+          ∙ ends_there r l (eqb-true (x r) edge.at t))
           (λ g.
-          let over : at < x r = apart at (x r) (ltb-false (x r) at f) (eqb-false (x r) at g) in
-          or_false f (ap (λ (b : Bool). b && ltb r end) g) ∙ sym (le-ltb (rk r) k (rank-beyond r l over)))
-          (both_ways (eqb (x r) at)))
-          (both_ways (ltb (x r) at))
+          let over : edge.at < x r = apart edge.at (x r) (ltb-false (x r) edge.at f) (eqb-false (x r) edge.at g) in
+          or_false f (ap (λ (b : Bool). b && ltb r stop.place) g) ∙ sym (le-ltb (rk r) k (rank-beyond r l over)))
+          (both_ways (eqb (x r) edge.at)))
+          (both_ways (ltb (x r) edge.at))
 
     -- ---- the number of rank k, and the one before it
 
     module _ (small : (j : ℕ) → x j < two_to32) (some : k < n) where
-      pub least-ranked : least_from x at n ≡ ranked_nat n x k
+      pub least-ranked : least_from x edge.at n ≡ ranked_nat n x k
       least-ranked =
           let f = ranked-found x n k some in
           let i = f.index in
           let e = f.number in
-          let reached : at ≤ x i =
-          ⊎_elim (λ t. leb-true at (x i) t)
-          (λ g. absurd (omega (arith, s.exact, f.rank, rank-under i at f.in_range (leb-false at (x i) g))))
-          (both_ways (leb at (x i))) in
-          let a = least-most x small at n i f.in_range reached in
-          let b = least-least x small at n (x i) (small i) (λ j l h. lowest i f.in_range f.rank j l h) in
+          let reached : edge.at ≤ x i =
+          ⊎_elim (λ t. leb-true edge.at (x i) t)
+          (λ g. absurd (omega (arith, s.exact, f.rank, rank-under i edge.at f.in_range (leb-false edge.at (x i) g))))
+          (both_ways (leb edge.at (x i))) in
+          let a = least-most x small edge.at n i f.in_range reached in
+          let b = least-least x small edge.at n (x i) (small i) (λ j l h. lowest i f.in_range f.rank j l h) in
           omega arith
         where
           -- one above the threshold has rank k only where no ties are among the k
-          at_once : (i : ℕ) → i < n → rk i ≡ k → at < x i → ties ≡ 0
+          at_once : (i : ℕ) → i < n → rk i ≡ k → edge.at < x i → edge.ties ≡ 0
           at_once i li e h =
-              ⊎_elim (λ t. eqb-true ties 0 t)
-              (λ f. absurd (omega (arith, s.tied (positive ties (eqb-false ties 0 f)), below-rank x n i at h)))
-              (both_ways (eqb ties 0))
+              ⊎_elim (λ t. eqb-true edge.ties 0 t)
+              (λ f. absurd (omega (arith, s.tied (positive edge.ties (eqb-false edge.ties 0 f)), below-rank x n i edge.at h)))
+              (both_ways (eqb edge.ties 0))
 
-          lowest : (i : ℕ) → i < n → rk i ≡ k → (j : ℕ) → j < n → at ≤ x j → x i ≤ x j
+          lowest : (i : ℕ) → i < n → rk i ≡ k → (j : ℕ) → j < n → edge.at ≤ x j → x i ≤ x j
           lowest i li e j lj h =
               ⊎_elim (λ t. leb-true (x i) (x j) t)
               (λ f.
@@ -232,44 +234,44 @@ module _ (x : ℕ → ℕ) (n : ℕ) where
               let before = rank_less x n j i lj (lower-precedes x j i lower) in
               absurd
               (⊎_elim
-              (λ t. omega (arith, e, rank-beyond j lj (ltb-true at (x j) t)))
+              (λ t. omega (arith, e, rank-beyond j lj (ltb-true edge.at (x j) t)))
               (λ g.
-              let here : x j ≡ at = omega (arith, ltb-false at (x j) g) in
+              let here : x j ≡ edge.at = omega (arith, ltb-false edge.at (x j) g) in
               omega (arith, e, s.exact, rank-here j lj here, at_once i li e (omega arith)))
-              (both_ways (ltb at (x j)))))
+              (both_ways (ltb edge.at (x j)))))
               (both_ways (leb (x i) (x j)))
 
     -- the greatest number up to the threshold: where no ties are among the k, it is below it
     module _ (some : 0 < k) (most : k ≤ n) where
-      pub greatest-ranked : greatest_to x (cond (eqb ties 0) (at - 1) at) n ≡ ranked_nat n x (k - 1)
+      pub greatest-ranked : greatest_to x (cond (eqb edge.ties 0) (edge.at - 1) edge.at) n ≡ ranked_nat n x (k - 1)
       greatest-ranked =
           let f = ranked-found x n (k - 1) (omega arith) in
           let i = f.index in
           let e = f.number in
           ⊎_elim
           (λ t.
-          let none = eqb-true ties 0 t in
-          let up = ap (λ (b : Bool). cond b (at - 1) at) t in
+          let none = eqb-true edge.ties 0 t in
+          let up = ap (λ (b : Bool). cond b (edge.at - 1) edge.at) t in
           let reached = ltb-true-from i f.in_range f.rank none in
           let a =
-          greatest-least x (at - 1) n i f.in_range (omega arith) in
+          greatest-least x (edge.at - 1) n i f.in_range (omega arith) in
           let b =
-          greatest-most x (at - 1) n (x i) (λ j l h. highest i f.in_range f.rank j l (omega (arith, s.exact, rank-under j at l (omega arith)))) in
+          greatest-most x (edge.at - 1) n (x i) (λ j l h. highest i f.in_range f.rank j l (omega (arith, s.exact, rank-under j edge.at l (omega arith)))) in
           ap (λ (v : ℕ). greatest_to x v n) up ∙ omega arith)
           (λ g.
-          let tie = positive ties (eqb-false ties 0 g) in
-          let up = ap (λ (b : Bool). cond b (at - 1) at) g in
-          let a = greatest-least x at n i f.in_range (reached-tied i f.rank tie) in
+          let tie = positive edge.ties (eqb-false edge.ties 0 g) in
+          let up = ap (λ (b : Bool). cond b (edge.at - 1) edge.at) g in
+          let a = greatest-least x edge.at n i f.in_range (reached-tied i f.rank tie) in
           let b =
-          greatest-most x at n (x i) (λ j l h. highest-tied i f.in_range f.rank tie j h) in
+          greatest-most x edge.at n (x i) (λ j l h. highest-tied i f.in_range f.rank tie j h) in
           ap (λ (v : ℕ). greatest_to x v n) up ∙ omega arith)
-          (both_ways (eqb ties 0))
+          (both_ways (eqb edge.ties 0))
         where
-          ltb-true-from : (i : ℕ) → i < n → rk i ≡ k - 1 → ties ≡ 0 → x i < at
+          ltb-true-from : (i : ℕ) → i < n → rk i ≡ k - 1 → edge.ties ≡ 0 → x i < edge.at
           ltb-true-from i l e none =
-              ⊎_elim (λ t. ltb-true (x i) at t)
-              (λ f. absurd (omega (arith, s.exact, rank-over i at (ltb-false (x i) at f))))
-              (both_ways (ltb (x i) at))
+              ⊎_elim (λ t. ltb-true (x i) edge.at t)
+              (λ f. absurd (omega (arith, s.exact, rank-over i edge.at (ltb-false (x i) edge.at f))))
+              (both_ways (ltb (x i) edge.at))
 
           highest : (i : ℕ) → i < n → rk i ≡ k - 1 → (j : ℕ) → j < n → rk j < k → x j ≤ x i
           highest i li e j lj h =
@@ -278,18 +280,18 @@ module _ (x : ℕ → ℕ) (n : ℕ) where
               (λ f. ltb-false (x i) (x j) f)
               (both_ways (ltb (x i) (x j)))
 
-          reached-tied : (i : ℕ) → rk i ≡ k - 1 → 0 < ties → x i ≤ at
+          reached-tied : (i : ℕ) → rk i ≡ k - 1 → 0 < edge.ties → x i ≤ edge.at
           reached-tied i e tie =
               ⊎_elim
-              (λ t. absurd (omega (arith, s.tied tie, below-rank x n i at (ltb-true at (x i) t))))
-              (λ f. ltb-false at (x i) f)
-              (both_ways (ltb at (x i)))
+              (λ t. absurd (omega (arith, s.tied tie, below-rank x n i edge.at (ltb-true edge.at (x i) t))))
+              (λ f. ltb-false edge.at (x i) f)
+              (both_ways (ltb edge.at (x i)))
 
-          highest-tied : (i : ℕ) → i < n → rk i ≡ k - 1 → 0 < ties → (j : ℕ) → x j ≤ at → x j ≤ x i
+          highest-tied : (i : ℕ) → i < n → rk i ≡ k - 1 → 0 < edge.ties → (j : ℕ) → x j ≤ edge.at → x j ≤ x i
           highest-tied i li e tie j h =
               ⊎_elim
               (λ t.
               absurd
-              (omega (arith, s.exact, rank-under i at li (omega (arith, ltb-true (x i) (x j) t)))))
+              (omega (arith, s.exact, rank-under i edge.at li (omega (arith, ltb-true (x i) (x j) t)))))
               (λ f. ltb-false (x i) (x j) f)
               (both_ways (ltb (x i) (x j)))

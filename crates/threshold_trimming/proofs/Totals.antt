@@ -22,6 +22,8 @@ use Rattle.model.specs.Ensemble.{max_cabinets}
 use Rattle.round_laws.specs.Naturals.{rank_nat, kept_nat, kept-total}
 use Rattle.held.specs.Held.{value_at}
 use Rattle.value_laws.proofs.Order as order
+use Rattle.thresholds.specs.declared.Threshold.{Threshold}
+use Rattle.thresholds.specs.declared.Thresholds.{Thresholds}
 use Rattle.thresholds.specs.Thresholds.{Split}
 use Rattle.threshold_trimming.specs.Trimming.{between, between_total}
 use Rattle.threshold_trimming.proofs.Splitting.{positive, apart, rank-under, rank-beyond}
@@ -72,34 +74,34 @@ left-fits x n low high kept small few many l =
 
 -- ---- the k lowest
 
-module _ (x : ℕ → ℕ) (n k at ties : ℕ) (s : Split x n k at ties) (most : k ≤ n) where
+module _ (x : ℕ → ℕ) (n k : ℕ) (edge : Threshold) (s : Split x n k edge) (most : k ≤ n) where
   abbrev rk : ℕ → ℕ
   rk r = rank_nat n x r
 
   -- a number is among the k lowest and not below the threshold only where it is equal to it
   term :
       (r : ℕ) → r < n
-      → cond (ltb (rk r) k) (x r) 0 + bit (ltb (x r) at) * at ≡ cond (ltb (x r) at) (x r) 0 + bit (ltb (rk r) k) * at
+      → cond (ltb (rk r) k) (x r) 0 + bit (ltb (x r) edge.at) * edge.at ≡ cond (ltb (x r) edge.at) (x r) 0 + bit (ltb (rk r) k) * edge.at
   term r l =
       ⊎_elim
-      (λ (t : ltb (x r) at ≡ true).
+      (λ (t : ltb (x r) edge.at ≡ true).
       let low : ltb (rk r) k ≡ true =
-      lt-ltb (rk r) k (omega (arith, s.exact, rank-under x n r at l (ltb-true (x r) at t))) in
+      lt-ltb (rk r) k (omega (arith, s.exact, rank-under x n r edge.at l (ltb-true (x r) edge.at t))) in
       rw (t, low) (omega arith))
-      (λ (f : ltb (x r) at ≡ false).
+      (λ (f : ltb (x r) edge.at ≡ false).
       ⊎_elim
-      (λ e. rw (f, eqb-true (x r) at e) (tie (ltb (rk r) k)))
+      (λ e. rw (f, eqb-true (x r) edge.at e) (tie (ltb (rk r) k)))
       (λ g.
-      let over : at < x r = apart at (x r) (ltb-false (x r) at f) (eqb-false (x r) at g) in
-      rw (f, le-ltb (rk r) k (rank-beyond x n k at ties s r l over)) (omega arith))
-      (both_ways (eqb (x r) at)))
-      (both_ways (ltb (x r) at))
+      let over : edge.at < x r = apart edge.at (x r) (ltb-false (x r) edge.at f) (eqb-false (x r) edge.at g) in
+      rw (f, le-ltb (rk r) k (rank-beyond x n k edge s r l over)) (omega arith))
+      (both_ways (eqb (x r) edge.at)))
+      (both_ways (ltb (x r) edge.at))
     where
-      tie : (b : Bool) → cond b at 0 + 0 * at ≡ 0 + bit b * at
+      tie : (b : Bool) → cond b edge.at 0 + 0 * edge.at ≡ 0 + bit b * edge.at
       tie b = ⊎_elim (λ t. rw t (omega arith)) (λ f. rw f (omega arith)) (both_ways b)
 
-  counted : (p : ℕ → Bool) → total (λ r. bit (p r) * at) n ≡ count p n * at
-  counted p = total_scale (λ r. bit (p r)) at n ∙ ap (λ (c : ℕ). c * at) (sym (count-total p n))
+  counted : (p : ℕ → Bool) → total (λ r. bit (p r) * edge.at) n ≡ count p n * edge.at
+  counted p = total_scale (λ r. bit (p r)) edge.at n ∙ ap (λ (c : ℕ). c * edge.at) (sym (count-total p n))
 
   -- k of them are
   many : count (λ r. ltb (rk r) k) n ≡ k
@@ -108,50 +110,50 @@ module _ (x : ℕ → ℕ) (n k at ties : ℕ) (s : Split x n k at ties) (most :
       count_ext (λ r. ltb (rk r) k) (order.between x n 0 k) n (λ r _. ap (λ (b : Bool). b && ltb (rk r) k) (sym (le-leb 0 (rk r) (omega arith))))
       ∙ omega arith
 
-  pub lowest-total : under_total rk x k n ≡ under_total x x at n + ties * at
+  pub lowest-total : under_total rk x k n ≡ under_total x x edge.at n + edge.ties * edge.at
   lowest-total =
       let both =
-      sym (total_add (λ r. cond (ltb (rk r) k) (x r) 0) (λ r. bit (ltb (x r) at) * at) n)
-      ∙ total_ext (λ r. cond (ltb (rk r) k) (x r) 0 + bit (ltb (x r) at) * at)
-      (λ r. cond (ltb (x r) at) (x r) 0 + bit (ltb (rk r) k) * at) n
+      sym (total_add (λ r. cond (ltb (rk r) k) (x r) 0) (λ r. bit (ltb (x r) edge.at) * edge.at) n)
+      ∙ total_ext (λ r. cond (ltb (rk r) k) (x r) 0 + bit (ltb (x r) edge.at) * edge.at)
+      (λ r. cond (ltb (x r) edge.at) (x r) 0 + bit (ltb (rk r) k) * edge.at) n
       term
-      ∙ total_add (λ r. cond (ltb (x r) at) (x r) 0) (λ r. bit (ltb (rk r) k) * at) n in
-      let below = counted (λ r. ltb (x r) at) in
+      ∙ total_add (λ r. cond (ltb (x r) edge.at) (x r) 0) (λ r. bit (ltb (rk r) k) * edge.at) n in
+      let below = counted (λ r. ltb (x r) edge.at) in
       let all =
-      counted (λ r. ltb (rk r) k) ∙ ap (λ (c : ℕ). c * at) (many ∙ sym s.exact) in
-      omega (arith, add-mul (count (λ t. ltb (x t) at) n) ties at)
+      counted (λ r. ltb (rk r) k) ∙ ap (λ (c : ℕ). c * edge.at) (many ∙ sym s.exact) in
+      omega (arith, add-mul (count (λ t. ltb (x t) edge.at) n) edge.ties edge.at)
 
 -- ---- those that are left
 
-module _ (x : ℕ → ℕ) (n m : ℕ) (rest : 2 * m < n) (low dropped high kept : ℕ) (lowest : Split x n m low dropped)
-    (highest : Split x n (n - m) high kept) where
+module _ (x : ℕ → ℕ) (n m : ℕ) (rest : 2 * m < n) (t : Thresholds) (lowest : Split x n m t.low)
+    (highest : Split x n (n - m) t.high) where
   -- more numbers are dropped below a higher threshold
-  ordered : low ≤ high
+  ordered : t.low.at ≤ t.high.at
   ordered =
       ⊎_elim
-      (λ t.
-      let above = ltb-true high low t in
+      (λ u.
+      let above = ltb-true t.high.at t.low.at u in
       let few =
-      count_mono (λ r. leb (x r) high) (λ r. ltb (x r) low) n
-      (λ r _ p. lt-ltb (x r) low (omega (arith, leb-true (x r) high p))) in
+      count_mono (λ r. leb (x r) t.high.at) (λ r. ltb (x r) t.low.at) n
+      (λ r _ p. lt-ltb (x r) t.low.at (omega (arith, leb-true (x r) t.high.at p))) in
       let fewer =
-      count_mono (λ r. ltb (x r) high) (λ r. ltb (x r) low) n
-      (λ r _ p. lt-ltb (x r) low (omega (arith, ltb-true (x r) high p))) in
+      count_mono (λ r. ltb (x r) t.high.at) (λ r. ltb (x r) t.low.at) n
+      (λ r _ p. lt-ltb (x r) t.low.at (omega (arith, ltb-true (x r) t.high.at p))) in
       absurd
       (⊎_elim
-      (λ e. omega (arith, lowest.exact, highest.exact, eqb-true kept 0 e))
-      (λ g. omega (arith, lowest.exact, highest.tied (positive kept (eqb-false kept 0 g))))
-      (both_ways (eqb kept 0))))
-      (λ f. ltb-false high low f)
-      (both_ways (ltb high low))
+      (λ e. omega (arith, lowest.exact, highest.exact, eqb-true t.high.ties 0 e))
+      (λ g. omega (arith, lowest.exact, highest.tied (positive t.high.ties (eqb-false t.high.ties 0 g))))
+      (both_ways (eqb t.high.ties 0))))
+      (λ f. ltb-false t.high.at t.low.at f)
+      (both_ways (ltb t.high.at t.low.at))
 
-  pub kept-between : kept-total n m x + dropped * low ≡ between_total x low high n + kept * high
+  pub kept-between : kept-total n m x + t.low.ties * t.low.at ≡ between_total x t.low.at t.high.at n + t.high.ties * t.high.at
   unfolding kept-total kept_nat
   kept-between =
       omega (
         arith,
         under-parted (λ r. rank_nat n x r) x m (n - m) n (omega arith),
-        under-parted x x low high n ordered,
-        lowest-total x n m low dropped lowest (omega arith),
-        lowest-total x n (n - m) high kept highest (omega arith),
+        under-parted x x t.low.at t.high.at n ordered,
+        lowest-total x n m t.low lowest (omega arith),
+        lowest-total x n (n - m) t.high highest (omega arith),
       )

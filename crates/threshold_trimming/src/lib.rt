@@ -2,64 +2,78 @@
 // those that are left lie. A number at a threshold is dropped or left by its place.
 #![tactic(auto)]
 
-ghost use Rattle.std.specs.Prelude.{◌≡◌, cond, ◌+◌, ◌*◌, ◌-◌, min, ◌≤◌, ltb, eqb, length, get_or};
-ghost use Rattle.arithmetic.specs.Counting.{count};
+ghost use Rattle.std.specs.Prelude.{◌≡◌, cond, ◌+◌, ◌*◌, ◌-◌, ◌≤◌, ltb, eqb, length, get_or};
 ghost use Rattle.arithmetic.specs.Words.{two_to32};
 ghost use Rattle.arithmetic.specs.Writing.{table};
 ghost use Rattle.model.specs.Ensemble.{max_cabinets};
 ghost use Rattle.held.specs.Held.{value_at, kept_mark};
 ghost use Rattle.dropping.specs.Dropping.{dropped_sum, dropped_marks};
-ghost use Rattle.threshold_trimming.specs.Trimming.{before, is_left, left_at, between, between_total};
+ghost use Rattle.threshold_trimming.specs.Trimming.{EndOf, before, is_left, left_at, between, between_total};
 ghost use Rattle.threshold_trimming.specs.Trimming.{least_from, greatest_to};
 
 use model::TRIMMED_MIDPOINT;
-use thresholds::Thresholds;
+use thresholds::{Threshold, Thresholds};
 
-// The place behind the first `ties` numbers equal to one, or behind all where there are fewer.
-fn find_place(numbers: &[u32], at: u32, ties: u32) -> u32
+// Where numbers end: those below `at` come before it, and of those equal to it the ones whose place is before `place`.
+#[derive(Clone, Copy)]
+struct End {
+    at: u32,
+    place: u32,
+}
+
+// What lies behind the one end and before the other.
+#[derive(Clone, Copy)]
+struct Left {
+    low: End,
+    high: End,
+}
+
+// Where the numbers of a threshold end: behind the first `ties` that are equal to it, or behind all where there are
+// fewer.
+fn find_end(numbers: &[u32], threshold: Threshold) -> End
     requires { length numbers.now ≤ max_cabinets }
-    ensures passed { count (λ s. eqb (value_at numbers.now s) at) result
-        ≡ min ties (count (λ s. eqb (value_at numbers.now s) at) (length numbers.now)) }
-    ensures up_to { result ≤ length numbers.now }
+    ensures { EndOf (value_at numbers.now) (length numbers.now) threshold result }
 {
-    let mut left = ties;
-    let mut r = 0;
-    'numbers: while (r < numbers.len()) & (0 < left) {
-        left -= (numbers[r] == at) as u32;
-        r += 1;
+    let mut left = threshold.ties;
+    'numbers: for (r, number) in numbers.iter().enumerate() {
+        if left == 0 {
+            return End {
+                at: threshold.at,
+                place: r as u32,
+            };
+        }
+        left -= (*number == threshold.at) as u32;
     }
-    r as u32
+    End {
+        at: threshold.at,
+        place: numbers.len() as u32,
+    }
 }
 
-// Whether a number comes before a threshold: it is below, or equal and its place is before the end.
-fn before(number: u32, place: u32, at: u32, end: u32) -> bool
-    ensures { result ≡ before number place at end }
+// Whether a number comes before an end.
+fn before(number: u32, place: u32, end: End) -> bool
+    ensures { result ≡ before number place end }
 {
-    (number < at) | ((number == at) & (place < end))
+    (number < end.at) | ((number == end.at) & (place < end.place))
 }
 
-// Whether a number comes behind the one threshold and before the other.
-fn is_left(number: u32, place: u32, low: u32, start: u32, high: u32, end: u32) -> bool
-    ensures { result ≡ is_left number place low start high end }
+// Whether a number is left.
+fn is_left(number: u32, place: u32, left: Left) -> bool
+    ensures { result ≡ is_left number place left }
 {
-    !before(number, place, low, start) & before(number, place, high, end)
+    !before(number, place, left.low) & before(number, place, left.high)
 }
 
 // Strikes out the readings that are not left.
-fn strike(marks: &mut [u8], numbers: &[u32], low: u32, start: u32, high: u32, end: u32)
+fn strike(marks: &mut [u8], numbers: &[u32], left: Left)
     requires { (length marks.old ≤ max_cabinets) × (length numbers.now ≡ length marks.old) }
     ensures { marks.new
         ≡ table
-        (λ r. kept_mark (left_at (value_at numbers.now) low start high end r) (get_or marks.old r 0))
+        (λ r. kept_mark (left_at (value_at numbers.now) left r) (get_or marks.old r 0))
         (length marks.old) }
 {
-    let mut r = 0;
-    'readings: while r < marks.len() {
-        marks[r] = held::kept_mark(
-            is_left(numbers[r], r as u32, low, start, high, end),
-            marks[r],
-        );
-        r += 1;
+    'readings: for (r, mark) in marks.iter_mut().enumerate() {
+        *mark = held::kept_mark(is_left(numbers[r], r as u32, left), *mark);
     }
 }
 
@@ -76,28 +90,26 @@ fn sum_between(numbers: &[u32], low: u32, high: u32) -> u64
     ensures { result ≡ between_total (value_at numbers.now) low high (length numbers.now) }
 {
     let mut sum: u64 = 0;
-    let mut r = 0;
-    'numbers: while r < numbers.len() {
-        let number = numbers[r];
-        sum += dropping::part(number, between(number, low, high));
-        r += 1;
+    'numbers: for number in numbers {
+        sum += dropping::part(*number, between(*number, low, high));
     }
     sum
 }
 
 // The sum of the numbers that are left: of those from the lower threshold on and below the upper one, without those
 // dropped at the lower one, and with those kept at the upper one.
-fn sum_left(numbers: &[u32], at: Thresholds) -> u64
-    requires numbers_len_bound { (length numbers.now ≤ max_cabinets) × (at.kept ≤ max_cabinets) }
-    requires low_bound { at.dropped * at.low
-        ≤ between_total (value_at numbers.now) at.low at.high (length numbers.now) + at.kept * at.high }
+fn sum_left(numbers: &[u32], t: Thresholds) -> u64
+    requires numbers_len_bound { (length numbers.now ≤ max_cabinets) × (t.high.ties ≤ max_cabinets) }
+    requires low_bound { t.low.ties * t.low.at
+        ≤ between_total (value_at numbers.now) t.low.at t.high.at (length numbers.now)
+        + t.high.ties * t.high.at }
     ensures { result
-        ≡ between_total (value_at numbers.now) at.low at.high (length numbers.now)
-        + at.kept * at.high
-        - at.dropped * at.low }
+        ≡ between_total (value_at numbers.now) t.low.at t.high.at (length numbers.now)
+        + t.high.ties * t.high.at
+        - t.low.ties * t.low.at }
 {
-    sum_between(numbers, at.low, at.high) + (at.kept as u64) * (at.high as u64)
-        - (at.dropped as u64) * (at.low as u64)
+    sum_between(numbers, t.low.at, t.high.at) + (t.high.ties as u64) * (t.high.at as u64)
+        - (t.low.ties as u64) * (t.low.at as u64)
 }
 
 // A number that is at least low; the highest of 32 bits for any other.
@@ -122,43 +134,42 @@ fn sum_ends(numbers: &[u32], low: u32, high: u32) -> u64
 {
     let mut least = u32::MAX;
     let mut most: u32 = 0;
-    let mut r = 0;
-    'numbers: while r < numbers.len() {
-        let number = numbers[r];
-        least = summaries::lower(from_low(low, number), least);
-        most = summaries::higher(most, to_high(high, number));
-        r += 1;
+    'numbers: for number in numbers {
+        least = least.min(from_low(low, *number));
+        most = most.max(to_high(high, *number));
     }
     (least as u64) + (most as u64)
 }
 
 // The highest number that is left up to a threshold: one below it, where none equal to it is left.
-fn last_kept(high: u32, kept: u32) -> u32
-    ensures { result ≡ cond (eqb kept 0) (high - 1) high }
+fn last_kept(high: Threshold) -> u32
+    ensures { result ≡ cond (eqb high.ties 0) (high.at - 1) high.at }
 {
-    if kept == 0 {
-        if 0 < high { high - 1 } else { high }
+    if high.ties == 0 {
+        high.at.saturating_sub(1)
     } else {
-        high
+        high.at
     }
 }
 
 // Drops the m lowest and the m highest of at most 64 readings: strikes them out, and gives the sum that the rule takes
-// the mean of. Where the lists do not fit, or none is left, the sum is 0 and the marks are left as they are.
-pub fn drop_ends(marks: &mut [u8], numbers: &[u32], m: u8, rule: u8) -> u64
+// the mean of. Where the lists do not fit, or none is left, there is no sum and the marks are left as they are.
+pub fn drop_ends(marks: &mut [u8], numbers: &[u32], m: u8, rule: u8) -> Option<u64>
     ensures value { result ≡ dropped_sum rule m marks.old numbers.now }
     ensures marks_after { marks.new ≡ dropped_marks m marks.old numbers.now }
 {
-    if dropping::unfit(marks.len(), numbers.len(), m) {
-        return 0;
+    if marks.len() != numbers.len() {
+        return None;
     }
-    let at = thresholds::find_both(numbers, m);
-    let start = find_place(numbers, at.low, at.dropped);
-    let end = find_place(numbers, at.high, at.kept);
-    strike(marks, numbers, at.low, start, at.high, end);
-    if rule == TRIMMED_MIDPOINT {
-        sum_ends(numbers, at.low, last_kept(at.high, at.kept))
+    let t = thresholds::find_both(numbers, m)?;
+    let left = Left {
+        low: find_end(numbers, t.low),
+        high: find_end(numbers, t.high),
+    };
+    strike(marks, numbers, left);
+    Some(if rule == TRIMMED_MIDPOINT {
+        sum_ends(numbers, t.low.at, last_kept(t.high))
     } else {
-        sum_left(numbers, at)
-    }
+        sum_left(numbers, t)
+    })
 }

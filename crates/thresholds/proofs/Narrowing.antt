@@ -1,7 +1,7 @@
 -- The lowest and the highest number, gathered index by index, and the search for a threshold in a range that is narrowed.
 --   Bounding values low high t        no number below index t is below low, or above high
---   Narrowing values k low high below within   so many numbers are below low, at most k, and so many at most high, more
---                                     than k, or all
+--   Narrowing values k r below within   so many numbers are below the start of range r, at most k, and so many at most
+--                                     its end, more than k, or all
 -- Assumes nothing.
 use mathlib.Core.Bool.{Bool, true, false, not, cond, ◌&&◌}
 use mathlib.Core.List.{List}
@@ -22,6 +22,7 @@ use Rattle.model.specs.Ensemble.{max_cabinets}
 use Rattle.held.specs.Held.{value_at}
 use Rattle.ranks.specs.Ranks.{below_number, below_of}
 use Rattle.ranks.proofs.Seeing.{below_of_lem}
+use Rattle.thresholds.specs.declared.Range.{Range}
 use Rattle.thresholds.specs.Thresholds.{up_to_number, Taken, Bounds, Splits, misfit, max_unit, guessed}
 
 -- where all fail, none is counted
@@ -29,6 +30,11 @@ pub none-counted : (p : ℕ → Bool) (n : ℕ) → ((i : ℕ) → i < n → p i
 unfolding count
 none-counted p zero f = refl
 none-counted p (suc n) f = omega (arith, none-counted p n (initial f), ap bit (last f))
+
+-- above the start of a range, and no higher than its end
+pub record Inside (r : Range) (v : ℕ) : Type 0 where
+  pub above : r.low < v
+  pub up_to : v ≤ r.high
 
 module _ (values : List ℕ) where
   -- ---- the lowest and the highest
@@ -40,7 +46,8 @@ module _ (values : List ℕ) where
     pub low_from : (low ≡ two_to32 - 1) ⊎ Taken values low
     pub high_from : (high ≡ 0) ⊎ Taken values high
 
-  pub bound_none : Bounding (two_to32 - 1) 0 0
+module _ {values : List ℕ} where
+  pub bound_none : Bounding values (two_to32 - 1) 0 0
   bound_none =
       record {
         up_to = omega arith;
@@ -50,11 +57,11 @@ module _ (values : List ℕ) where
         high_from = inl refl;
       }
 
-  module _ (low high t : ℕ) (so_far : Bounding low high t) where
+  module _ {low high t : ℕ} (so_far : Bounding values low high t) where
     pub bound_next :
-        t < length values → (x y : ℕ) → x ≡ min (value_at values t) low → y ≡ max high (value_at values t)
-        → Bounding x y (t + 1)
-    bound_next room x y d e =
+        {x y : ℕ} → t < length values → x ≡ min low (value_at values t) → y ≡ max high (value_at values t)
+        → Bounding values x y (t + 1)
+    bound_next {x} {y} room d e =
         record {
           up_to = omega arith;
           least =
@@ -77,7 +84,9 @@ module _ (values : List ℕ) where
         kept_high : leb high (value_at values t) ≡ false → y ≡ high
         kept_high p = omega (arith, e, leb-false high (value_at values t) p)
 
-    pub bound_all : value_at values 0 < two_to32 → 0 < length values → length values ≤ t → Bounds values low high
+    pub bound_all :
+        value_at values 0 < two_to32 → 0 < length values → length values ≤ t
+        → Bounds values (record { low = low; high = high })
     bound_all small some ended =
         record {
           least = λ j l. so_far.least j (omega arith);
@@ -88,8 +97,9 @@ module _ (values : List ℕ) where
               ⊎_elim (λ e. (0, some, omega (arith, so_far.greatest 0 (omega arith)))) (λ taken. taken) so_far.high_from;
         }
 
-  pub bounds-ordered : (low high : ℕ) → Bounds values low high → low ≤ high
-  bounds-ordered low high b =
+module _ (values : List ℕ) where
+  pub bounds-ordered : (r : Range) → Bounds values r → r.low ≤ r.high
+  bounds-ordered r b =
       let taken = b.low_taken in omega (arith, taken.2, b.greatest taken.0 taken.1)
 
   -- ---- the threshold
@@ -104,81 +114,83 @@ module _ (values : List ℕ) where
       (λ e. lt-ltb x v (omega (arith, leb-true x (v - 1) e)))
       (λ e. le-leb x (v - 1) (omega (arith, ltb-true x v e))))
 
-  pub record Narrowing (k low high below within : ℕ) : Type 0 where
-    pub ordered : low ≤ high
-    pub counted : below ≡ below_number values low
+  pub record Narrowing (k : ℕ) (r : Range) (below within : ℕ) : Type 0 where
+    pub ordered : r.low ≤ r.high
+    pub counted : below ≡ below_number values r.low
     pub most : below ≤ k
-    pub reached : within ≡ up_to_number values high
+    pub reached : within ≡ up_to_number values r.high
     pub top : min (k + 1) (length values) ≤ within
 
-  pub narrowing_start : (k low high : ℕ) → Bounds values low high → Narrowing k low high 0 (length values)
-  narrowing_start k low high b =
+  pub narrowing_start : (k : ℕ) (r : Range) → Bounds values r → Narrowing k r 0 (length values)
+  narrowing_start k r b =
       let n = length values in
       let none =
-      none-counted (λ t. ltb (value_at values t) low) n (λ t l. le-ltb (value_at values t) low (b.least t l)) in
+      none-counted (λ t. ltb (value_at values t) r.low) n (λ t l. le-ltb (value_at values t) r.low (b.least t l)) in
       let no_more =
-      none-counted (λ t. not (leb (value_at values t) high)) n
-      (λ t l. ap not (le-leb (value_at values t) high (b.greatest t l))) in
-      let all = count-not (λ t. leb (value_at values t) high) n in
+      none-counted (λ t. not (leb (value_at values t) r.high)) n
+      (λ t l. ap not (le-leb (value_at values t) r.high (b.greatest t l))) in
+      let all = count-not (λ t. leb (value_at values t) r.high) n in
       record {
-        ordered = bounds-ordered low high b;
+        ordered = bounds-ordered r b;
         counted = omega arith;
         most = omega arith;
         reached = omega arith;
         top = omega arith;
       }
 
-  module _ (k low high below within : ℕ) (so_far : Narrowing k low high below within) where
-    -- no more are within than there are
-    pub within-most : within ≤ length values
-    within-most = omega (arith, so_far.reached, count-le (λ t. leb (value_at values t) high) (length values))
+module _ {values : List ℕ} {k : ℕ} {r : Range} {below within : ℕ} (so_far : Narrowing values k r below within) where
+  -- no more are within than there are
+  pub within-most : within ≤ length values
+  within-most = omega (arith, so_far.reached, count-le (λ t. leb (value_at values t) r.high) (length values))
 
-    pub within-least : k ≤ length values → k ≤ within
-    within-least l = omega (arith, so_far.top)
+  pub within-least : k ≤ length values → k ≤ within
+  within-least l = omega (arith, so_far.top)
 
-    module _ (few : length values ≤ max_cabinets) (mid number : ℕ) (above : low < mid) (up-to : mid ≤ high)
-        (counts : number ≡ below_of values mid) where
-      -- not too many are below the number
-      pub narrowing_up : number ≤ k → Narrowing k mid high number within
-      narrowing_up l =
-          record {
-            ordered = up-to;
-            counted = counts ∙ below_of_lem values mid few;
-            most = l;
-            reached = so_far.reached;
-            top = so_far.top;
-          }
-
-      -- too many are
-      pub narrowing_down : k < number → Narrowing k low (mid - 1) below number
-      narrowing_down l =
-          record {
-            ordered = omega arith;
-            counted = so_far.counted;
-            most = so_far.most;
-            reached = counts ∙ below_of_lem values mid few ∙ sym (up-to-before mid (omega arith));
-            top = omega arith;
-          }
-
-    -- the range is one number, or as many are below it as are asked for
-    pub narrowing_done : (ltb low high && not (eqb below k)) ≡ false → Splits values k low (k - below)
-    narrowing_done ended =
+  module _ (few : length values ≤ max_cabinets) {mid number : ℕ} (inside : Inside r mid)
+      (counts : number ≡ below_of values mid) where
+    -- not too many are below the number
+    pub narrowing_up : number ≤ k → Narrowing values k (record { low = mid; high = r.high }) number within
+    narrowing_up l =
         record {
-          exact = omega (arith, so_far.counted, so_far.most);
-          tied = λ some. rw (met some) (omega (arith, so_far.top, so_far.reached));
+          ordered = inside.up_to;
+          counted = counts ∙ below_of_lem values mid few;
+          most = l;
+          reached = so_far.reached;
+          top = so_far.top;
         }
-      where
-        closed : ltb low high ≡ true → k ≤ below
-        closed t =
-            ⊎_elim (λ e. omega (arith, eqb-true below k e))
-            (λ f. clash (and_intro t (ap not f)) ended)
-            (both_ways (eqb below k))
 
-        met : 0 < k - below → low ≡ high
-        met some =
-            ⊎_elim (λ t. absurd (omega (arith, closed t)))
-            (λ f. omega (arith, ltb-false low high f, so_far.ordered))
-            (both_ways (ltb low high))
+    -- too many are
+    pub narrowing_down : k < number → Narrowing values k (record { low = r.low; high = mid - 1 }) below number
+    narrowing_down l =
+        let above = inside.above in
+        record {
+          ordered = omega arith;
+          counted = so_far.counted;
+          most = so_far.most;
+          reached = counts ∙ below_of_lem values mid few ∙ sym (up-to-before values mid (omega arith));
+          top = omega arith;
+        }
+
+  -- the range is one number, or as many are below it as are asked for
+  pub narrowing_done :
+      (ltb r.low r.high && not (eqb below k)) ≡ false → Splits values k (record { at = r.low; ties = k - below })
+  narrowing_done ended =
+      record {
+        exact = omega (arith, so_far.counted, so_far.most);
+        tied = λ some. rw (met some) (omega (arith, so_far.top, so_far.reached));
+      }
+    where
+      closed : ltb r.low r.high ≡ true → k ≤ below
+      closed t =
+          ⊎_elim (λ e. omega (arith, eqb-true below k e))
+          (λ f. clash (and_intro t (ap not f)) ended)
+          (both_ways (eqb below k))
+
+      met : 0 < k - below → r.low ≡ r.high
+      met some =
+          ⊎_elim (λ t. absurd (omega (arith, closed t)))
+          (λ f. omega (arith, ltb-false r.low r.high f, so_far.ordered))
+          (both_ways (ltb r.low r.high))
 
 -- ---- where to look next
 
@@ -189,33 +201,21 @@ step_small unit left right a b =
     let fewer : min left right ≤ 32 = omega arith in mul-le-mul a fewer
 
 -- it is above the start of the range, and no higher than its end
-pub guessed-within :
-    (low high unit left right : ℕ) → low < high
-    → (low < guessed low high unit left right) × (guessed low high unit left right ≤ high)
+pub guessed-within : (r : Range) (unit left right : ℕ) → r.low < r.high → Inside r (guessed r unit left right)
 unfolding guessed
-guessed-within low high unit left right wide = go (leb left right)
+guessed-within r unit left right wide = go (leb left right)
   where
     go :
         (b : Bool)
-        → (low
-        < cond b (low + min (unit * min left right + 1) (high - low - (high - low) / 2))
-        (high - min (unit * min left right) ((high - low) / 2)))
-        × (cond b (low + min (unit * min left right + 1) (high - low - (high - low) / 2))
-        (high - min (unit * min left right) ((high - low) / 2))
-        ≤ high)
-    go true = (omega arith, omega arith)
-    go false = (omega arith, omega arith)
+        → Inside r
+        (cond b (r.low + min (unit * min left right + 1) (r.high - r.low - (r.high - r.low) / 2))
+        (r.high - min (unit * min left right) ((r.high - r.low) / 2)))
+    go true = record { above = omega arith; up_to = omega arith }
+    go false = record { above = omega arith; up_to = omega arith }
 
--- where the range is not one number yet, what is looked at is above its start, and no higher than its end
-pub looked-within :
-    (low high k below unit left right mid : ℕ)
-    → (ltb low high && not (eqb below k)) ≡ true
-    → mid ≡ guessed low high unit left right
-    → (low < high) × (low < mid) × (mid ≤ high)
-looked-within low high k below unit left right mid test e =
-    let wide = ltb-true low high (and_left (ltb low high) (not (eqb below k)) test) in
-    let within = guessed-within low high unit left right wide in
-    (wide, omega (arith, within.0), omega (arith, within.1))
+-- the range is not one number yet
+pub still-wide : (r : Range) (k below : ℕ) → (ltb r.low r.high && not (eqb below k)) ≡ true → r.low < r.high
+still-wide r k below test = ltb-true r.low r.high (and_left (ltb r.low r.high) (not (eqb below k)) test)
 
 -- ---- lists that fit
 

@@ -5,6 +5,7 @@ use mathlib.Core.Bool.{Bool, true, false, cond}
 use mathlib.Core.List.{List}
 use mathlib.Core.Path.{◌≡◌, refl, sym, ap, ap₂, ◌∙◌}
 use Prim.Native.Nat.{ℕ, ◌*◌, ◌-◌, ◌≤◌, ◌<◌}
+use Rattle.std.specs.Prelude.{Option, Some, IsSome}
 use native.Mathlib.Omega.{arith}
 use borrow.Author.Tests.{lt-leb}
 use lib.Dec.{eqb}
@@ -31,6 +32,9 @@ use Rattle.dropping.proofs.Dropped.{sum-some}
 use Rattle.dropping.proofs.Dropped as Dropped
 use Rattle.trimming.specs.Values.{trimmed_in, trimmed_of, mark_at, trimmed_marks, number_in, summed_by}
 
+some-same : {a b : ℕ} → Some a ≡ Some b → a ≡ b
+some-same e = cc
+
 -- ---- readings that two lists hold
 
 module _ (marks values : List ℕ) where
@@ -51,96 +55,114 @@ module _ (marks values : List ℕ) where
       (trimmed-down two_to31 (length marks) (readings_in marks values) (number_in marks values) (λ r _. number-ticks r) m left
       even_31 rule)
 
-  module _ (m : ℕ) (few : length marks ≤ max_cabinets) (rest : 2 * m < length marks) (numbers₀ numbers : List ℕ)
-      (even : length numbers₀ ≡ length marks)
-      (filled : numbers ≡ overwrite (table (number_in marks values) (length marks)) numbers₀) where
-    numbers-are : numbers ≡ table (number_in marks values) (length marks)
-    numbers-are =
-        filled
-        ∙ overwrite-whole (table (number_in marks values) (length marks)) numbers₀
-        (omega (arith, length-table (number_in marks values) (length marks)))
+-- at most 64 readings, of which some are left, and their numbers
+pub record Numbered (m : ℕ) (marks values numbers : List ℕ) : Type 0 where
+  pub few : length marks ≤ max_cabinets
+  pub rest : 2 * m < length marks
+  pub are : numbers ≡ table (number_in marks values) (length marks)
 
-    pub numbers-long : length numbers ≡ length marks
-    numbers-long = ap length numbers-are ∙ length-table (number_in marks values) (length marks)
+pub numbered :
+    (m : ℕ) (marks values numbers₀ numbers : List ℕ) → length marks ≤ max_cabinets → 2 * m < length marks
+    → length numbers₀ ≡ length marks → numbers ≡ overwrite (table (number_in marks values) (length marks)) numbers₀
+    → Numbered m marks values numbers
+numbered m marks values numbers₀ numbers few rest even filled =
+    record {
+      few = few;
+      rest = rest;
+      are =
+          filled
+          ∙ overwrite-whole (table (number_in marks values) (length marks)) numbers₀
+          (omega (arith, length-table (number_in marks values) (length marks)));
+    }
 
-    number_at : (r : ℕ) → r < length marks → value_at numbers r ≡ number_in marks values r
-    number_at r l =
-        ap (λ (xs : List ℕ). get_or xs r 0) numbers-are ∙ get_d_table (number_in marks values) (length marks) r 0 l
+module _ {m : ℕ} {marks values numbers : List ℕ} (k : Numbered m marks values numbers) where
+  numbers-long : length numbers ≡ length marks
+  numbers-long = ap length k.are ∙ length-table (number_in marks values) (length marks)
 
-    moved : (r : ℕ) → r < length marks → ticks (readings_in marks values r) ≡ down two_to31 (value_at numbers r)
-    moved r l = number-ticks r ∙ ap (down two_to31) (sym (number_at r l))
+  number_at : (r : ℕ) → r < length marks → value_at numbers r ≡ number_in marks values r
+  number_at r l =
+      ap (λ (xs : List ℕ). get_or xs r 0) k.are ∙ get_d_table (number_in marks values) (length marks) r 0 l
 
-    fit : unfit_for (length marks) (length numbers) m ≡ false
-    fit = or_false (fit_intro (length marks) (length numbers) few numbers-long) (lt-leb (length marks) (2 * m) rest)
+  moved : (r : ℕ) → r < length marks → ticks (readings_in marks values r) ≡ down two_to31 (value_at numbers r)
+  moved r l = number-ticks marks values r ∙ ap (down two_to31) (sym (number_at r l))
 
-    pub value_is :
-        (rule v sum : ℕ) → sum ≡ dropped_sum rule m marks numbers → v ≡ mean_nat (summed_by rule (length numbers - 2 * m)) sum
-        → v ≡ up two_to31 (trimmed_in rule m marks values).value
-    unfolding trimmed_nat
-    value_is rule v sum s e =
-        e
-        ∙ ap₂ (λ (k t : ℕ). mean_nat (summed_by rule (k - 2 * m)) t) numbers-long
-        (s ∙ sym (sum-some m marks numbers fit rule))
-        ∙ mean-by (eqb rule trimmed_midpoint) refl
-        ∙ sym (up-down two_to31 (trimmed_nat rule (length marks) m (value_at numbers)))
-        ∙ ap (up two_to31)
-        (sym (trimmed-down two_to31 (length marks) (readings_in marks values) (value_at numbers) moved m rest even_31 rule))
-      where
-        mean-by :
-            (b : Bool) → eqb rule trimmed_midpoint ≡ b
-            → mean_nat (summed_by rule (length marks - 2 * m)) (trimmed_sum rule (length marks) m (value_at numbers))
-            ≡ trimmed_nat rule (length marks) m (value_at numbers)
-        mean-by true q = rw q
-        mean-by false q = rw q
+  fit : unfit_for (length marks) (length numbers) m ≡ false
+  fit = or_false (fit_intro (length marks) (length numbers) k.few numbers-long) (lt-leb (length marks) (2 * m) k.rest)
 
-    -- a number is a value of 32 bits, or 0 ticks
-    number-small :
-        ((i : ℕ) → value_at values i < two_to32) → (r : ℕ) → r < length marks → value_at numbers r < two_to32
-    number-small small r l = rw (number_at r l) (go (present_in marks r))
-      where
-        go : (b : Bool) → cond b (value_at values r) two_to31 < two_to32
-        go true = small r
-        go false = omega arith
+  -- the lists fit, so there is a sum
+  summed : (rule : ℕ) → Some (trimmed_sum rule (length marks) m (value_at numbers)) ≡ dropped_sum rule m marks numbers
+  summed rule = sum-some m marks numbers fit rule
 
-    -- the sum is of so many numbers of 32 bits
-    pub sum-small :
-        ((i : ℕ) → value_at values i < two_to32) → (rule sum : ℕ) → sum ≡ dropped_sum rule m marks numbers
-        → sum ≤ summed_by rule (length numbers - 2 * m) * (two_to32 - 1)
-    sum-small small rule sum s =
-        rw (s ∙ sym (sum-some m marks numbers fit rule), numbers-long) (by (eqb rule trimmed_midpoint) refl)
-      where
-        each : (r : ℕ) → r < length marks → kept_nat (length marks) m (value_at numbers) r ≡ true → Between 0 (two_to32 - 1) (value_at numbers r)
-        each r l _ = record { low = omega arith; high = omega (arith, number-small small r l) }
+  pub is-summed : (rule : ℕ) {sum : Option ℕ} → sum ≡ dropped_sum rule m marks numbers → IsSome sum
+  is-summed rule e = rw (e ∙ sym (summed rule)) refl
 
-        ranked-small : (h : ℕ) → m ≤ h → h < length marks - m → ranked_nat (length marks) (value_at numbers) h ≤ two_to32 - 1
-        ranked-small h low high = (ranked-within (length marks) m rest (value_at numbers) 0 (two_to32 - 1) each h low high).high
+  pub value_is :
+      (rule : ℕ) {v sum : ℕ} → Some sum ≡ dropped_sum rule m marks numbers → v ≡ mean_nat (summed_by rule (length marks - 2 * m)) sum
+      → v ≡ up two_to31 (trimmed_in rule m marks values).value
+  unfolding trimmed_nat
+  value_is rule s e =
+      e
+      ∙ ap (mean_nat (summed_by rule (length marks - 2 * m))) (some-same (s ∙ sym (summed rule)))
+      ∙ mean-by (eqb rule trimmed_midpoint) refl
+      ∙ sym (up-down two_to31 (trimmed_nat rule (length marks) m (value_at numbers)))
+      ∙ ap (up two_to31)
+      (sym (trimmed-down two_to31 (length marks) (readings_in marks values) (value_at numbers) moved m k.rest even_31 rule))
+    where
+      mean-by :
+          (b : Bool) → eqb rule trimmed_midpoint ≡ b
+          → mean_nat (summed_by rule (length marks - 2 * m)) (trimmed_sum rule (length marks) m (value_at numbers))
+          ≡ trimmed_nat rule (length marks) m (value_at numbers)
+      mean-by true q = rw q
+      mean-by false q = rw q
 
-        by :
-            (b : Bool) → eqb rule trimmed_midpoint ≡ b
-            → trimmed_sum rule (length marks) m (value_at numbers)
-            ≤ summed_by rule (length marks - 2 * m) * (two_to32 - 1)
-        by true q =
-            rw q
-            (omega (
-              arith,
-              ranked-small m (omega arith) (omega arith),
-              ranked-small (length marks - m - 1) (omega arith) (omega arith),
-            ))
-        by false q = rw q (kept-total-within (length marks) m rest (value_at numbers) 0 (two_to32 - 1) each).high
+  -- a number is a value of 32 bits, or 0 ticks
+  number-small :
+      ((i : ℕ) → value_at values i < two_to32) → (r : ℕ) → r < length marks → value_at numbers r < two_to32
+  number-small small r l = rw (number_at r l) (go (present_in marks r))
+    where
+      go : (b : Bool) → cond b (value_at values r) two_to31 < two_to32
+      go true = small r
+      go false = omega arith
 
-    -- the mark of a reading, by whether it is kept
-    mark_is : (r : ℕ) → r < length marks → dropped_mark m marks numbers r ≡ mark_at m marks values r
-    mark_is r l =
-        ap (λ (b : Bool). kept_mark b (get_or marks r 0))
-        (sym (kept-down two_to31 (length marks) (readings_in marks values) (value_at numbers) moved m r l))
-        ∙ mark-kept (is_kept (length marks) m (readings_in marks values) r) (get_or marks r 0) (value_at values r)
+  -- the sum is of so many numbers of 32 bits
+  pub sum-small :
+      ((i : ℕ) → value_at values i < two_to32) → (rule : ℕ) {sum : ℕ} → Some sum ≡ dropped_sum rule m marks numbers
+      → sum ≤ summed_by rule (length marks - 2 * m) * (two_to32 - 1)
+  sum-small small rule s =
+      rw (some-same (s ∙ sym (summed rule))) (by (eqb rule trimmed_midpoint) refl)
+    where
+      each : (r : ℕ) → r < length marks → kept_nat (length marks) m (value_at numbers) r ≡ true → Between 0 (two_to32 - 1) (value_at numbers r)
+      each r l _ = record { low = omega arith; high = omega (arith, number-small small r l) }
 
-    pub marks-are :
-        (left : List ℕ) → left ≡ dropped_marks m marks numbers → left ≡ table (mark_at m marks values) (length marks)
-    marks-are left e =
-        e
-        ∙ sym (Dropped.marks-some m marks numbers fit)
-        ∙ table_ext (dropped_mark m marks numbers) (mark_at m marks values) (length marks) mark_is
+      ranked-small : (h : ℕ) → m ≤ h → h < length marks - m → ranked_nat (length marks) (value_at numbers) h ≤ two_to32 - 1
+      ranked-small h low high = (ranked-within (length marks) m k.rest (value_at numbers) 0 (two_to32 - 1) each h low high).high
+
+      by :
+          (b : Bool) → eqb rule trimmed_midpoint ≡ b
+          → trimmed_sum rule (length marks) m (value_at numbers)
+          ≤ summed_by rule (length marks - 2 * m) * (two_to32 - 1)
+      by true q =
+          rw q
+          (omega (
+            arith,
+            ranked-small m (omega arith) (omega arith),
+            ranked-small (length marks - m - 1) (omega arith) (omega arith),
+          ))
+      by false q = rw q (kept-total-within (length marks) m k.rest (value_at numbers) 0 (two_to32 - 1) each).high
+
+  -- the mark of a reading, by whether it is kept
+  mark_is : (r : ℕ) → r < length marks → dropped_mark m marks numbers r ≡ mark_at m marks values r
+  mark_is r l =
+      ap (λ (b : Bool). kept_mark b (get_or marks r 0))
+      (sym (kept-down two_to31 (length marks) (readings_in marks values) (value_at numbers) moved m r l))
+      ∙ mark-kept (is_kept (length marks) m (readings_in marks values) r) (get_or marks r 0) (value_at values r)
+
+  pub marks-are :
+      (left : List ℕ) → left ≡ dropped_marks m marks numbers → left ≡ table (mark_at m marks values) (length marks)
+  marks-are left e =
+      e
+      ∙ sym (Dropped.marks-some m marks numbers fit)
+      ∙ table_ext (dropped_mark m marks numbers) (mark_at m marks values) (length marks) mark_is
 
 -- ---- what `trim` answers, by whether the lists fit
 

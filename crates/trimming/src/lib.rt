@@ -37,10 +37,8 @@ fn fill(marks: &[u8], values: &[u32], numbers: &mut [u32])
         ≡ overwrite (table (number_in marks.now values.now) (length marks.now))
         numbers.old }
 {
-    let mut r = 0;
-    'readings: while r < marks.len() {
-        numbers[r] = number(marks[r], values[r]);
-        r += 1;
+    'readings: for (r, mark) in marks.iter().enumerate() {
+        numbers[r] = number(*mark, values[r]);
     }
 }
 
@@ -70,7 +68,7 @@ fn settle_value(rule: u8, sum: u64, left: u64) -> u32
 
 // Drops the m lowest and the m highest readings: few by their ranks, more by the thresholds between which those that
 // are left lie. Both ways leave the same.
-fn drop_ends(marks: &mut [u8], numbers: &[u32], m: u8, rule: u8) -> u64
+fn drop_ends(marks: &mut [u8], numbers: &[u32], m: u8, rule: u8) -> Option<u64>
     ensures value { result ≡ dropped_sum rule m marks.old numbers.now }
     ensures marks_after { marks.new ≡ dropped_marks m marks.old numbers.now }
 {
@@ -81,36 +79,22 @@ fn drop_ends(marks: &mut [u8], numbers: &[u32], m: u8, rule: u8) -> u64
     }
 }
 
-// Drops the m lowest and the m highest of readings, with lent places for their numbers: the new value, moved up by
-// 2^31, and the marks of the answer sheet.
-fn trim_in(marks: &mut [u8], values: &[u32], m: u8, rule: u8, numbers: &mut [u32]) -> u32
-    requires marks_len_bound { (length marks.old ≤ max_cabinets) × (2 * m < length marks.old) }
-    requires values_len { (length values.now ≡ length marks.old) × (length numbers.old ≡ length marks.old) }
-    ensures value { result ≡ up two_to31 (trimmed_in rule m marks.old values.now).value }
-    ensures marks_after { marks.new
-        ≡ table (mark_at m marks.old values.now) (length marks.old) }
-{
-    fill(&*marks, values, &mut *numbers);
-    let left = (numbers.len() - 2 * (m as usize)) as u64;
-    let sum = drop_ends(marks, &*numbers, m, rule);
-    settle_value(rule, sum, left)
-}
-
-// The same with places of its own, as many as few readings take or as all.
-fn trim_fitting(marks: &mut [u8], values: &[u32], m: u8, rule: u8) -> u32
-    requires marks_len_bound { (length marks.old ≤ max_cabinets) × (2 * m < length marks.old) }
+// Drops the m lowest and the m highest of at most N readings: the new value, moved up by 2^31, and the marks of the
+// answer sheet.
+fn trim_fitting<const N: usize>(marks: &mut [u8], values: &[u32], m: u8, rule: u8) -> u32
+    requires room { N ≤ max_cabinets }
+    requires marks_len_bound { (length marks.old ≤ N) × (2 * m < length marks.old) }
     requires values_len { length values.now ≡ length marks.old }
     ensures value { result ≡ up two_to31 (trimmed_in rule m marks.old values.now).value }
     ensures marks_after { marks.new
         ≡ table (mark_at m marks.old values.now) (length marks.old) }
 {
     let n = marks.len();
-    if n <= FEW {
-        let mut few = [0u32; 32];
-        return trim_in(marks, values, m, rule, &mut few[..n]);
-    }
-    let mut all = [0u32; 64];
-    trim_in(marks, values, m, rule, &mut all[..n])
+    let mut places = [0u32; N];
+    let numbers = &mut places[..n];
+    fill(&*marks, values, &mut *numbers);
+    let sum = drop_ends(marks, &*numbers, m, rule).unwrap();
+    settle_value(rule, sum, (n - 2 * (m as usize)) as u64)
 }
 
 // The round of at most 64 readings by rule 2, or else by rule 3: the marks say which readings are kept. Where the lists
@@ -128,7 +112,11 @@ pub fn trim(marks: &mut [u8], values: &[u32], m: u8, rule: u8) -> Estimated
             value: 0,
         };
     }
-    let value = trim_fitting(&mut *marks, values, m, rule);
+    let value = if n <= FEW {
+        trim_fitting::<FEW>(&mut *marks, values, m, rule)
+    } else {
+        trim_fitting::<64>(&mut *marks, values, m, rule)
+    };
     Estimated {
         count: (n - 2 * (m as usize)) as u32,
         estimate: value,

@@ -8,8 +8,9 @@ use lib.IntN.{ℤ}
 use Rattle.arithmetic.specs.Writing.{table}
 use Rattle.model.specs.RoundSheet.{word}
 use Rattle.model.specs.Listing.{signed_decimal}
-use Rattle.fields.specs.Putting.{Puts}
-use Rattle.fields.proofs.Putting.{puts_then}
+use Rattle.fields.specs.declared.Writer.{Writer}
+use Rattle.fields.specs.Writing.{Writes}
+use Rattle.fields.proofs.Writing.{writes_then}
 use Rattle.value_lines.specs.Values.{value_at}
 use Rattle.value_fields.specs.Spaced.{spaced, spaced_values}
 
@@ -33,8 +34,8 @@ module _ (value : ℕ → ℤ) where
 -- one value more, of what the bytes say
 pub value-put :
     (values : List ℕ) (p bits : ℕ) → bits ≡ word values (4 * p)
-    → {old text new : List ℕ} {at next end : ℕ} → Puts old at (spaced_values (value_at values) p) text next
-    → Puts text next (32 ∷ signed_decimal (mir.Val.to_z mir.Syntax.w32 bits)) new end
-    → Puts old at (spaced_values (value_at values) (p + 1)) new end
+    → {old mid new : Writer} → Writes old (spaced_values (value_at values) p) mid
+    → Writes mid (32 ∷ signed_decimal (mir.Val.to_z mir.Syntax.w32 bits)) new
+    → Writes old (spaced_values (value_at values) (p + 1)) new
 value-put values p bits e before here =
-    rw (add-one p, values-next (value_at values) p) (puts_then before (rw e at here))
+    rw (add-one p, values-next (value_at values) p) (writes_then before (rw e at here))

@@ -9,8 +9,9 @@ use Rattle.model.specs.RoundSheet.{byte, word}
 use Rattle.model.specs.Listing.{decimal, signed_decimal, line}
 use Rattle.trace.specs.Trace.{trace_header_size, role_at}
 use Rattle.trace.specs.ReplayText.{value_lines}
-use Rattle.fields.specs.Putting.{Puts}
-use Rattle.fields.proofs.Putting.{puts_then}
+use Rattle.fields.specs.declared.Writer.{Writer}
+use Rattle.fields.specs.Writing.{Writes}
+use Rattle.fields.proofs.Writing.{writes_then}
 use Rattle.lines.specs.Lines.{cabinet_line}
 use Rattle.value_lines.specs.Values.{value_at}
 
@@ -30,8 +31,8 @@ module _ (role : ℕ → ℕ) (value : ℕ → ℤ) where
 module _ (s values : List ℕ) (p role value : ℕ) (r : role ≡ byte s (trace_header_size + p))
     (v : value ≡ word values (4 * p)) where
   pub value-put :
-      {old text new : List ℕ} {at next end : ℕ} → Puts old at (value_lines (role_at s) (value_at values) p) text next
-      → Puts text next (cabinet_line p role value) new end
-      → Puts old at (value_lines (role_at s) (value_at values) (p + 1)) new end
+      {old mid new : Writer} → Writes old (value_lines (role_at s) (value_at values) p) mid
+      → Writes mid (cabinet_line p role value) new
+      → Writes old (value_lines (role_at s) (value_at values) (p + 1)) new
   value-put before here =
-      rw (values-more (role_at s) (value_at values) p) (puts_then before (rw (r, v) at here))
+      rw (values-more (role_at s) (value_at values) p) (writes_then before (rw (r, v) at here))

@@ -1,9 +1,8 @@
--- Each reading is tested by the start that accepted an earlier one, or by the start that is found.
-use Rattle.std.proofs.Common.{ltb, length, arith}
+-- Each present reading is tested by the start that is found.
+use Rattle.std.proofs.Common.{is_some, get_or, sym, arith, ne_eqb}
 use Rattle.arithmetic.proofs.Counting.{bit-le-one}
-use Rattle.acceptance.proofs.Spans.{joined-accepted}
-use Rattle.acceptance.proofs.Testing.{test-none, test-joined, test-one, test-small, all-counted}
-use Rattle.acceptance.proofs.accept_each.Goals.{then-joins, else-joins}
+use Rattle.acceptance.proofs.Testing.{test-none, test-found, test-not, test-missing, test-small, all-counted}
+use Rattle.acceptance.proofs.accept_each.Goals.{then-marks-r-eq-PRESENT+then-is_some, then-marks-r-eq-PRESENT+else-is_some, else-marks-r-eq-PRESENT}
 use Rattle.acceptance.proofs.accept_each.Goals as goal
 
 pub readings-init : goal.readings-init
@@ -19,18 +18,8 @@ overflow_add-count c =
     let l = c.readings in
     omega (
       arith,
-      test-small a.span a.need a.marks.now a.values.now a.accepted.now l.known l.accepted l.count l.earlier l.r
-          l.invariant,
-    )
-
-pub overflow_add-count-else-joins : goal.overflow_add-count-else-joins
-overflow_add-count-else-joins c =
-    let a = c.args in
-    let l = c.readings in
-    omega (
-      arith,
       c.passes-count.ensures,
-      bit-le-one (ltb c.find_start-start.result (length a.marks.now)),
+      bit-le-one (is_some c.find_start-start.result),
       test-small a.span a.need a.marks.now a.values.now a.accepted.now l.known l.accepted l.count l.earlier l.r
           l.invariant,
     )
@@ -40,37 +29,42 @@ readings-preserved c =
     let a = c.args in
     let l = c.readings in
     let below = c.readings-test.true in
-    elim c.if-joins.branch [
-      | then-joins w ↦
+    elim c.if-marks-r-eq-PRESENT.branch [
+      | then-marks-r-eq-PRESENT+then-is_some w ↦
+          let f = w.find_start-start in
           rw (w.known-is, w.accepted-is, w.count-is, w.earlier-is)
-          (test-joined a.span a.need a.marks.now a.values.now a.accepted.now l.known l.accepted
-          l.count
-          l.earlier
-          l.r
+          (test-found a.span a.need a.marks.now a.values.now a.accepted.now l.known l.accepted l.count l.earlier l.r
           l.invariant
           below
-          (joined-accepted a.span a.need a.marks.now a.values.now l.earlier l.r l.invariant.alike.0
-          l.invariant.start
-          c.joins.ensures
-          w.if-joins.true))
-      | else-joins w ↦
-          rw (w.known-is, w.accepted-is, w.count-is, w.earlier-is)
-          (test-one a.span a.need a.marks.now a.values.now a.accepted.now l.known l.accepted
-          l.count
-          l.earlier
-          l.r
-          l.invariant
-          below
-          w.find_start-start.new.known
-          w.find_start-start.auto.known
-          w.find_start-start.ensures.remembered_after
-          w.find_start-start.result
-          w.find_start-start.ensures.accepted
-          w.find_start-start.ensures.holds
-          w.later-earlier.result
-          w.later-earlier.ensures
+          f.new.known
+          f.auto.known
+          f.ensures.remembered_after
+          f.result
+          f.ensures.accepted
           w.passes-count.result
-          w.passes-count.ensures)
+          w.passes-count.ensures
+          (sym w.if-is_some.ensures)
+          f.ensures.holds)
+      | then-marks-r-eq-PRESENT+else-is_some w ↦
+          let f = w.find_start-start in
+          rw (w.known-is, w.accepted-is, w.count-is, w.earlier-is)
+          (test-not a.span a.need a.marks.now a.values.now a.accepted.now l.known l.accepted l.count l.earlier l.r
+          l.invariant
+          below
+          f.new.known
+          f.auto.known
+          f.ensures.remembered_after
+          f.result
+          f.ensures.accepted
+          w.passes-count.result
+          w.passes-count.ensures
+          (sym w.if-is_some.ensures))
+      | else-marks-r-eq-PRESENT w ↦
+          rw (w.known-is, w.accepted-is, w.count-is, w.earlier-is)
+          (test-missing a.span a.need a.marks.now a.values.now a.accepted.now l.known l.accepted l.count l.earlier l.r
+          l.invariant
+          below
+          (ne_eqb (get_or a.marks.now l.r 0) 1 w.if-marks-r-eq-PRESENT.false))
     ]
 
 pub returns-clause-value : goal.returns-clause-value

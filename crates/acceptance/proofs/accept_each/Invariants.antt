@@ -1,10 +1,6 @@
 -- The readings passed are tested and counted, and the memory is sound; the measure is the readings left.
-use Rattle.std.proofs.Common.{◌-◌, length}
 use Rattle.acceptance.proofs.Testing.{Testing}
 use Rattle.acceptance.proofs.accept_each.Given as goal
 
 abbrev pub invariant-readings : goal.invariant-readings
 invariant-readings l = Testing l.span l.need l.marks l.values l.initial.accepted l.known l.accepted l.count l.earlier l.r
-
-abbrev pub decreases-readings : goal.decreases-readings
-decreases-readings l = length l.marks - l.r

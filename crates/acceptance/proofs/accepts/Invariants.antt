@@ -1,17 +1,15 @@
 -- Over starts: those tried do not admit the value, and the memory is sound. Over readings: the count is that of the
--- readings passed, and is short so far. The measures are the starts and the readings left.
-use Rattle.std.proofs.Common.{◌-◌, length}
+-- readings passed, and is short so far. Nothing is found yet in either. The measure is the readings left.
+use Rattle.std.proofs.Common.{◌≡◌, ◌-◌, length}
+use Rattle.std.specs.Prelude.{None}
 use Rattle.acceptance.proofs.Spans.{Tried, Counted}
 use Rattle.acceptance.proofs.accepts.Given as goal
 
 abbrev pub invariant-readings : goal.invariant-readings
-invariant-readings l = Counted l.span l.need l.marks l.values l.s l.count l.t
+invariant-readings l = Counted l.span l.need l.marks l.values l.s l.count l.t × (l.found ≡ None)
 
 abbrev pub decreases-readings : goal.decreases-readings
 decreases-readings l = length l.marks - l.t
 
 abbrev pub invariant-starts : goal.invariant-starts
-invariant-starts l = Tried l.span l.need l.marks l.values l.value l.known l.s
-
-abbrev pub decreases-starts : goal.decreases-starts
-decreases-starts l = length l.marks - l.s
+invariant-starts l = Tried l.span l.need l.marks l.values l.value l.known l.s × (l.found ≡ None)

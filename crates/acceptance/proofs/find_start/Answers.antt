@@ -1,16 +1,23 @@
--- A reading that is missing is not accepted, nor is one where the accepted ones before it and those left are too few.
-use Rattle.std.proofs.Common.{get_or, ◌∙◌, arith, eq-eqb, ne_eqb}
+-- A reading is accepted by the start of an earlier one, or by the first; not where the accepted ones before it and those left are too few.
+use Rattle.std.proofs.Common.{is_some, sym, ap, ◌∙◌, arith}
 use Rattle.arithmetic.proofs.Counting.{count-le}
 use Rattle.acceptance.specs.Values.{accepted_in}
-use Rattle.acceptance.proofs.Spans.{decided-missing, decided_too_few, decided-answered}
+use Rattle.acceptance.proofs.Spans.{joined-accepted, decided_too_few, accepted-admitted}
 use Rattle.acceptance.proofs.find_start.Goals as goal
 
-pub returns-then-marks-r-ne-PRESENT-clause-accepted : goal.returns-then-marks-r-ne-PRESENT-clause-accepted
-returns-then-marks-r-ne-PRESENT-clause-accepted c =
+pub returns-then-is_some-clause-accepted : goal.returns-then-is_some-clause-accepted
+returns-then-is_some-clause-accepted c =
     let a = c.args in
-    (decided-missing a.span a.need a.marks.now a.values.now a.r a.known.now
-    (ne_eqb (get_or a.marks.now a.r 0) 1 c.if-marks-r-ne-PRESENT.true)
-    c.requires.remembered).0
+    sym c.if-is_some.ensures
+    ∙ sym
+    ((joined-accepted a.span a.need a.marks.now a.values.now a.earlier a.r c.requires.present c.requires.begins).1
+    (ap is_some (sym c.spanned_from-joined.ensures) ∙ sym c.if-is_some.ensures))
+
+pub returns-then-is_some-clause-holds : goal.returns-then-is_some-clause-holds
+returns-then-is_some-clause-holds c =
+    let a = c.args in
+    rw c.spanned_from-joined.ensures
+    (joined-accepted a.span a.need a.marks.now a.values.now a.earlier a.r c.requires.present c.requires.begins).0
 
 pub too_few-requires : goal.too_few-requires
 too_few-requires c =
@@ -23,19 +30,23 @@ too_few-requires c =
 pub returns-then-too_few-clause-accepted : goal.returns-then-too_few-clause-accepted
 returns-then-too_few-clause-accepted c =
     let a = c.args in
-    (decided_too_few a.span a.need a.marks.now a.values.now a.r a.known.now a.before
-    c.requires.alike.1
-    c.requires.before
+    decided_too_few a.span a.need a.marks.now a.values.now a.r a.before c.requires.alike.1 c.requires.before
     c.too_few.ensures
     c.if-too_few.true
-    c.requires.remembered).0
+
+pub returns-in_err-s-clause-accepted : goal.returns-in_err-s-clause-accepted
+returns-in_err-s-clause-accepted c =
+    let a = c.args in
+    rw c.from_residual.ensures
+    (c.in_err-s.ensures.admitted
+    ∙ sym
+    (accepted-admitted a.span a.need a.marks.now a.values.now a.r
+    c.requires.present))
 
 pub returns-clause-accepted : goal.returns-clause-accepted
 returns-clause-accepted c =
-    let b = c.accepts-s in
     let a = c.args in
-    (decided-answered a.span a.need a.marks.now a.values.now a.r b.new.known b.result
-    (eq-eqb (get_or a.marks.now a.r 0) 1 c.if-marks-r-ne-PRESENT.false)
-    (b.auto.known ∙ c.requires.alike.0.2)
-    c.requires.alike.0.1
-    (b.ensures.admitted, (b.ensures.holds, b.ensures.remembered_after))).0
+    c.in_ok-s.ensures.admitted
+    ∙ sym
+    (accepted-admitted a.span a.need a.marks.now a.values.now a.r
+    c.requires.present)

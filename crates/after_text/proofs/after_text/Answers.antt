@@ -1,4 +1,5 @@
 -- A buffer below the capacity is left as it was, and in any other the line is the text.
+use Rattle.std.proofs.Common.{rules}
 use Rattle.trace.specs.ReplayText.{after_text}
 use Rattle.text.proofs.Texts.{text_refused, text_written}
 use Rattle.value_lines.specs.Values.{value_at}
@@ -21,5 +22,6 @@ returns c =
     let values = value_at a.values.now in
     let written =
     text_written after_capacity (after_text a.n a.k values) a.text.now c.if-text-lt-AFTER_CAPACITY.false
-    (length-after a.n a.k values c.ranges.n.fits c.ranges.k.fits) c.put_after.ensures in
-    record { value = written.0; text_after = written.1 }
+    (length-after a.n a.k values c.ranges.n.fits c.ranges.k.fits)
+    c.new-writer.ensures.bytes c.new-writer.ensures.at c.put_after.ensures in
+    record { value = written.0; text_after = search rules }

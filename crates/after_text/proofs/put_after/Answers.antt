@@ -5,5 +5,5 @@ use Rattle.after_text.proofs.put_after.Goals as goal
 
 pub returns : goal.returns
 returns c =
-    after-put c.args.n c.args.k (value_at c.args.values.now) c.put_bytes-word.ensures c.put_field-first.ensures
-    c.put_fields-last.ensures c.put_byte.ensures
+    after-put c.args.n c.args.k (value_at c.args.values.now) c.put_bytes.ensures c.put_field.ensures
+    c.put_fields.ensures c.put_byte.ensures

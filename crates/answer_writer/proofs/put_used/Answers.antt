@@ -20,12 +20,12 @@ values-preserved c =
     let n = length a.marks.now in
     let wanted = used_in a.marks.now a.values.now a.estimate in
     let long = length-table wanted n in (
-      c.put_word_in.ensures
+      c.store.ensures
           ∙ put_next (table wanted n) v.r a.tail.now v.tail c.used.result v.invariant.0
           (omega arith)
           (c.used.ensures ∙ ap (of_z w32) (sym (get_d_table wanted n v.r (pos 0) c.values-test.true)))
           (omega (arith, c.requires.room)),
-      c.put_word_in.auto.buffer ∙ v.invariant.1,
+      c.store.auto.tail ∙ v.invariant.1,
     )
 
 pub returns : goal.returns

@@ -1,11 +1,8 @@
--- The count is that of the copies passed; the measure is the copies left.
-use Rattle.std.proofs.Common.{length, ◌-◌}
-use Rattle.loop_laws.proofs.Loops.{Counts}
+-- The count is that of the copies passed.
+use Rattle.std.proofs.Common.{◌≡◌}
+use Rattle.arithmetic.specs.Counting.{count}
 use Rattle.copies.specs.Copies.{holds_copy}
 use Rattle.copies.proofs.count_each.Given as goal
 
 abbrev pub invariant-copies : goal.invariant-copies
-invariant-copies l = Counts (holds_copy l.marks l.row l.value) (length l.marks) l.copies l.t
-
-abbrev pub decreases-copies : goal.decreases-copies
-decreases-copies l = length l.marks - l.t
+invariant-copies l = l.copies ≡ count (holds_copy l.mark-items l.row.bytes.now l.value) l.t

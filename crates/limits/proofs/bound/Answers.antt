@@ -1,7 +1,7 @@
 -- `limits::bound` meets its contract: up to m the planned limits, from N-m on nothing, and the wider limits between.
 use Rattle.std.proofs.Common.{◌-◌, sym, ◌∙◌, arith}
 use borrow.Author.Tests.{leb-true, leb-false}
-use Rattle.limits.proofs.Stating.{granted-faults, bounds-planned, bounds-nothing, bounds-wider}
+use Rattle.limits.proofs.Stating.{granted-sizes, granted-faults, bounds-planned, bounds-nothing, bounds-wider}
 use Rattle.limits.proofs.bound.Goals as goal
 
 pub returns-then-is_planned : goal.returns-then-is_planned
@@ -19,6 +19,12 @@ returns-then-is_quorum c =
     bounds-nothing a.settings a.accuracy a.t
     (leb-false a.t a.settings.m (sym c.is_planned.ensures ∙ c.if-is_planned.false))
     (leb-true (a.settings.n - a.settings.m) a.t (sym c.is_quorum.ensures ∙ c.if-is_quorum.true))
+
+pub widened-requires : goal.widened-requires
+widened-requires c =
+    let a = c.args in
+    granted-sizes a.settings a.accuracy a.t c.requires
+    (leb-false (a.settings.n - a.settings.m) a.t (sym c.is_quorum.ensures ∙ c.if-is_quorum.false))
 
 pub returns : goal.returns
 returns c =

@@ -1,13 +1,13 @@
 -- Five fields and a line feed, one after the other.
 use Rattle.model.specs.Listing.{line}
-use Rattle.fields.proofs.Putting.{puts_then}
+use Rattle.fields.proofs.Writing.{writes_then}
 use Rattle.lines.proofs.put_round.Goals as goal
 
 pub returns : goal.returns
 unfolding line
 returns c =
-    puts_then c.put_bytes-word.ensures
-    (puts_then c.put_field-first.ensures
-    (puts_then c.put_field-second.ensures
-    (puts_then c.put_signed_field-third.ensures
-    (puts_then c.put_signed_field-fourth.ensures c.put_byte.ensures))))
+    writes_then c.put_bytes.ensures
+    (writes_then c.put_field.ensures
+    (writes_then c.put_field-2.ensures
+    (writes_then c.put_signed_field.ensures
+    (writes_then c.put_signed_field-2.ensures c.put_byte.ensures))))

@@ -1,8 +1,8 @@
--- The body is the quotient rounded up.
-use Rattle.std.proofs.Common.{refl}
+-- The quotient is rounded up.
+use Rattle.std.proofs.Common.{arith}
 use Rattle.model.specs.Planner.{ceil_div}
 use Rattle.number_parser.proofs.microseconds.Goals as goal
 
 pub returns : goal.returns
 unfolding ceil_div
-returns c = refl
+returns c = omega (arith, c.div_ceil.ensures)

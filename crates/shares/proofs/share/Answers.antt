@@ -1,7 +1,7 @@
 -- `shares::share` meets its contract: the body is the quotient rounded up.
-use Rattle.std.proofs.Common.{ℕ, ◌+◌, ◌*◌, ◌-◌, ◌/◌, ap, arith}
+use Rattle.std.proofs.Common.{ℕ, ◌*◌, ap, ◌∙◌, arith}
 use Rattle.model.specs.Planner.{ceil_div}
-use Rattle.shares.proofs.Products.{none-of-none}
+use Rattle.shares.proofs.Products.{none-of-none, rounded-up}
 use Rattle.shares.proofs.share.Goals as goal
 
 pub returns-then-n-eq0 : goal.returns-then-n-eq0
@@ -10,7 +10,6 @@ returns-then-n-eq0 c =
     none-of-none (a.parts * a.settings.window) a.settings.n (omega arith)
 
 pub returns : goal.returns
-unfolding ceil_div
 returns c =
     let n = c.args.settings.n in
-    ap (λ (a : ℕ). (a + (n - 1)) / n) c.product.ensures.0
+    c.div_ceil.ensures ∙ rounded-up _ n (omega arith) ∙ ap (λ (a : ℕ). ceil_div a n) c.product.ensures.0

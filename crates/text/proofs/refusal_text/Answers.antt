@@ -1,4 +1,5 @@
 -- A buffer below the capacity is left as it was, and in any other the refusal's line is the text.
+use Rattle.std.proofs.Common.{rules}
 use Rattle.model.specs.Refusals.{refusal}
 use Rattle.model.specs.Listing.{refusal_text}
 use Rattle.text.specs.Text.{refusal_capacity, refusal_written}
@@ -20,5 +21,5 @@ returns c =
     let written =
     text_written refusal_capacity (refusal_text (refusal a.number a.place)) a.text.now
     c.if-text-lt-REFUSAL_CAPACITY.false (length-refusal a.number a.place c.ranges.number.fits)
-    c.put_refusal.ensures in
-    record { value = written.0; text_after = written.1 }
+    c.new-writer.ensures.bytes c.new-writer.ensures.at c.put_refusal.ensures in
+    record { value = written.0; text_after = search rules }

@@ -10,10 +10,7 @@ readings-init c = strike_none
 pub readings-preserved : goal.readings-preserved
 readings-preserved c =
     let k = c.readings in
-    strike_one
-    k.invariant
-    c.readings-test.true
-    c.kept_mark.result
+    strike_one k.invariant c.readings-test.true
     (c.kept_mark.ensures ∙ ap (λ (b : Bool). kept_mark b (get_or k.marks k.r 0)) c.is_left.ensures)
 
 pub returns : goal.returns

@@ -1,4 +1,4 @@
--- The numbers passed are summed; the measure is the numbers left.
+-- The numbers passed are summed.
 use Rattle.std.proofs.Common.{length, ◌-◌}
 use Rattle.arithmetic.specs.Words.{two_to32}
 use Rattle.dropping.proofs.Loops.{Summing}
@@ -6,7 +6,4 @@ use Rattle.threshold_trimming.proofs.Totals.{taken_of}
 use Rattle.threshold_trimming.proofs.sum_between.Given as goal
 
 abbrev pub invariant-numbers : goal.invariant-numbers
-invariant-numbers l = Summing (taken_of l.numbers l.low l.high) (two_to32 - 1) (length l.numbers) l.sum l.r
-
-abbrev pub decreases-numbers : goal.decreases-numbers
-decreases-numbers l = length l.numbers - l.r
+invariant-numbers l = Summing (taken_of l.numbers l.low l.high) (two_to32 - 1) (length l.numbers) l.sum l.number-index

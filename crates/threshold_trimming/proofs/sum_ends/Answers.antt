@@ -8,16 +8,5 @@ numbers-init c = ends-none
 
 pub numbers-preserved : goal.numbers-preserved
 numbers-preserved c =
-    ends-one
-    c.numbers.invariant
-    c.numbers-test.true
-    c.from_low.result
-    c.to_high.result
-    c.lower-least.result
-    c.higher-most.result
-    c.from_low.ensures
-    c.to_high.ensures
-    c.lower-least.ensures
-    c.higher-most.ensures
-    (omega arith)
-    (omega arith)
+    ends-one c.numbers.invariant c.numbers-test.true c.from_low.ensures c.to_high.ensures c.min-least.ensures
+    c.max-most.ensures (omega arith) (omega arith)

@@ -11,9 +11,9 @@ overflow_add-result c =
     left-fits
     (value_at a.numbers.now)
     (length a.numbers.now)
-    a.at.low
-    a.at.high
-    a.at.kept
+    a.t.low.at
+    a.t.high.at
+    a.t.high.ties
     (λ j. (c.type_inv.numbers j).fits)
     c.requires.numbers_len_bound.0
     c.requires.numbers_len_bound.1

@@ -3,32 +3,10 @@ use Rattle.thresholds.proofs.Narrowing.{bound_none, bound_next, bound_all}
 use Rattle.thresholds.proofs.bound.Goals as goal
 
 pub values-init : goal.values-init
-values-init c = bound_none c.args.values.now
+values-init c = bound_none
 
 pub values-preserved : goal.values-preserved
-values-preserved c =
-    let r = c.values in
-    bound_next
-    c.args.values.now
-    r.low
-    r.high
-    r.t
-    r.invariant
-    c.values-test.true
-    c.lower-low.result
-    c.higher-high.result
-    c.lower-low.ensures
-    c.higher-high.ensures
+values-preserved c = bound_next c.values.invariant c.values-test.true c.min-low.ensures c.max-high.ensures
 
 pub returns : goal.returns
-returns c =
-    let r = c.values in
-    bound_all
-    c.args.values.now
-    r.low
-    r.high
-    r.t
-    r.invariant
-    (c.type_inv.values 0).fits
-    c.requires
-    c.values-test.false
+returns c = bound_all c.values.invariant (c.type_inv.values 0).fits c.requires c.values-test.false

@@ -1,143 +1,49 @@
 -- The range begins as that of all numbers; what is looked at lies in it, and by the count it is one end or the other.
-use Rattle.std.proofs.Common.{◌+◌, ◌-◌, ◌/◌, ltb, eqb, not, arith}
-use borrow.Author.Tests.{ltb-true}
-use Rattle.arithmetic.proofs.Bools.{and_left}
-use Rattle.thresholds.proofs.Narrowing.{narrowing_start, within-most, narrowing_up, narrowing_down, looked-within}
+use Rattle.std.proofs.Common.{◌<◌, arith}
+use Rattle.thresholds.proofs.Narrowing.{Inside, narrowing_start, within-most, narrowing_up, narrowing_down}
+use Rattle.thresholds.proofs.Narrowing.{guessed-within, still-wide}
 use Rattle.thresholds.proofs.find.Goals as goal
+use Rattle.thresholds.proofs.find.Goals.{In-narrowing, After-guess-mid}
+
+-- the range that is left is not one number yet
+wide : (c : In-narrowing) → c.narrowing.rest.low < c.narrowing.rest.high
+wide c = still-wide c.narrowing.rest c.args.k c.narrowing.below c.narrowing-test.true
+
+inside : (c : After-guess-mid) → Inside c.narrowing.rest c.guess-mid.result
+inside c = rw c.guess-mid.ensures (guessed-within c.narrowing.rest _ _ _ (wide (goal.at.After-guess-mid c).In-narrowing))
 
 pub narrowing-init : goal.narrowing-init
-narrowing-init c =
-    let a = c.args in
-    narrowing_start a.values.now a.k a.from a.to c.requires.bounds
+narrowing-init c = narrowing_start c.args.values.now c.args.k c.args.all c.requires.bounds
 
 pub guess-mid-requires : goal.guess-mid-requires
 guess-mid-requires c =
-    let a = c.args in
-    let r = c.narrowing in
-    let wide = ltb-true r.low r.high (and_left (ltb r.low r.high) (not (eqb r.below a.k)) c.narrowing-test.true) in
-    let most = within-most a.values.now a.k r.low r.high r.below r.within r.invariant in
+    let most = within-most c.narrowing.invariant in
     let few = c.requires.values_len_bound.0 in
-    (wide, omega arith, omega (arith, most, few, r.invariant.most))
+    (wide c, omega arith, omega (arith, most, few, c.narrowing.invariant.most))
 
 pub narrowing-smaller-then-count-k : goal.narrowing-smaller-then-count-k
-narrowing-smaller-then-count-k c =
-    let a = c.args in
-    let r = c.narrowing in
-    let look =
-    looked-within
-    r.low
-    r.high
-    a.k
-    r.below
-    ((a.to - a.from) / 64 + 1)
-    (a.k - r.below)
-    (r.within - a.k)
-    c.guess-mid.result
-    c.narrowing-test.true
-    c.guess-mid.ensures
-    in
-    omega (arith, look.1, look.2)
+narrowing-smaller-then-count-k c = omega (arith, inside (goal.at.narrowing-smaller-then-count-k c).After-guess-mid)
 
 pub narrowing-preserved-then-count-k : goal.narrowing-preserved-then-count-k
 narrowing-preserved-then-count-k c =
-    let a = c.args in
-    let r = c.narrowing in
-    let look =
-    looked-within
-    r.low
-    r.high
-    a.k
-    r.below
-    ((a.to - a.from) / 64 + 1)
-    (a.k - r.below)
-    (r.within - a.k)
-    c.guess-mid.result
-    c.narrowing-test.true
-    c.guess-mid.ensures
-    in
     narrowing_up
-    a.values.now
-    a.k
-    r.low
-    r.high
-    r.below
-    r.within
-    r.invariant
+    c.narrowing.invariant
     c.requires.values_len_bound.0
-    c.guess-mid.result
-    c.count_below-count.result
-    look.1
-    look.2
+    (inside (goal.at.narrowing-preserved-then-count-k c).After-guess-mid)
     c.count_below-count.ensures
-    (omega arith)
+    c.if-count-k.true
 
-pub overflow_sub-high : goal.overflow_sub-high
-overflow_sub-high c =
-    let a = c.args in
-    let r = c.narrowing in
-    let look =
-    looked-within
-    r.low
-    r.high
-    a.k
-    r.below
-    ((a.to - a.from) / 64 + 1)
-    (a.k - r.below)
-    (r.within - a.k)
-    c.guess-mid.result
-    c.narrowing-test.true
-    c.guess-mid.ensures
-    in
-    omega (arith, look.1)
+pub overflow_sub-rest : goal.overflow_sub-rest
+overflow_sub-rest c = omega (arith, inside (goal.at.overflow_sub-rest c).After-guess-mid)
 
 pub narrowing-smaller : goal.narrowing-smaller
-narrowing-smaller c =
-    let a = c.args in
-    let r = c.narrowing in
-    let look =
-    looked-within
-    r.low
-    r.high
-    a.k
-    r.below
-    ((a.to - a.from) / 64 + 1)
-    (a.k - r.below)
-    (r.within - a.k)
-    c.guess-mid.result
-    c.narrowing-test.true
-    c.guess-mid.ensures
-    in
-    omega (arith, look.1, look.2)
+narrowing-smaller c = omega (arith, inside (goal.at.narrowing-smaller c).After-guess-mid)
 
 pub narrowing-preserved : goal.narrowing-preserved
 narrowing-preserved c =
-    let a = c.args in
-    let r = c.narrowing in
-    let look =
-    looked-within
-    r.low
-    r.high
-    a.k
-    r.below
-    ((a.to - a.from) / 64 + 1)
-    (a.k - r.below)
-    (r.within - a.k)
-    c.guess-mid.result
-    c.narrowing-test.true
-    c.guess-mid.ensures
-    in
     narrowing_down
-    a.values.now
-    a.k
-    r.low
-    r.high
-    r.below
-    r.within
-    r.invariant
+    c.narrowing.invariant
     c.requires.values_len_bound.0
-    c.guess-mid.result
-    c.count_below-count.result
-    look.1
-    look.2
+    (inside (goal.at.narrowing-preserved c).After-guess-mid)
     c.count_below-count.ensures
-    (omega arith)
+    c.if-count-k.false

@@ -1,6 +1,0 @@
--- A space, then the signed number.
-use Rattle.fields.proofs.Putting.{puts_then}
-use Rattle.fields.proofs.put_signed_field.Goals as goal
-
-pub returns : goal.returns
-returns c = puts_then c.put_byte-field.ensures c.put_signed.ensures

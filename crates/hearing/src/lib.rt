@@ -11,6 +11,7 @@ ghost use Rattle.hearing.specs.Heard.{heard_from, audible, marks_heard, values_h
 use held::PRESENT;
 use model::MAX_CABINETS;
 use speaking::Held;
+use words::Entries;
 
 // A round of a recorded run of at most 64 cabinets: the roles, what each cabinet holds, and the marks and readings that
 // were sent, ordered by sender and receiver.
@@ -74,14 +75,11 @@ fn hear_one(round: Recorded, r: usize, p: usize) -> Held
         };
     }
     let e = speaking::entry_number(round.roles.len() as u8, r as u8, p as u8);
-    let at = 4 * e;
-    let bits = words::join(
-        round.readings[at],
-        round.readings[at + 1],
-        round.readings[at + 2],
-        round.readings[at + 3],
-    );
-    speaking::hear_entry(round.sent[e], bits)
+    let entries = Entries {
+        marks: round.sent,
+        bytes: round.readings,
+    };
+    speaking::hear_entry(round.sent[e], entries.bits(e))
 }
 
 // What receiver p hears of each sender.

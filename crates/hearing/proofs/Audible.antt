@@ -4,9 +4,8 @@ use mathlib.Core.Bool.{Bool, true, false, ◌&&◌}
 use mathlib.Core.List.{List}
 use mathlib.Core.Path.{◌≡◌, sym, ap, ◌∙◌}
 use Prim.Native.Nat.{ℕ, ◌*◌, ◌≤◌, ◌<◌}
-use native.Mathlib.Nat.{mul-le-mul}
 use native.Mathlib.Omega.{arith}
-use borrow.Author.Tests.{leb-true, ltb-true, eqb-true, lt-leb}
+use borrow.Author.Tests.{leb-true, ltb-true, eqb-true}
 use lib.Dec.{leb, ltb, eqb}
 use lib.ListN.{length}
 use Rattle.arithmetic.specs.Naturals.{down}
@@ -36,9 +35,6 @@ module _ (role value : ℕ) (sent readings : List ℕ) (e : ℕ) where
   sound-value h = sym (up-down two_to31 value) ∙ ap held_value (sym (sound_speaks h))
 
 -- ---- sizes
-
-pub few-pairs : (n : ℕ) → n ≤ max_cabinets → n * n ≤ 4096
-few-pairs n h = mul-le-mul h h
 
 pub record Audible (n held sent readings p marks values : ℕ) : Type 0 where
   pub few : n ≤ max_cabinets
@@ -72,10 +68,6 @@ module _ (n held sent readings p marks values : ℕ) where
         mark-room = eqb-true marks n (and_left (eqb marks n) (eqb values n) rooms);
         value_room = eqb-true values n (and_right (eqb marks n) (eqb values n) rooms);
       }
-
-  pub many-refused : max_cabinets < n → false ≡ audible n held sent readings p marks values
-  unfolding audible
-  many-refused h = rw (lt-leb n max_cabinets h)
 
 -- ---- the lists that are left
 

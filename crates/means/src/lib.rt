@@ -6,6 +6,7 @@ ghost use Rattle.arithmetic.specs.Counting.{bit};
 ghost use Rattle.means.specs.Means.{floor_mean, nearest_mean};
 
 // The mean of n numbers with this sum, rounded down; 0 where there are none.
+// Stays: 0 is what the definitions have for the mean of none (evaluated_of of estimates), so a caller would put it back (d).
 pub fn floor_mean(n: u32, sum: u32) -> u32
     ensures { result ≡ floor_mean n sum }
 {

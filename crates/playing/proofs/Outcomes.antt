@@ -1,11 +1,11 @@
 -- What playing a trace gives, by what its checks say, on plain values.
 -- Assumes nothing.
 use mathlib.Core.List.{List, ◌++◌}
-use mathlib.Core.Option.{none, some}
-use mathlib.Core.Path.{◌≡◌, refl, sym, ap, ◌∙◌}
-use Prim.Native.Nat.{ℕ, zero, suc, ◌≤◌, ◌<◌, min}
+use mathlib.Core.Option.{none}
+use mathlib.Core.Path.{◌≡◌, sym, ap, ◌∙◌}
+use Prim.Native.Nat.{ℕ, ◌≤◌, ◌<◌, min}
 use native.Mathlib.Omega.{arith}
-use borrow.Author.Tests.{lt-ltb, le-ltb, ne_eqb}
+use borrow.Author.Tests.{lt-ltb, le-ltb}
 use lib.ListN.{length, get_or-append}
 use Rattle.arithmetic.specs.Naturals.{down}
 use Rattle.arithmetic.specs.Words.{two_to31}
@@ -13,7 +13,7 @@ use Rattle.model.specs.declared.Settings.{Settings}
 use Rattle.model.specs.Refusals.{Refusal}
 use Rattle.model.specs.Ensemble.{present, max_cabinets}
 use Rattle.model.specs.RoundSheet.{settings_at}
-use Rattle.model.specs.Refusals.{Check, refusal, or_next, first_of, no_room_number, run_stopped_number}
+use Rattle.model.specs.Refusals.{Check, refusal, or_next, first_of, no_room_number}
 use Rattle.model.specs.Calls.{Verdict, granted, refused, verdict}
 use Rattle.refusal_laws.proofs.Checks.{first_snoc}
 use Rattle.refusal_laws.proofs.Limits.{limits, limits-pass}
@@ -21,7 +21,7 @@ use Rattle.sheet_laws.proofs.Outcomes.{refused-some}
 use Rattle.trace.specs.Trace.{rounds_at}
 use Rattle.trace.specs.Replay.{run_stopped, trace_checks, replay_checks}
 use Rattle.trace_heads.proofs.Heads.{Headed}
-use Rattle.playing.specs.Playing.{HeldTo, Playable, stopped_at, RoundsPlayed, Played, played_given}
+use Rattle.playing.specs.Playing.{HeldTo, Playable, played_given}
 
 -- what the checks before 15 leave
 pub playable : (s : List ℕ) (room : ℕ) → Headed s room → Playable s
@@ -35,24 +35,6 @@ playable s room h =
 
 pub playable-few : (s : List ℕ) → Playable s → (settings_at s).n ≤ max_cabinets
 playable-few s ok = (limits (settings_at s) ok.passes).cabinets
-
--- the place of 15 says whether it passes
-place_none : (place : ℕ) → stopped_at place ≡ none → place ≡ 0
-unfolding stopped_at
-place_none zero e = refl
-place_none (suc place) e =
-    let stops : stopped_at (suc place) ≡ some (refusal run_stopped_number (suc place)) = rw (ne_eqb (suc place) 0 (λ h. omega arith)) in
-    let z : ◌≡◌ {A = Check} none (some (refusal run_stopped_number (suc place))) = sym e ∙ stops in
-    cc
-
-pub rounds-played :
-    (s : List ℕ) (k j place : ℕ) (held : List ℕ) (check : Check) → k ≡ j → RoundsPlayed s k place held
-    → check ≡ stopped_at place → Played s j check held
-rounds-played s k j place held check same played e =
-    record {
-      stops = e ∙ sym played.stops ∙ ap (run_stopped s) same;
-      holds = λ h. rw same at (played.holds (place_none place (sym e ∙ h)));
-    }
 
 -- a refusal is no grant
 pub no_grant : {A : Type 0} (r : Refusal) (c : Settings) → refused r ≡ granted c → A

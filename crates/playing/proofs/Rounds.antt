@@ -8,7 +8,7 @@ use mathlib.Core.Path.{◌≡◌, refl, sym, ap, ap₂, ◌∙◌}
 use Prim.Native.Nat.{ℕ, zero, suc, ◌+◌, ◌*◌, ◌≤◌, ◌<◌, zero-le}
 use native.Mathlib.Numerals.{add-one}
 use native.Mathlib.Omega.{arith}
-use borrow.Author.Tests.{lt-ltb, le-ltb, ne_eqb}
+use borrow.Author.Tests.{lt-ltb, le-ltb}
 use lib.ListN.{length, get_or}
 use Rattle.arithmetic.specs.Naturals.{down, up}
 use Rattle.arithmetic.specs.Words.{two_to31}
@@ -27,7 +27,7 @@ use Rattle.run.specs.Run.{stepped, next, state_after}
 use Rattle.trace.specs.Trace.{first_at}
 use Rattle.trace.specs.Replay.{state_to, at_round, in_round, run_stopped}
 use Rattle.trace.proofs.Traced.{bits_fit}
-use Rattle.playing.specs.Playing.{HeldTo, below, RoundPlayed, stopped_at, RoundsPlayed}
+use Rattle.playing.specs.Playing.{HeldTo, below, RoundPlayed, Played}
 
 -- ---- before the first round
 
@@ -77,27 +77,25 @@ module _ (s : List ℕ) where
 
   pub stops-here :
       (k r most : ℕ) (held : List ℕ) → RoundPlayed s k r held → r < (settings_at s).n → run_stopped s k ≡ none → k < most
-      → RoundsPlayed s most (max_cabinets * (k + 1) + r) held
-  unfolding stopped_at
+      → Played s most (some (refusal run_stopped_number (max_cabinets * (k + 1) + r))) held
   stops-here k r most held played few before early =
       let here : below (settings_at s).n r ≡ some r = rw (lt-ltb r (settings_at s).n few) in
       record {
         stops =
-            stops_on k (refusal run_stopped_number (max_cabinets * (k + 1) + r)) before
-            (ap (at_round k) (played.first ∙ here)) most early
-            ∙ rw (ne_eqb (max_cabinets * (k + 1) + r) 0 (λ h. omega arith));
-        holds = λ h. absurd (omega arith);
+            sym
+            (stops_on k (refusal run_stopped_number (max_cabinets * (k + 1) + r)) before
+            (ap (at_round k) (played.first ∙ here)) most early);
+        holds = λ h. cc;
       }
 
   -- all are played
   pub played-all :
       (k most : ℕ) (held : List ℕ) → run_stopped s k ≡ none → HeldTo s k held → k ≤ most → most ≤ k
-      → RoundsPlayed s most 0 held
-  unfolding stopped_at
+      → Played s most none held
   played-all k most held before holds l h =
       let same : k ≡ most = omega arith in
       record {
-        stops = ap (run_stopped s) (sym same) ∙ before;
+        stops = sym (ap (run_stopped s) (sym same) ∙ before);
         holds = λ z. rw same at holds;
       }
 

@@ -2,7 +2,7 @@
 // 2^31.
 #![tactic(auto)]
 
-ghost use Rattle.std.specs.Prelude.{◌≡◌, cond, ◌+◌, ◌≤◌, ◌<◌, min, eqb, length, get_or};
+ghost use Rattle.std.specs.Prelude.{◌≡◌, cond, ◌+◌, ◌≤◌, ◌<◌, min, eqb, length, get_or, IfSome, unwrap_or};
 ghost use Rattle.arithmetic.specs.Naturals.{up};
 ghost use Rattle.arithmetic.specs.Words.{two_to31};
 ghost use Rattle.arithmetic.specs.Writing.{table};
@@ -13,8 +13,8 @@ ghost use Rattle.refusals.specs.Answers.{check_of};
 ghost use Rattle.sheet_checks.specs.Answers.{opened_of};
 ghost use Rattle.trace.specs.Trace.{rounds_at, first_at};
 ghost use Rattle.trace.specs.Replay.{state_to};
-ghost use Rattle.playing.specs.Playing.{HeldTo, Playable, RoundPlayed, stopped_at};
-ghost use Rattle.playing.specs.Playing.{RoundsPlayed, Played, played_given};
+ghost use Rattle.playing.specs.Playing.{HeldTo, Playable, RoundPlayed};
+ghost use Rattle.playing.specs.Playing.{Played, played_given};
 
 use model::{HEADER_SIZE, MAX_CABINETS, NO_ROOM, RUN_STOPPED, Settings, TRACE_HEADER_SIZE};
 use planner::Plan;
@@ -32,10 +32,8 @@ fn first_readings(trace: &[u8], held: &mut [u32])
         (length held.old) }
 {
     let start = TRACE_HEADER_SIZE + held.len();
-    let mut p: usize = 0;
-    'cabinets: while p < held.len() {
-        held[p] = held::bias(words::word_at(trace, start + 4 * p));
-        p += 1;
+    'cabinets: for (p, reading) in held.iter_mut().enumerate() {
+        *reading = held::bias(words::word_at(trace, start + 4 * p));
     }
 }
 
@@ -54,10 +52,8 @@ fn take_over(roles: &[u8], next: &[u32], held: &mut [u32])
         (get_or held.old p 0))
         (length roles.now) }
 {
-    let mut p: usize = 0;
-    'cabinets: while p < roles.len() {
-        held[p] = later(roles[p], next[p], held[p]);
-        p += 1;
+    'cabinets: for (p, role) in roles.iter().enumerate() {
+        held[p] = later(*role, next[p], held[p]);
     }
 }
 
@@ -69,70 +65,65 @@ fn play_in(
     k: u8,
     next: &mut [u32],
     held: &mut [u32],
-) -> usize
+) -> Option<usize>
     requires playable { Playable trace.now × (settings ≡ (state_to trace.now k).plan.settings) }
     requires rounds_value { (rounds ≡ rounds_at trace.now) × (k < rounds) }
     requires next_len { (length next.old ≡ settings.n) × (length held.old ≡ settings.n) }
     requires held_to { HeldTo trace.now k held.old }
-    ensures { RoundPlayed trace.now k result held.new }
+    ensures played { RoundPlayed trace.now k (unwrap_or result settings.n) held.new }
+    ensures one { IfSome result (λ p. p < settings.n) }
 {
     let roles = trace_parts::roles(trace, settings.n);
     let sent = trace_parts::marks(trace, settings.n, k);
     let readings = trace_parts::readings(trace, settings.n, rounds, k);
     let refused = station_rounds::settle_round(settings, roles, &*held, sent, readings, &mut *next);
-    if refused < (settings.n as usize) {
-        return refused;
+    if let Some(p) = refused {
+        return Some(p);
     }
     take_over(roles, &*next, held);
-    refused
+    None
 }
 
-// Plays round k, from 0: the first cabinet that meets too many faults, or else the number of cabinets, which then hold
-// their next values.
-fn play_round(trace: &[u8], settings: Settings, rounds: u8, k: u8, held: &mut [u32]) -> usize
+// Plays round k, from 0: the first cabinet that meets too many faults. Where none does, they hold their next values.
+fn play_round(
+    trace: &[u8],
+    settings: Settings,
+    rounds: u8,
+    k: u8,
+    held: &mut [u32],
+) -> Option<usize>
     requires playable { Playable trace.now × (settings ≡ (state_to trace.now k).plan.settings) }
     requires rounds_value { (rounds ≡ rounds_at trace.now) × (k < rounds) × (length held.old ≡ settings.n) }
     requires n_le_max_cabinets { (settings.n ≤ max_cabinets) × HeldTo trace.now k held.old }
-    ensures { RoundPlayed trace.now k result held.new }
+    ensures played { RoundPlayed trace.now k (unwrap_or result settings.n) held.new }
+    ensures one { IfSome result (λ p. p < settings.n) }
 {
     let n = settings.n as usize;
     let mut next = [0u32; 64];
     play_in(trace, settings, rounds, k, &mut next[..n], held)
 }
 
-// Plays the first rounds, each at its planned window: the place of check 15, or 0 where no sound cabinet meets too many
-// faults.
-fn play_rounds(trace: &[u8], settings: Settings, rounds: u8, most: u8, held: &mut [u32]) -> u32
+// Plays the first rounds, each at its planned window, up to the first in which a sound cabinet meets too many faults,
+// which check 15 refuses.
+fn play_rounds(trace: &[u8], settings: Settings, rounds: u8, most: u8, held: &mut [u32]) -> Screened
     requires playable { Playable trace.now × (settings ≡ settings_at trace.now) }
     requires rounds_value { (rounds ≡ rounds_at trace.now) × (most ≤ rounds) × (length held.old ≡ settings.n) }
     requires held_to { HeldTo trace.now 0 held.old }
-    ensures { RoundsPlayed trace.now most result held.new }
+    ensures { Played trace.now most (check_of result) held.new }
 {
     let mut plan = Plan {
         settings,
         accuracy: 0,
         rounds: 0,
     };
-    let mut k: u8 = 0;
-    'rounds: while k < most {
-        let refused = play_round(trace, plan.settings, rounds, k, &mut *held);
-        if refused < (settings.n as usize) {
-            return trace_sizes::stop_place(k, refused as u8);
+    'rounds: for k in 0..most {
+        if let Some(p) = play_round(trace, plan.settings, rounds, k, &mut *held) {
+            let place = trace_sizes::stop_place(k, p as u8);
+            return Screened::Refused(refusals::refuse_at(RUN_STOPPED, place));
         }
         plan = plan_steps::stepped(plan);
-        k += 1;
     }
-    0
-}
-
-// Check 15 by its place.
-fn stopped(place: u32) -> Screened
-    ensures { check_of result ≡ stopped_at place }
-{
-    if place == 0 {
-        return Screened::Passed;
-    }
-    Screened::Refused(refusals::refuse_at(RUN_STOPPED, place))
+    Screened::Passed
 }
 
 // Plays the first rounds of a trace that passes its other checks.
@@ -142,14 +133,8 @@ fn play_checked(trace: &[u8], settings: Settings, most: u8, held: &mut [u32]) ->
 {
     let rounds = words::byte_at(trace, HEADER_SIZE);
     first_readings(trace, &mut *held);
-    let place = play_rounds(
-        trace,
-        settings,
-        rounds,
-        trace_rounds::rounds_to_play(rounds, most),
-        held,
-    );
-    stopped(place)
+    let most = trace_rounds::rounds_to_play(rounds, most);
+    play_rounds(trace, settings, rounds, most, held)
 }
 
 // Plays the first rounds of a trace, at most as many as it has, for a buffer of this length: its settings, or the first

@@ -40,6 +40,7 @@ fn sum_kept(marks: &mut [u8], numbers: &[u32], ranks: &[u8], m: u8, rule: u8) ->
 
 // Drops the m lowest and the m highest of at most 64 readings: strikes them out, and gives the sum that the rule takes
 // the mean of. Where the lists do not fit, or none is left, there is no sum and the marks are left as they are.
+// Stays: the rule is its byte of document 01's sheet, and DECISIONS 95 names the function (a).
 pub fn drop_ends(marks: &mut [u8], numbers: &[u32], m: u8, rule: u8) -> Option<u64>
     ensures value { result ≡ dropped_sum rule m marks.old numbers.now }
     ensures marks_after { marks.new ≡ dropped_marks m marks.old numbers.now }

@@ -11,6 +11,7 @@ use borrow.Author.Tests.{lt-ltb, le-ltb, ltb-true, ltb-false, eq-eqb, eqb-true, 
 use lib.Dec.{ltb, eqb}
 use lib.ListN.{length, get_or, set, replicate, length-set}
 use lib.Seq.{get_or-set_same, get_or-set_other}
+use Rattle.std.specs.Prelude.{Option, Some, IsSome}
 use Rattle.arithmetic.specs.Counting.{bit, count}
 use Rattle.arithmetic.specs.Writing.{table, overwrite}
 use Rattle.arithmetic.proofs.Bools.{both_ways, iff_eq, and_false}
@@ -23,9 +24,17 @@ use Rattle.held.specs.Held.{value_at}
 use Rattle.ranks.specs.Ranks.{below_number, below_of, rank_at, below_at, Seen}
 
 -- what `count_below` gives of at most 64 numbers
-pub below_of_lem : (values : List ℕ) (v : ℕ) → length values ≤ max_cabinets → below_of values v ≡ below_number values v
+pub below_of_lem : (values : List ℕ) (v : ℕ) → length values ≤ max_cabinets → below_of values v ≡ Some (below_number values v)
 unfolding below_of
 below_of_lem values v few = rw (le-ltb max_cabinets (length values) few)
+
+pub below-some :
+    (values : List ℕ) (v : ℕ) {b : ℕ} → length values ≤ max_cabinets → Some b ≡ below_of values v
+    → b ≡ below_number values v
+below-some values v few e = let both = e ∙ below_of_lem values v few in cc
+
+pub below-is_some : (values : List ℕ) (v : ℕ) {o : Option ℕ} → length values ≤ max_cabinets → o ≡ below_of values v → IsSome o
+below-is_some values v few e = rw (e ∙ below_of_lem values v few) refl
 
 and_true : (a : Bool) {b : Bool} → b ≡ true → (a && b) ≡ a
 and_true true e = e
@@ -189,9 +198,9 @@ module _ {values ranks₀ seen ranks : List ℕ} {r : ℕ} (k : Ranking values r
   pub ranks_long : length ranks ≡ length ranks₀
   ranks_long = storing_long (rank_at values) (length values) ranks₀ ranks r k.stores
 
-  module _ (here : r < length values) {b : ℕ} (counts : b ≡ below_of values (value_at values r)) where
+  module _ (here : r < length values) {b : ℕ} (counts : Some b ≡ below_of values (value_at values r)) where
     counted : b ≡ below_at values r
-    counted = counts ∙ below_of_lem values (value_at values r) k.few
+    counted = below-some values (value_at values r) k.few counts
 
     -- what is read and written fits
     pub found : (b < length seen) × (b + get_or seen b 0 ≡ rank_at values r) × (rank_at values r < max_cabinets)

@@ -5,7 +5,7 @@
 -- What the functions below it give:
 --   below_at            how many numbers are below that of an index
 --   Seen               of each number below 64, how many of the first r indices have so many below them
-use Rattle.std.specs.Prelude.{Bool, cond, ◌||◌, List, ◌≡◌, ℕ, ◌<◌, ltb, eqb, length, get_or}
+use Rattle.std.specs.Prelude.{Bool, cond, Option, Some, None, ◌||◌, List, ◌≡◌, ℕ, ◌<◌, ltb, eqb, length, get_or}
 use Rattle.arithmetic.specs.Counting.{count}
 use Rattle.arithmetic.specs.Writing.{table, overwrite}
 use Rattle.model.specs.Ensemble.{max_cabinets}
@@ -15,8 +15,8 @@ use Rattle.held.specs.Held.{value_at}
 abbrev pub below_number : List ℕ → ℕ → ℕ
 below_number values v = count (λ t. ltb (value_at values t) v) (length values)
 
-unfoldable pub below_of : List ℕ → ℕ → ℕ
-below_of values v = cond (ltb max_cabinets (length values)) 0 (below_number values v)
+unfoldable pub below_of : List ℕ → ℕ → Option ℕ
+below_of values v = cond (ltb max_cabinets (length values)) None (Some (below_number values v))
 
 abbrev pub rank_at : List ℕ → ℕ → ℕ
 rank_at values r = rank_nat (length values) (value_at values) r

@@ -13,19 +13,19 @@ use model::MAX_CABINETS;
 // The most numbers.
 const MOST: usize = MAX_CABINETS as usize;
 
-// How many of at most 64 numbers are below a number; 0 where there are more.
+// How many of at most 64 numbers are below a number; none where there are more.
 #[tactic(auto, unfolding(crate::specs::Ranks::below_of))]
-pub fn count_below(values: &[u32], value: u32) -> u32
+pub fn count_below(values: &[u32], value: u32) -> Option<u32>
     ensures { result ≡ below_of values.now value }
 {
     if MOST < values.len() {
-        return 0;
+        return None;
     }
     let mut below: u32 = 0;
     'values: for v in values {
         below += (*v < value) as u32;
     }
-    below
+    Some(below)
 }
 
 // The rank of each number. `seen[b]` is how many of the numbers passed have b below them.
@@ -36,7 +36,7 @@ fn rank_each(values: &[u32], seen: &mut [u8], ranks: &mut [u8])
         ≡ overwrite (table (rank_at values.now) (length values.now)) ranks.old }
 {
     'numbers: for (r, value) in values.iter().enumerate() {
-        let below = count_below(values, *value) as usize;
+        let below = count_below(values, *value).unwrap() as usize;
         let same = seen[below];
         ranks[r] = (below as u8) + same;
         seen[below] = same + 1;

@@ -2,7 +2,9 @@
 -- Assumes nothing.
 use mathlib.Core.Bool.{Bool, true, false, ◌&&◌}
 use mathlib.Core.List.{List}
-use mathlib.Core.Path.{◌≡◌, ap, ◌∙◌}
+use mathlib.Core.Path.{◌≡◌, refl, ap, ◌∙◌}
+use native.Mathlib.Omega.{arith}
+use Rattle.std.proofs.lemmas.Grind.{common_steps}
 use Prim.Native.Nat.{ℕ, ◌*◌, ◌≤◌}
 use borrow.Author.Tests.{eqb-true, leb-true, ltb-true}
 use lib.Dec.{leb, ltb, eqb}
@@ -11,6 +13,7 @@ use Rattle.arithmetic.specs.Writing.{table, overwrite}
 use Rattle.arithmetic.proofs.Bools.{and_left, and_right}
 use Rattle.model.specs.declared.Settings.{Settings}
 use Rattle.model.specs.Ensemble.{max_cabinets, max_window}
+use Rattle.hearing.specs.declared.Recorded.{Recorded}
 use Rattle.hearing.specs.Heard.{audible}
 use Rattle.hearing.proofs.Audible.{Audible, audible-fits}
 use Rattle.station_rounds.specs.Rounds.{next_value, round_fits, refused_given, next_given}
@@ -20,16 +23,37 @@ module _ (c : Settings) (roles held sent readings next : List ℕ) where
   abbrev pub planned : Bool
   planned = ltb (2 * c.m) (length roles) && leb c.window max_window
 
-  -- the test of the code
-  abbrev pub tested : Bool → Bool
-  tested sized = (eqb c.n (length roles) && planned) && sized
-
   abbrev sizes : Bool
   sizes = audible (length roles) (length held) (length sent) (length readings) 0 (length roles) (length next)
 
-  pub tested-fits : {sized : Bool} → sized ≡ sizes → tested sized ≡ round_fits c roles held sent readings next
+  and_none : (a : Bool) {b : Bool} → b ≡ false → (a && b) ≡ false
+  and_none true e = e
+  and_none false e = refl
+
+  pub unsized : sizes ≡ false → round_fits c roles held sent readings next ≡ false
   unfolding round_fits
-  tested-fits e = ap tested e
+  unsized h = and_none (eqb c.n (length roles) && planned) h
+
+  tested :
+      length roles ≤ max_cabinets → length held ≡ length roles → length sent ≡ length roles * length roles
+      → length readings ≡ 4 * (length roles * length roles)
+      → ((eqb c.n (length roles) && planned) && eqb (length next) (length roles))
+      ≡ round_fits c roles held sent readings next
+  unfolding round_fits audible
+  tested few values pairs bytes = grind (arith, common_steps)
+
+  -- the test of the code, of lists that make a round
+  pub tested-fits :
+      (round : Recorded) → (round.roles.now ≡ roles) × (round.held.now ≡ held) × (round.sent.now ≡ sent)
+      × (round.readings.now ≡ readings)
+      → ((eqb c.n (length roles) && planned) && eqb (length next) (length roles))
+      ≡ round_fits c roles held sent readings next
+  tested-fits round same =
+      tested
+      (rw same.0 at round.few)
+      (rw (same.1, same.0) at round.values_held)
+      (rw (same.2, same.0) at round.pairs)
+      (rw (same.3, same.0) at round.bytes)
 
   pub none-given : round_fits c roles held sent readings next ≡ false → length roles ≡ refused_given c roles held sent readings next
   unfolding refused_given

@@ -2,7 +2,7 @@
 -- Assumes nothing.
 use mathlib.Core.Bool.{true, false}
 use mathlib.Core.List.{List}
-use mathlib.Core.Path.{◌≡◌, refl, ◌∙◌}
+use mathlib.Core.Path.{◌≡◌, refl, sym, ap, ◌∙◌}
 use mathlib.Core.Logic.{⊎_elim}
 use Prim.Native.Nat.{ℕ, ◌+◌, ◌≤◌, ◌<◌, zero-le}
 use native.Mathlib.Numerals.{add-one}
@@ -53,9 +53,13 @@ module _ (c : Settings) (roles held sent readings next₀ : List ℕ) where
     stopped l m =
         record { first = first-refused c roles held sent readings p so_far.passed l m; stored = so_far.stored }
 
-    pub ended : length roles ≤ p → Left c roles held sent readings next₀ p next
+    pub ended : length roles ≤ p → Left c roles held sent readings next₀ (length roles) next
     ended l =
         record {
-          first = none-refused c roles held sent readings p so_far.passed l so_far.up_to;
-          stored = so_far.stored;
+          first = sym all ∙ none-refused c roles held sent readings p so_far.passed l so_far.up_to;
+          stored =
+              so_far.stored ∙ ap (λ (k : ℕ). overwrite (table (next_value c roles held sent readings) k) next₀) all;
         }
+      where
+        all : p ≡ length roles
+        all = omega (arith, so_far.up_to)

@@ -16,12 +16,13 @@ use lib.Dec.{ltb, leb, eqb}
 use lib.ListN.{length}
 use Rattle.arithmetic.proofs.Bools.{both_ways, clash, and_intro, and_left, or_left, or_right, iff_eq}
 use Rattle.arithmetic.proofs.Counting.{initial, last, count_ext, count-le, count-not}
+use Rattle.std.specs.Prelude.{Some}
 use Rattle.arithmetic.specs.Counting.{bit, count}
 use Rattle.arithmetic.specs.Words.{two_to32}
 use Rattle.model.specs.Ensemble.{max_cabinets}
 use Rattle.held.specs.Held.{value_at}
 use Rattle.ranks.specs.Ranks.{below_number, below_of}
-use Rattle.ranks.proofs.Seeing.{below_of_lem}
+use Rattle.ranks.proofs.Seeing.{below-some}
 use Rattle.thresholds.specs.declared.Range.{Range}
 use Rattle.thresholds.specs.Thresholds.{up_to_number, Taken, Bounds, Splits, misfit, max_unit, guessed}
 
@@ -147,13 +148,13 @@ module _ {values : List ℕ} {k : ℕ} {r : Range} {below within : ℕ} (so_far 
   within-least l = omega (arith, so_far.top)
 
   module _ (few : length values ≤ max_cabinets) {mid number : ℕ} (inside : Inside r mid)
-      (counts : number ≡ below_of values mid) where
+      (counts : Some number ≡ below_of values mid) where
     -- not too many are below the number
     pub narrowing_up : number ≤ k → Narrowing values k (record { low = mid; high = r.high }) number within
     narrowing_up l =
         record {
           ordered = inside.up_to;
-          counted = counts ∙ below_of_lem values mid few;
+          counted = below-some values mid few counts;
           most = l;
           reached = so_far.reached;
           top = so_far.top;
@@ -167,7 +168,7 @@ module _ {values : List ℕ} {k : ℕ} {r : Range} {below within : ℕ} (so_far 
           ordered = omega arith;
           counted = so_far.counted;
           most = so_far.most;
-          reached = counts ∙ below_of_lem values mid few ∙ sym (up-to-before values mid (omega arith));
+          reached = below-some values mid few counts ∙ sym (up-to-before values mid (omega arith));
           top = omega arith;
         }
 

@@ -80,7 +80,7 @@ fn find(values: &[u32], k: u32, all: Range) -> Threshold
     let mut within = values.len() as u32;
     'narrowing: while (rest.low < rest.high) & (below != k) {
         let mid = guess(rest, unit, k - below, within - k);
-        let count = ranks::count_below(values, mid);
+        let count = ranks::count_below(values, mid).unwrap();
         if count <= k {
             rest.low = mid;
             below = count;

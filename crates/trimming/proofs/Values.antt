@@ -96,13 +96,13 @@ module _ {m : ℕ} {marks values numbers : List ℕ} (k : Numbered m marks value
   pub is-summed : (rule : ℕ) {sum : Option ℕ} → sum ≡ dropped_sum rule m marks numbers → IsSome sum
   is-summed rule e = rw (e ∙ sym (summed rule)) refl
 
+  -- the mean of the sum is the new value
   pub value_is :
-      (rule : ℕ) {v sum : ℕ} → Some sum ≡ dropped_sum rule m marks numbers → v ≡ mean_nat (summed_by rule (length marks - 2 * m)) sum
-      → v ≡ up two_to31 (trimmed_in rule m marks values).value
+      (rule : ℕ) {sum : ℕ} → Some sum ≡ dropped_sum rule m marks numbers
+      → mean_nat (summed_by rule (length marks - 2 * m)) sum ≡ up two_to31 (trimmed_in rule m marks values).value
   unfolding trimmed_nat
-  value_is rule s e =
-      e
-      ∙ ap (mean_nat (summed_by rule (length marks - 2 * m))) (some-same (s ∙ sym (summed rule)))
+  value_is rule s =
+      ap (mean_nat (summed_by rule (length marks - 2 * m))) (some-same (s ∙ sym (summed rule)))
       ∙ mean-by (eqb rule trimmed_midpoint) refl
       ∙ sym (up-down two_to31 (trimmed_nat rule (length marks) m (value_at numbers)))
       ∙ ap (up two_to31)
@@ -165,6 +165,12 @@ module _ {m : ℕ} {marks values numbers : List ℕ} (k : Numbered m marks value
       ∙ table_ext (dropped_mark m marks numbers) (mark_at m marks values) (length marks) mark_is
 
 -- ---- what `trim` answers, by whether the lists fit
+
+-- the sum that the rule takes the mean of, and the marks
+pub record Summed (rule m : ℕ) (marks values : List ℕ) (sum : ℕ) (left : List ℕ) : Type 0 where
+  pub mean : mean_nat (summed_by rule (length marks - 2 * m)) sum ≡ up two_to31 (trimmed_in rule m marks values).value
+  pub bound : sum ≤ summed_by rule (length marks - 2 * m) * (two_to32 - 1)
+  pub struck : left ≡ table (mark_at m marks values) (length marks)
 
 module _ (rule m : ℕ) (marks values : List ℕ) where
   pub trimmed-none : unfit_for (length marks) (length values) m ≡ true → nothing ≡ trimmed_of rule m marks values

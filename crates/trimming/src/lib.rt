@@ -44,6 +44,7 @@ fn fill(marks: &[u8], values: &[u32], numbers: &mut [u32])
 
 // The mean of n numbers below 2^32 with this sum, to the nearest, a half going to the even neighbour: the whole part,
 // and 1 more by the remainder.
+// Stays: means::nearest_mean divides 32 bits, as FCA and CCA must (DECISIONS 71 and 87); this sum takes 38 (d).
 fn nearest(n: u64, sum: u64) -> u32
     requires { (0 < n) × (n ≤ max_cabinets) × (sum ≤ n * (two_to32 - 1)) }
     ensures { result ≡ mean_nat n sum }
@@ -79,13 +80,15 @@ fn drop_ends(marks: &mut [u8], numbers: &[u32], m: u8, rule: u8) -> Option<u64>
     }
 }
 
-// Drops the m lowest and the m highest of at most N readings: the new value, moved up by 2^31, and the marks of the
-// answer sheet.
-fn trim_fitting<const N: usize>(marks: &mut [u8], values: &[u32], m: u8, rule: u8) -> u32
+// Drops the m lowest and the m highest of at most N readings: the sum that the rule takes the mean of, and the marks of
+// the answer sheet.
+fn trim_fitting<const N: usize>(marks: &mut [u8], values: &[u32], m: u8, rule: u8) -> u64
     requires room { N ≤ max_cabinets }
     requires marks_len_bound { (length marks.old ≤ N) × (2 * m < length marks.old) }
     requires values_len { length values.now ≡ length marks.old }
-    ensures value { result ≡ up two_to31 (trimmed_in rule m marks.old values.now).value }
+    ensures mean { mean_nat (summed_by rule (length marks.old - 2 * m)) result
+        ≡ up two_to31 (trimmed_in rule m marks.old values.now).value }
+    ensures sum_bound { result ≤ summed_by rule (length marks.old - 2 * m) * (two_to32 - 1) }
     ensures marks_after { marks.new
         ≡ table (mark_at m marks.old values.now) (length marks.old) }
 {
@@ -93,12 +96,13 @@ fn trim_fitting<const N: usize>(marks: &mut [u8], values: &[u32], m: u8, rule: u
     let mut places = [0u32; N];
     let numbers = &mut places[..n];
     fill(&*marks, values, &mut *numbers);
-    let sum = drop_ends(marks, &*numbers, m, rule).unwrap();
-    settle_value(rule, sum, (n - 2 * (m as usize)) as u64)
+    drop_ends(marks, &*numbers, m, rule).unwrap()
 }
 
 // The round of at most 64 readings by rule 2, or else by rule 3: the marks say which readings are kept. Where the lists
 // do not fit, or none is left, nothing is counted and the marks are left as they are.
+// Stays: the rule is its byte of document 01's sheet, and docs/changes/05 names the function (a).
+// Stays: all 0 is what evaluate of estimates gives of no reading too; settling sees that the lists fit (d).
 pub fn trim(marks: &mut [u8], values: &[u32], m: u8, rule: u8) -> Estimated
     ensures value { result ≡ trimmed_of rule m marks.old values.now }
     ensures marks_after { marks.new ≡ trimmed_marks m marks.old values.now }
@@ -112,13 +116,15 @@ pub fn trim(marks: &mut [u8], values: &[u32], m: u8, rule: u8) -> Estimated
             value: 0,
         };
     }
-    let value = if n <= FEW {
+    let sum = if n <= FEW {
         trim_fitting::<FEW>(&mut *marks, values, m, rule)
     } else {
         trim_fitting::<64>(&mut *marks, values, m, rule)
     };
+    let left = n - 2 * (m as usize);
+    let value = settle_value(rule, sum, left as u64);
     Estimated {
-        count: (n - 2 * (m as usize)) as u32,
+        count: left as u32,
         estimate: value,
         value,
     }

@@ -1,84 +1,52 @@
--- The tests say whether the sizes fit, and where they do all is heard.
-use Rattle.std.proofs.Common.{sym, ◌∙◌, length, arith}
-use Rattle.hearing.proofs.Audible.{audible-fits, marks-not, values-not, marks-heard, values-heard}
+-- Where the sizes fit all is heard, and else nothing is changed.
+use Rattle.std.proofs.Common.{length, arith}
+use Rattle.std.proofs.lemmas.Grind.{common_steps}
+use Rattle.hearing.specs.Heard.{audible}
+use Rattle.hearing.proofs.Audible.{marks-not, values-not, marks-heard, values-heard}
 use Rattle.hearing.proofs.hear.Goals as goal
 
-pub returns-then-not-fits-clause-marks_after : goal.returns-then-not-fits-clause-marks_after
-returns-then-not-fits-clause-marks_after c =
+pub returns-in_default-clause-marks_after : goal.returns-in_default-clause-marks_after
+returns-in_default-clause-marks_after c =
     let a = c.args in
     marks-not a.roles.now a.held.now a.sent.now a.readings.now a.p a.marks.now a.values.now
-    (sym c.fits.ensures ∙ c.if-not-fits.true)
+    (c.in_default.ensures a.p (length a.marks.now) (length a.values.now))
 
-pub returns-then-not-fits-clause-values_after : goal.returns-then-not-fits-clause-values_after
-returns-then-not-fits-clause-values_after c =
+pub returns-in_default-clause-values_after : goal.returns-in_default-clause-values_after
+returns-in_default-clause-values_after c =
     let a = c.args in
     values-not a.roles.now a.held.now a.sent.now a.readings.now a.p a.marks.now a.values.now
-    (sym c.fits.ensures ∙ c.if-not-fits.true)
+    (c.in_default.ensures a.p (length a.marks.now) (length a.values.now))
 
-pub hear_each-requires-clause-roles_len_bound : goal.hear_each-requires-clause-roles_len_bound
-hear_each-requires-clause-roles_len_bound c =
+pub returns-then-p-n-clause-marks_after : goal.returns-then-p-n-clause-marks_after
+unfolding audible
+returns-then-p-n-clause-marks_after c =
     let a = c.args in
-    let f =
-    audible-fits (length a.roles.now) (length a.held.now) (length a.sent.now) (length a.readings.now) a.p
-    (length a.marks.now)
-    (length a.values.now)
-    (sym c.fits.ensures ∙ c.if-not-fits.false) in
-    (f.few, f.one)
-
-pub hear_each-requires-clause-held_len : goal.hear_each-requires-clause-held_len
-hear_each-requires-clause-held_len c =
-    let a = c.args in
-    let f =
-    audible-fits (length a.roles.now) (length a.held.now) (length a.sent.now) (length a.readings.now) a.p
-    (length a.marks.now)
-    (length a.values.now)
-    (sym c.fits.ensures ∙ c.if-not-fits.false) in
-    f.values-held
-
-pub hear_each-requires-clause-sent_len : goal.hear_each-requires-clause-sent_len
-hear_each-requires-clause-sent_len c =
-    let a = c.args in
-    let f =
-    audible-fits (length a.roles.now) (length a.held.now) (length a.sent.now) (length a.readings.now) a.p
-    (length a.marks.now)
-    (length a.values.now)
-    (sym c.fits.ensures ∙ c.if-not-fits.false) in
-    f.pairs
-
-pub hear_each-requires-clause-readings_len : goal.hear_each-requires-clause-readings_len
-hear_each-requires-clause-readings_len c =
-    let a = c.args in
-    let f =
-    audible-fits (length a.roles.now) (length a.held.now) (length a.sent.now) (length a.readings.now) a.p
-    (length a.marks.now)
-    (length a.values.now)
-    (sym c.fits.ensures ∙ c.if-not-fits.false) in
-    omega (arith, f.bytes, f.pairs)
-
-pub hear_each-requires-clause-roles_in_bounds : goal.hear_each-requires-clause-roles_in_bounds
-hear_each-requires-clause-roles_in_bounds c =
-    let a = c.args in
-    let f =
-    audible-fits (length a.roles.now) (length a.held.now) (length a.sent.now) (length a.readings.now) a.p
-    (length a.marks.now)
-    (length a.values.now)
-    (sym c.fits.ensures ∙ c.if-not-fits.false) in
-    (omega (arith, f.mark-room), omega (arith, f.value_room))
-
-pub returns-clause-marks_after : goal.returns-clause-marks_after
-returns-clause-marks_after c =
-    let a = c.args in
+    let same = c.in-Some.ensures in
+    let heard = rw (same.0, same.1, same.2, same.3) at c.hear_each.ensures in
     marks-heard a.roles.now a.held.now a.sent.now a.readings.now a.p a.marks.now a.values.now
-    (sym c.fits.ensures ∙ c.if-not-fits.false)
-    c.hear_each.new.marks
-    c.hear_each.new.values
-    c.hear_each.ensures
+    (grind (arith, common_steps))
+    c.hear_each.new.marks c.hear_each.new.values heard
 
-pub returns-clause-values_after : goal.returns-clause-values_after
-returns-clause-values_after c =
+pub returns-then-p-n-clause-values_after : goal.returns-then-p-n-clause-values_after
+unfolding audible
+returns-then-p-n-clause-values_after c =
     let a = c.args in
+    let same = c.in-Some.ensures in
+    let heard = rw (same.0, same.1, same.2, same.3) at c.hear_each.ensures in
     values-heard a.roles.now a.held.now a.sent.now a.readings.now a.p a.marks.now a.values.now
-    (sym c.fits.ensures ∙ c.if-not-fits.false)
-    c.hear_each.new.marks
-    c.hear_each.new.values
-    c.hear_each.ensures
+    (grind (arith, common_steps))
+    c.hear_each.new.marks c.hear_each.new.values heard
+
+pub returns-else-p-n-clause-marks_after : goal.returns-else-p-n-clause-marks_after
+unfolding audible
+returns-else-p-n-clause-marks_after c =
+    let a = c.args in
+    marks-not a.roles.now a.held.now a.sent.now a.readings.now a.p a.marks.now a.values.now
+    (grind (arith, common_steps))
+
+pub returns-else-p-n-clause-values_after : goal.returns-else-p-n-clause-values_after
+unfolding audible
+returns-else-p-n-clause-values_after c =
+    let a = c.args in
+    values-not a.roles.now a.held.now a.sent.now a.readings.now a.p a.marks.now a.values.now
+    (grind (arith, common_steps))

@@ -1,5 +1,5 @@
 -- What settling a round leaves on the trace's parts is the run's round.
-use Rattle.std.proofs.Common.{◌≡◌, sym, ap, ◌∙◌, ℕ, List, ◌+◌, ◌*◌, arith}
+use Rattle.std.proofs.Common.{◌≡◌, sym, ap, ◌∙◌, ℕ, List, ◌+◌, ◌*◌, length, arith}
 use Rattle.trace.specs.Trace.{trace_header_size, rounds_at, trace_entries}
 use Rattle.trace_parts.specs.Parts.{part_from}
 use Rattle.playing.proofs.Turn.{roles-room, next-long, round-stops, round-passes}
@@ -21,10 +21,14 @@ readings-are trace n rounds k readings all e =
     part_from trace (trace_header_size + 5 * n + trace_entries n r + 4 * trace_entries n k) (4 * trace_entries n 1))
     all
 
-pub returns-then-refused-settings : goal.returns-then-refused-settings
-returns-then-refused-settings c =
+pub returns-in-Some-clause-played : goal.returns-in-Some-clause-played
+returns-in-Some-clause-played c =
     let a = c.args in
-    let r = c.settle_round-refused in
+    let room = roles-room a.trace.now (λ j. (c.type_inv.trace j).fits) c.requires.playable.0 a.k
+    (omega (arith, c.requires.rounds_value.0, c.requires.rounds_value.1)) a.settings c.requires.playable.1
+    c.roles-roles.result.now c.marks-sent.result.now c.readings-readings.result.now
+    c.roles-roles.ensures c.marks-sent.ensures
+    (readings-are a.trace.now a.settings.n a.rounds a.k _ c.requires.rounds_value.0 c.readings-readings.ensures) in
     round-stops a.trace.now (λ j. (c.type_inv.trace j).fits) c.requires.playable.0 a.k
     (omega (arith, c.requires.rounds_value.0, c.requires.rounds_value.1)) a.settings c.requires.playable.1
     c.roles-roles.result.now c.marks-sent.result.now c.readings-readings.result.now
@@ -35,24 +39,32 @@ returns-then-refused-settings c =
     c.requires.next_len.1
     c.requires.next_len.0
     c.requires.held_to
-    r.result
-    r.new.next
-    r.ensures.value
-    r.ensures.next_after
-    c.if-refused-settings.true
+    c.in-Some.p
+    c.settle_round-refused.new.next
+    c.in-Some.ensures.value
+    c.in-Some.ensures.next_after
+    (omega (arith, room, c.in-Some.ensures.one))
+
+pub returns-in-Some-clause-one : goal.returns-in-Some-clause-one
+returns-in-Some-clause-one c =
+    let a = c.args in
+    let room = roles-room a.trace.now (λ j. (c.type_inv.trace j).fits) c.requires.playable.0 a.k
+    (omega (arith, c.requires.rounds_value.0, c.requires.rounds_value.1)) a.settings c.requires.playable.1
+    c.roles-roles.result.now c.marks-sent.result.now c.readings-readings.result.now
+    c.roles-roles.ensures c.marks-sent.ensures
+    (readings-are a.trace.now a.settings.n a.rounds a.k _ c.requires.rounds_value.0 c.readings-readings.ensures) in
+    omega (arith, room, c.in-Some.ensures.one)
 
 pub take_over-requires : goal.take_over-requires
 take_over-requires c =
     let a = c.args in
     let r = c.settle_round-refused in
-    let room =
-    roles-room a.trace.now (λ j. (c.type_inv.trace j).fits) c.requires.playable.0 a.k
+    let room = roles-room a.trace.now (λ j. (c.type_inv.trace j).fits) c.requires.playable.0 a.k
     (omega (arith, c.requires.rounds_value.0, c.requires.rounds_value.1)) a.settings c.requires.playable.1
     c.roles-roles.result.now c.marks-sent.result.now c.readings-readings.result.now
     c.roles-roles.ensures c.marks-sent.ensures
     (readings-are a.trace.now a.settings.n a.rounds a.k _ c.requires.rounds_value.0 c.readings-readings.ensures) in
-    let long =
-    next-long a.trace.now (λ j. (c.type_inv.trace j).fits) c.requires.playable.0 a.k
+    let long = next-long a.trace.now (λ j. (c.type_inv.trace j).fits) c.requires.playable.0 a.k
     (omega (arith, c.requires.rounds_value.0, c.requires.rounds_value.1)) a.settings c.requires.playable.1
     c.roles-roles.result.now c.marks-sent.result.now c.readings-readings.result.now
     c.roles-roles.ensures c.marks-sent.ensures
@@ -62,17 +74,23 @@ take_over-requires c =
     c.requires.next_len.1
     c.requires.next_len.0
     c.requires.held_to
-    r.result
+    _
     r.new.next
     r.ensures.value
     r.ensures.next_after in
     (long ∙ sym room, c.requires.next_len.1 ∙ sym room)
 
-pub returns : goal.returns
-returns c =
+pub returns-clause-played : goal.returns-clause-played
+returns-clause-played c =
     let a = c.args in
     let r = c.settle_round-refused in
-    round-passes a.trace.now (λ j. (c.type_inv.trace j).fits) c.requires.playable.0 a.k
+    let room = roles-room a.trace.now (λ j. (c.type_inv.trace j).fits) c.requires.playable.0 a.k
+    (omega (arith, c.requires.rounds_value.0, c.requires.rounds_value.1)) a.settings c.requires.playable.1
+    c.roles-roles.result.now c.marks-sent.result.now c.readings-readings.result.now
+    c.roles-roles.ensures c.marks-sent.ensures
+    (readings-are a.trace.now a.settings.n a.rounds a.k _ c.requires.rounds_value.0 c.readings-readings.ensures) in
+    rw room at
+    (round-passes a.trace.now (λ j. (c.type_inv.trace j).fits) c.requires.playable.0 a.k
     (omega (arith, c.requires.rounds_value.0, c.requires.rounds_value.1)) a.settings c.requires.playable.1
     c.roles-roles.result.now c.marks-sent.result.now c.readings-readings.result.now
     c.roles-roles.ensures c.marks-sent.ensures
@@ -82,10 +100,10 @@ returns c =
     c.requires.next_len.1
     c.requires.next_len.0
     c.requires.held_to
-    r.result
+    (length c.roles-roles.result.now)
     r.new.next
-    r.ensures.value
+    c.in_default.ensures.value
     r.ensures.next_after
-    c.if-refused-settings.false
+    (omega (arith, room))
     c.take_over.new.held
-    c.take_over.ensures
+    c.take_over.ensures)

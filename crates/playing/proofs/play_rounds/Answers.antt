@@ -13,8 +13,8 @@ rounds-init c =
     let a = c.args in
     going_first a.trace.now a.most a.settings a.held.now c.requires.playable.1 c.requires.held_to
 
-pub play_round-refused-requires-clause-rounds_value : goal.play_round-refused-requires-clause-rounds_value
-play_round-refused-requires-clause-rounds_value c =
+pub play_round-requires-clause-rounds_value : goal.play_round-requires-clause-rounds_value
+play_round-requires-clause-rounds_value c =
     let a = c.args in
     let asked = c.requires.rounds_value in
     let early = c.rounds-test.true in
@@ -27,8 +27,8 @@ play_round-refused-requires-clause-rounds_value c =
     c.rounds.invariant.long ∙ asked.2 ∙ ap (λ (d : Settings). d.n) c.requires.playable.1 ∙ sym same in
     (asked.0, omega (arith, early, asked.1), long)
 
-pub play_round-refused-requires-clause-n_le_max_cabinets : goal.play_round-refused-requires-clause-n_le_max_cabinets
-play_round-refused-requires-clause-n_le_max_cabinets c =
+pub play_round-requires-clause-n_le_max_cabinets : goal.play_round-requires-clause-n_le_max_cabinets
+play_round-requires-clause-n_le_max_cabinets c =
     let a = c.args in
     let asked = c.requires.rounds_value in
     let early = c.rounds-test.true in
@@ -39,31 +39,39 @@ play_round-refused-requires-clause-n_le_max_cabinets c =
     c.rounds.plan.settings own in
     (small, c.rounds.invariant.holds)
 
-pub returns-then-refused-settings : goal.returns-then-refused-settings
-returns-then-refused-settings c =
+pub returns-in-Some : goal.returns-in-Some
+returns-in-Some c =
     let a = c.args in
-    rw c.stop_place.ensures
-    (stops-here a.trace.now c.rounds.k c.play_round-refused.result a.most
-    c.play_round-refused.new.held
-    c.play_round-refused.ensures
-    (omega (arith, c.if-refused-settings.true, ap (λ (d : Settings). d.n) c.requires.playable.1))
+    let soon : c.rounds.k < rounds_at a.trace.now = omega (arith, c.rounds-test.true, c.requires.rounds_value.0, c.requires.rounds_value.1) in
+    let same =
+    cabinets a.trace.now (λ j. (c.type_inv.trace j).fits) c.requires.playable.0 c.rounds.k soon
+    c.rounds.plan.settings (ap (λ (p : Plan). p.settings) c.rounds.invariant.planned) in
+    rw (c.refuse_at.ensures, c.stop_place-place.ensures)
+    (stops-here a.trace.now c.rounds.k c.in-Some.p a.most
+    c.play_round.new.held
+    c.in-Some.ensures.played
+    (omega (arith, c.in-Some.ensures.one, same))
     c.rounds.invariant.before
     c.rounds-test.true)
 
 pub rounds-preserved : goal.rounds-preserved
 rounds-preserved c =
     let a = c.args in
+    let soon : c.rounds.k < rounds_at a.trace.now = omega (arith, c.rounds-test.true, c.requires.rounds_value.0, c.requires.rounds_value.1) in
+    let same =
+    cabinets a.trace.now (λ j. (c.type_inv.trace j).fits) c.requires.playable.0 c.rounds.k soon
+    c.rounds.plan.settings (ap (λ (p : Plan). p.settings) c.rounds.invariant.planned) in
     going_next a.trace.now a.most (length a.held.now) (plan_of c.rounds.plan) (plan_of c.stepped-plan.result)
     c.rounds.k
-    c.play_round-refused.result
+    c.rounds.plan.settings.n
     c.rounds.held
-    c.play_round-refused.new.held
+    c.play_round.new.held
     c.rounds.invariant
     c.rounds-test.true
-    c.play_round-refused.ensures
-    (omega (arith, c.if-refused-settings.false, ap (λ (d : Settings). d.n) c.requires.playable.1))
+    c.in_default.ensures.played
+    (omega (arith, same))
     c.stepped-plan.ensures
-    c.play_round-refused.auto.held
+    c.play_round.auto.held
 
 pub returns : goal.returns
 returns c =

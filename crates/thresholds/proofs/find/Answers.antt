@@ -1,5 +1,6 @@
 -- The range begins as that of all numbers; what is looked at lies in it, and by the count it is one end or the other.
-use Rattle.std.proofs.Common.{◌<◌, arith}
+use Rattle.std.proofs.Common.{◌<◌, sym, ◌∙◌, arith}
+use Rattle.ranks.proofs.Seeing.{below-is_some}
 use Rattle.thresholds.proofs.Narrowing.{Inside, narrowing_start, within-most, narrowing_up, narrowing_down}
 use Rattle.thresholds.proofs.Narrowing.{guessed-within, still-wide}
 use Rattle.thresholds.proofs.find.Goals as goal
@@ -21,6 +22,9 @@ guess-mid-requires c =
     let few = c.requires.values_len_bound.0 in
     (wide c, omega arith, omega (arith, most, few, c.narrowing.invariant.most))
 
+pub unwrap-count-requires : goal.unwrap-count-requires
+unwrap-count-requires c = below-is_some c.args.values.now _ c.requires.values_len_bound.0 c.count_below.ensures
+
 pub narrowing-smaller-then-count-k : goal.narrowing-smaller-then-count-k
 narrowing-smaller-then-count-k c = omega (arith, inside (goal.at.narrowing-smaller-then-count-k c).After-guess-mid)
 
@@ -30,7 +34,7 @@ narrowing-preserved-then-count-k c =
     c.narrowing.invariant
     c.requires.values_len_bound.0
     (inside (goal.at.narrowing-preserved-then-count-k c).After-guess-mid)
-    c.count_below-count.ensures
+    (sym c.unwrap-count.ensures ∙ c.count_below.ensures)
     c.if-count-k.true
 
 pub overflow_sub-rest : goal.overflow_sub-rest
@@ -45,5 +49,5 @@ narrowing-preserved c =
     c.narrowing.invariant
     c.requires.values_len_bound.0
     (inside (goal.at.narrowing-preserved c).After-guess-mid)
-    c.count_below-count.ensures
+    (sym c.unwrap-count.ensures ∙ c.count_below.ensures)
     c.if-count-k.false

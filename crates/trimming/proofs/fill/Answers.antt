@@ -7,27 +7,11 @@ use Rattle.trimming.proofs.fill.Goals as goal
 pub readings-init : goal.readings-init
 readings-init c =
     let a = c.args in
-    record {
-      even = c.requires.0;
-      stores =
-          storing_none (number_in a.marks.now a.values.now) (length a.marks.now) a.numbers.now c.requires.1;
-    }
+    storing_none (number_in a.marks.now a.values.now) (length a.marks.now) a.numbers.now c.requires.1
 
 pub readings-preserved : goal.readings-preserved
 readings-preserved c =
     let a = c.args in
     let m = c.readings in
-    record {
-      even = m.invariant.even;
-      stores =
-          storing_next
-          (number_in a.marks.now a.values.now)
-          (length a.marks.now)
-          a.numbers.now
-          m.numbers
-          m.r
-          m.invariant.stores
-          c.readings-test.true
-          c.number.result
-          c.number.ensures;
-    }
+    storing_next (number_in a.marks.now a.values.now) (length a.marks.now) a.numbers.now m.numbers m.r m.invariant
+    c.readings-test.true c.number.result c.number.ensures

@@ -19,18 +19,32 @@ pub fn has_room(n: usize, values: usize, room: usize) -> bool
     n <= MAX_CABINETS as usize && values == n && ANSWER_HEADER_SIZE + 5 * n <= room
 }
 
-// Bytes 0 to 9, of numbers given by their bits, where the buffer has room for them.
+// The count of a settled round, and its estimate and new value, both moved up by 2^31.
+#[derive(Clone, Copy)]
+pub struct Outcome {
+    pub count: u8,
+    pub estimate: u32,
+    pub value: u32,
+}
+
+// Bytes 0 to 9, where the buffer has room for them.
 #[tactic(auto, unfolding(crate::specs::Parts::headed))]
-pub fn put_header(n: u8, count: u8, estimate: u32, value: u32, answer: &mut [u8])
-    ensures { answer.new ≡ headed n count estimate value answer.old }
+pub fn put_header(n: u8, outcome: Outcome, answer: &mut [u8])
+    ensures { answer.new
+        ≡ headed
+        n
+        outcome.count
+        (of_z w32 (down two_to31 outcome.estimate))
+        (of_z w32 (down two_to31 outcome.value))
+        answer.old }
 {
     if answer.len() < ANSWER_HEADER_SIZE {
         return;
     }
     answer[0] = n;
-    answer[1] = count;
-    word_writer::put_word(answer, 2, estimate);
-    word_writer::put_word(answer, 6, value);
+    answer[1] = outcome.count;
+    word_writer::put_word(answer, 2, held::unbias(outcome.estimate));
+    word_writer::put_word(answer, 6, held::unbias(outcome.value));
 }
 
 // The bits of the value used for a cabinet: its own reading where that is accepted, else the estimate.

@@ -5,7 +5,9 @@ use mathlib.Core.List.{List, ◌++◌, append_assoc}
 use mathlib.Core.Path.{◌≡◌, refl, sym, ap, ap₂, ◌∙◌}
 use Prim.Native.Nat.{ℕ, ◌+◌, ◌-◌, ◌≤◌}
 use borrow.Author.Tests.{le-leb}
-use lib.ListN.{length, take, drop, length-append}
+use native.Mathlib.Omega.{arith}
+use lib.ListN.{length, take, drop, length-append, length-drop}
+use lib.Seq.{length-take-le}
 use mir.Syntax.{w32}
 use mir.Val.{of_z}
 use Rattle.arithmetic.specs.Writing.{table, overwrite}
@@ -14,7 +16,7 @@ use Rattle.arithmetic.specs.Words.{two_to31}
 use Rattle.arithmetic.proofs.Writing.{table_get_d}
 use Rattle.model.specs.RoundSheet.{bytes4, reading_bytes}
 use Rattle.model.specs.AnswerSheet.{header_bytes, answer_header, answer_bytes, answer_header_size}
-use Rattle.sheet_laws.proofs.Storing.{copy_overwrites, tail_written}
+use Rattle.sheet_laws.proofs.Storing.{tail_written}
 use Rattle.answer_parts.specs.Parts.{roomy, headed}
 use Rattle.answer_writer.specs.Answers.{used_in, round_held, written_of}
 
@@ -40,6 +42,9 @@ spliced k b t = take k b ++ (t ++ drop (length b - k) (drop k b))
 abbrev pub lent : ℕ → List ℕ → List ℕ
 lent k b = take (length b - k) (drop k b)
 
+pub length-lent : (k : ℕ) (b : List ℕ) → length (lent k b) ≡ length b - k
+length-lent k b = length-take-le (length b - k) (drop k b) (let d = length-drop k b in omega arith)
+
 module _ (marks values old : List ℕ) (count e v : ℕ) where
   header : List ℕ
   header = header_bytes (length marks) count (of_z w32 (down two_to31 e)) (of_z w32 (down two_to31 v))
@@ -60,8 +65,7 @@ module _ (marks values old : List ℕ) (count e v : ℕ) where
       → (after-header marked filled : List ℕ)
       → answer_header_size ≤ length old
       → after-header ≡ headed (length marks) count e-bits v-bits old
-      → marked
-      ≡ take (length marks) marks ++ drop (length marks) (lent answer_header_size after-header)
+      → marked ≡ overwrite marks (lent answer_header_size after-header)
       → filled
       ≡ overwrite (reading_bytes (table (used_in marks values e) (length marks)))
       (lent (answer_header_size + length marks) (spliced answer_header_size after-header marked))
@@ -76,7 +80,7 @@ module _ (marks values old : List ℕ) (count e v : ℕ) where
       (h
       ∙ header-put (length marks) count e-bits v-bits old large
       ∙ ap₂ (λ (a d : ℕ). overwrite (header_bytes (length marks) count a d) old) p q)
-      (r ∙ copy_overwrites marks (lent answer_header_size after-header)))
+      r)
       u
       ∙ ap (λ (x : List ℕ). overwrite x old) answer-parts
     where

@@ -1,7 +1,7 @@
 // Writes the answer sheet of a settled round, of which the marks and the values are held beside each other.
 #![tactic(auto)]
 
-ghost use Rattle.std.specs.Prelude.{◌≡◌, ◌+◌, ◌*◌, ◌≤◌, ◌++◌, length, drop};
+ghost use Rattle.std.specs.Prelude.{◌≡◌, ◌+◌, ◌*◌, ◌≤◌, length};
 ghost use Rattle.arithmetic.specs.Writing.{table, overwrite};
 ghost use Rattle.model.specs.RoundSheet.{reading_bytes};
 ghost use Rattle.sheet_laws.specs.Storing.{put_word};
@@ -10,6 +10,7 @@ ghost use Rattle.model.specs.Ensemble.{max_cabinets};
 ghost use Rattle.answer_parts.specs.Parts.{roomy};
 ghost use Rattle.answer_writer.specs.Answers.{used_in, round_held, written_of};
 
+use answer_parts::Outcome;
 use model::ANSWER_HEADER_SIZE;
 
 // Stores the four bytes of x as number r of a list of numbers.
@@ -20,14 +21,6 @@ fn store(tail: &mut [u8], r: usize, x: u32)
     ensures { tail.new ≡ put_word tail.old (4 * r) x }
 {
     tail[4 * r..4 * r + 4].copy_from_slice(&x.to_le_bytes());
-}
-
-// Puts the marks at the front of a list that has room for them.
-fn copy(marks: &[u8], tail: &mut [u8])
-    requires { length marks.now ≤ length tail.old }
-    ensures { tail.new ≡ marks.now ++ drop (length marks.now) tail.old }
-{
-    tail[..marks.len()].copy_from_slice(marks);
 }
 
 // Fills the tail of the answer sheet with the used values.
@@ -46,48 +39,35 @@ fn put_used(marks: &[u8], values: &[u32], estimate: u32, tail: &mut [u8])
 }
 
 // The header, the marks behind it, and the used values in the tail from byte 10 + N on.
-fn put_parts(count: u8, estimate: u32, value: u32, marks: &[u8], values: &[u32], answer: &mut [u8])
+fn put_parts(outcome: Outcome, marks: &[u8], values: &[u32], answer: &mut [u8])
     requires few_marks { (length marks.now ≤ max_cabinets) × (length values.now ≡ length marks.now) }
     requires room { answer_length (length marks.now) ≤ length answer.old }
     ensures { answer.new
         ≡ overwrite
         (answer_bytes
         (length marks.now)
-        (round_held count estimate value marks.now values.now))
+        (round_held outcome.count outcome.estimate outcome.value marks.now values.now))
         answer.old }
 {
     let n = marks.len();
-    answer_parts::put_header(
-        n as u8,
-        count,
-        held::unbias(estimate),
-        held::unbias(value),
-        answer,
-    );
-    copy(marks, &mut answer[ANSWER_HEADER_SIZE..]);
+    answer_parts::put_header(n as u8, outcome, answer);
+    part_writer::put_part(marks, &mut answer[ANSWER_HEADER_SIZE..]);
     let tail = ANSWER_HEADER_SIZE + n;
-    put_used(marks, values, estimate, &mut answer[tail..]);
+    put_used(marks, values, outcome.estimate, &mut answer[tail..]);
 }
 
 // The answer sheet of a settled round. Where there are not as many values as marks, or the buffer has no room, it
 // writes nothing and answers false.
 #[tactic(auto, unfolding(answer_parts::specs::Parts::roomy, crate::specs::Answers::written_of))]
-pub fn put_answer(
-    count: u8,
-    estimate: u32,
-    value: u32,
-    marks: &[u8],
-    values: &[u32],
-    answer: &mut [u8],
-) -> bool
+pub fn put_answer(outcome: Outcome, marks: &[u8], values: &[u32], answer: &mut [u8]) -> bool
     ensures value { result
         ≡ roomy (length marks.now) (length values.now) (length answer.old) }
     ensures answer_after { answer.new
-        ≡ written_of count estimate value marks.now values.now answer.old }
+        ≡ written_of outcome.count outcome.estimate outcome.value marks.now values.now answer.old }
 {
     if !answer_parts::has_room(marks.len(), values.len(), answer.len()) {
         return false;
     }
-    put_parts(count, estimate, value, marks, values, answer);
+    put_parts(outcome, marks, values, answer);
     true
 }

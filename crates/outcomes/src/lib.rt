@@ -6,24 +6,23 @@ ghost use Rattle.model.specs.Refusals.{too_many_faults};
 ghost use Rattle.refusals.specs.Answers.{check_of};
 ghost use Rattle.outcomes.specs.Outcomes.{concluded};
 
+use answer_parts::Outcome;
 use refusals::{Reason, Refusal};
 
 // The answer sheet is written where some reading is accepted. Where none is, nothing is, and check 10 refuses.
 pub fn conclude(
-    count: u8,
-    estimate: u32,
-    value: u32,
+    outcome: Outcome,
     marks: &[u8],
     values: &[u32],
     answer: &mut [u8],
 ) -> Result<(), Refusal>
-    ensures check_10 { check_of result ≡ too_many_faults count }
+    ensures check_10 { check_of result ≡ too_many_faults outcome.count }
     ensures answer_after { answer.new
-        ≡ concluded count estimate value marks.now values.now answer.old }
+        ≡ concluded outcome.count outcome.estimate outcome.value marks.now values.now answer.old }
 {
-    if count == 0 {
+    if outcome.count == 0 {
         return Err(Reason::TooManyFaults.into());
     }
-    answer_writer::put_answer(count, estimate, value, marks, values, answer);
+    answer_writer::put_answer(outcome, marks, values, answer);
     Ok(())
 }

@@ -12,6 +12,7 @@ ghost use Rattle.refusals.specs.Answers.{outcome_of};
 ghost use Rattle.settling.specs.Rounds.{Ready, spread_of, settling_by, numbers_of, marks_of};
 ghost use Rattle.reception.specs.Receiving.{values_received};
 
+use answer_parts::Outcome;
 use estimates::Estimated;
 use model::{CCA, Settings, TRIMMED_MIDPOINT};
 use refusals::{Reason, Refusal};
@@ -106,14 +107,12 @@ fn settle_in(
         ≡ settle_spread sheet.now (spread_of settings span) answer.old }
 {
     let settled = settle_by(sheet, settings, span, &mut *marks, &mut *values);
-    outcomes::conclude(
-        settled.count as u8,
-        settled.estimate,
-        settled.value,
-        &*marks,
-        &*values,
-        answer,
-    )
+    let outcome = Outcome {
+        count: settled.count as u8,
+        estimate: settled.estimate,
+        value: settled.value,
+    };
+    outcomes::conclude(outcome, &*marks, &*values, answer)
 }
 
 // The same, with places of its own.

@@ -1,5 +1,5 @@
 -- From the first readings on, as many rounds as are asked for and there.
-use Rattle.std.proofs.Common.{ap, ◌∙◌, min, length, arith}
+use Rattle.std.proofs.Common.{ap, ◌∙◌, length, arith}
 use Rattle.model.specs.declared.Settings.{Settings}
 use Rattle.playing.proofs.Rounds.{first-held}
 use Rattle.playing.proofs.Outcomes.{playable-few}
@@ -16,6 +16,3 @@ play_rounds-requires-clause-held_to c =
     let same = c.requires.2 ∙ ap (λ (d : Settings). d.n) c.requires.1 in
     first-held a.trace.now (λ j. (c.type_inv.trace j).fits) (length a.held.now) same c.first_readings.new.held
     c.first_readings.ensures
-
-pub returns : goal.returns
-returns c = rw (c.rounds_to_play-most.ensures ∙ ap (min c.args.most) c.byte_at-rounds.ensures) at c.play_rounds.ensures

@@ -2,6 +2,7 @@
 use Rattle.std.proofs.Common.{◌≡◌, sym, ap, ◌∙◌, ℕ, List, ◌+◌, ◌*◌, length, arith}
 use Rattle.trace.specs.Trace.{trace_header_size, rounds_at, trace_entries}
 use Rattle.trace_parts.specs.Parts.{part_from}
+use Rattle.playing.proofs.Parting.{few}
 use Rattle.playing.proofs.Turn.{roles-room, next-long, round-stops, round-passes}
 use Rattle.playing.proofs.play_in.Goals as goal
 
@@ -21,8 +22,21 @@ readings-are trace n rounds k readings all e =
     part_from trace (trace_header_size + 5 * n + trace_entries n r + 4 * trace_entries n k) (4 * trace_entries n 1))
     all
 
-pub returns-in-Some-clause-played : goal.returns-in-Some-clause-played
-returns-in-Some-clause-played c =
+pub overflow_cast-result : goal.overflow_cast-result
+overflow_cast-result c =
+    let a = c.args in
+    let room = roles-room a.trace.now (λ j. (c.type_inv.trace j).fits) c.requires.playable.0 a.k
+    (omega (arith, c.requires.rounds_value.0, c.requires.rounds_value.1)) a.settings c.requires.playable.1
+    c.roles-roles.result.now c.marks-sent.result.now c.readings-readings.result.now
+    c.roles-roles.ensures c.marks-sent.ensures
+    (readings-are a.trace.now a.settings.n a.rounds a.k _ c.requires.rounds_value.0 c.readings-readings.ensures) in
+    let small =
+    few a.trace.now (λ j. (c.type_inv.trace j).fits) c.requires.playable.0 a.k
+    (omega (arith, c.requires.rounds_value.0, c.requires.rounds_value.1)) a.settings c.requires.playable.1 in
+    omega (arith, room, small, c.in-Some.ensures.one)
+
+pub returns-in-Some : goal.returns-in-Some
+returns-in-Some c =
     let a = c.args in
     let room = roles-room a.trace.now (λ j. (c.type_inv.trace j).fits) c.requires.playable.0 a.k
     (omega (arith, c.requires.rounds_value.0, c.requires.rounds_value.1)) a.settings c.requires.playable.1
@@ -44,16 +58,6 @@ returns-in-Some-clause-played c =
     c.in-Some.ensures.value
     c.in-Some.ensures.next_after
     (omega (arith, room, c.in-Some.ensures.one))
-
-pub returns-in-Some-clause-one : goal.returns-in-Some-clause-one
-returns-in-Some-clause-one c =
-    let a = c.args in
-    let room = roles-room a.trace.now (λ j. (c.type_inv.trace j).fits) c.requires.playable.0 a.k
-    (omega (arith, c.requires.rounds_value.0, c.requires.rounds_value.1)) a.settings c.requires.playable.1
-    c.roles-roles.result.now c.marks-sent.result.now c.readings-readings.result.now
-    c.roles-roles.ensures c.marks-sent.ensures
-    (readings-are a.trace.now a.settings.n a.rounds a.k _ c.requires.rounds_value.0 c.readings-readings.ensures) in
-    omega (arith, room, c.in-Some.ensures.one)
 
 pub take_over-requires : goal.take_over-requires
 take_over-requires c =
@@ -80,8 +84,8 @@ take_over-requires c =
     r.ensures.next_after in
     (long ∙ sym room, c.requires.next_len.1 ∙ sym room)
 
-pub returns-clause-played : goal.returns-clause-played
-returns-clause-played c =
+pub returns : goal.returns
+returns c =
     let a = c.args in
     let r = c.settle_round-refused in
     let room = roles-room a.trace.now (λ j. (c.type_inv.trace j).fits) c.requires.playable.0 a.k
@@ -89,8 +93,7 @@ returns-clause-played c =
     c.roles-roles.result.now c.marks-sent.result.now c.readings-readings.result.now
     c.roles-roles.ensures c.marks-sent.ensures
     (readings-are a.trace.now a.settings.n a.rounds a.k _ c.requires.rounds_value.0 c.readings-readings.ensures) in
-    rw room at
-    (round-passes a.trace.now (λ j. (c.type_inv.trace j).fits) c.requires.playable.0 a.k
+    round-passes a.trace.now (λ j. (c.type_inv.trace j).fits) c.requires.playable.0 a.k
     (omega (arith, c.requires.rounds_value.0, c.requires.rounds_value.1)) a.settings c.requires.playable.1
     c.roles-roles.result.now c.marks-sent.result.now c.readings-readings.result.now
     c.roles-roles.ensures c.marks-sent.ensures
@@ -106,4 +109,4 @@ returns-clause-played c =
     r.ensures.next_after
     (omega (arith, room))
     c.take_over.new.held
-    c.take_over.ensures)
+    c.take_over.ensures

@@ -2,6 +2,7 @@
 use Rattle.std.proofs.Common.{sym, ap, ◌∙◌, ◌<◌, length, arith}
 use Rattle.model.specs.declared.Settings.{Settings}
 use Rattle.model.specs.Planner.{Plan}
+use Rattle.model.specs.Refusals.{refusal, run_stopped_number}
 use Rattle.planner.specs.Answers.{plan_of}
 use Rattle.trace.specs.Trace.{rounds_at}
 use Rattle.playing.proofs.Parting.{cabinets, few}
@@ -41,35 +42,22 @@ play_round-requires-clause-n_le_max_cabinets c =
 
 pub returns-in-Some : goal.returns-in-Some
 returns-in-Some c =
-    let a = c.args in
-    let soon : c.rounds.k < rounds_at a.trace.now = omega (arith, c.rounds-test.true, c.requires.rounds_value.0, c.requires.rounds_value.1) in
-    let same =
-    cabinets a.trace.now (λ j. (c.type_inv.trace j).fits) c.requires.playable.0 c.rounds.k soon
-    c.rounds.plan.settings (ap (λ (p : Plan). p.settings) c.rounds.invariant.planned) in
-    rw (c.refuse_at.ensures, c.stop_place-place.ensures)
-    (stops-here a.trace.now c.rounds.k c.in-Some.p a.most
-    c.play_round.new.held
-    c.in-Some.ensures.played
-    (omega (arith, c.in-Some.ensures.one, same))
+    stops-here c.args.trace.now c.rounds.k c.in-Some.p c.args.most c.play_round.new.held c.in-Some.ensures
     c.rounds.invariant.before
-    c.rounds-test.true)
+    c.rounds-test.true
+    _
+    (c.at.ensures ∙ ap (refusal run_stopped_number) c.stop_place.ensures)
 
 pub rounds-preserved : goal.rounds-preserved
 rounds-preserved c =
     let a = c.args in
-    let soon : c.rounds.k < rounds_at a.trace.now = omega (arith, c.rounds-test.true, c.requires.rounds_value.0, c.requires.rounds_value.1) in
-    let same =
-    cabinets a.trace.now (λ j. (c.type_inv.trace j).fits) c.requires.playable.0 c.rounds.k soon
-    c.rounds.plan.settings (ap (λ (p : Plan). p.settings) c.rounds.invariant.planned) in
     going_next a.trace.now a.most (length a.held.now) (plan_of c.rounds.plan) (plan_of c.stepped-plan.result)
     c.rounds.k
-    c.rounds.plan.settings.n
     c.rounds.held
     c.play_round.new.held
     c.rounds.invariant
     c.rounds-test.true
-    c.in_default.ensures.played
-    (omega (arith, same))
+    c.in_default.ensures
     c.stepped-plan.ensures
     c.play_round.auto.held
 

@@ -15,7 +15,7 @@ use Rattle.arithmetic.proofs.Writing.{table_ext}
 use Rattle.model.specs.Refusals.{Refusal}
 use Rattle.model.specs.RoundSheet.{byte, settings_at}
 use Rattle.model.specs.Listing.{signed_decimal}
-use Rattle.model.specs.Calls.{Outcome}
+use Rattle.model.specs.Calls.{Outcome, granted, refused}
 use Rattle.trace.specs.Trace.{rounds_at}
 use Rattle.trace.specs.Replay.{shown_after, replay_to}
 use Rattle.trace.specs.ReplayText.{listed_room, after_text, after_listing}
@@ -24,8 +24,6 @@ use Rattle.text.specs.Text.{text_in}
 use Rattle.text.proofs.Texts.{text_fits}
 use Rattle.value_lines.specs.Values.{value_at}
 use Rattle.after_text.specs.After.{after_capacity, after_written}
-use Rattle.replaying.specs.declared.Replayed.TheVariants.{Granted, Refused}
-use Rattle.replaying.specs.Answers.{replaying_of}
 use Rattle.after_listing.specs.Listed.{after_listed}
 
 -- a line depends on the values of cabinets 0 to n-1
@@ -57,7 +55,7 @@ module _ (s : List ℕ) (k : ℕ) (buffer : List ℕ) where
     played w e = e ∙ ap (λ (j : ℕ). replay_to s j values) (min-eq_left early)
 
     pub refusal-listed :
-        (r : Refusal) → replaying_of (Refused r) left ≡ replay_to s (min k (rounds_at s)) values
+        (r : Refusal) → record { verdict = refused r; buffer = left } ≡ replay_to s (min k (rounds_at s)) values
         → after_capacity ≤ length buffer
         → (0 ≡ (after_listed s k buffer).size) × (buffer ≡ (after_listed s k buffer).buffer)
     unfolding after_listing
@@ -67,16 +65,16 @@ module _ (s : List ℕ) (k : ℕ) (buffer : List ℕ) where
         none =
             rw (
               le-ltb (rounds_at s) k early,
-              rw room at (replay-refused s values left k r (played (replaying_of (Refused r) left) e)),
+              rw room at (replay-refused s values left k r (played (record { verdict = refused r; buffer = left }) e)),
             )
 
     pub line-listed :
         (n : ℕ) → n ≡ byte s 0 → ((j : ℕ) → byte s j < 256)
-        → (size : ℕ) → replaying_of (Granted size) left ≡ replay_to s (min k (rounds_at s)) values
+        → (size : ℕ) → record { verdict = granted size; buffer = left } ≡ replay_to s (min k (rounds_at s)) values
         → after_written n k left buffer ≡ after_listed s k buffer
     unfolding after_written after_listed after_listing
     line-listed n cabinets small size e =
-        let same = played (replaying_of (Granted size) left) e in
+        let same = played (record { verdict = granted size; buffer = left }) e in
         rw (le-ltb (rounds_at s) k early, rw room at (replay-granted s values left k size same), cabinets)
         (ap (λ (l : List ℕ). text_in after_capacity l buffer)
         (after-alike (settings_at s).n k (value_at left) (shown_after s k)

@@ -9,7 +9,6 @@ ghost use Rattle.after_listing.specs.Listed.{after_listed};
 
 use after_text::AFTER_CAPACITY;
 use model::HEADER_SIZE;
-use replaying::Replayed;
 
 // Replays the first k rounds of a trace into a buffer of values, and writes the line of these; after a refusal nothing.
 fn line_in(trace: &[u8], k: u8, values: &mut [u8], text: &mut [u8]) -> usize
@@ -20,11 +19,11 @@ fn line_in(trace: &[u8], k: u8, values: &mut [u8], text: &mut [u8]) -> usize
     ensures text_after { text.new ≡ (after_listed trace.now k text.old).buffer }
 {
     match replaying::replay_to(trace, k, values) {
-        Replayed::Granted(_) => {
+        Ok(_) => {
             let n = words::byte_at(trace, 0);
             after_text::after_text(n, k, values, text)
         }
-        Replayed::Refused(_) => 0,
+        Err(_) => 0,
     }
 }
 

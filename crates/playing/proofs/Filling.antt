@@ -2,12 +2,13 @@
 -- Assumes nothing.
 use mathlib.Core.Bool.{cond}
 use mathlib.Core.List.{List, ◌++◌}
-use mathlib.Core.Path.{◌≡◌, refl, ap, ◌∙◌}
+use mathlib.Core.Path.{◌≡◌, refl, ap, ◌∙◌, subst}
 use Prim.Native.Nat.{ℕ, ◌+◌, ◌≤◌, ◌<◌, zero-le}
 use native.Mathlib.Omega.{arith}
+use borrow.Author.Tests.{eq-eqb, ne_eqb}
 use lib.Dec.{eqb}
 use lib.ListN.{length, get_or, set, drop, length-set}
-use lib.Seq.{get_or-append-add, get_or-drop}
+use lib.Seq.{get_or-append-add, get_or-drop, set-get_or}
 use Rattle.arithmetic.specs.Writing.{table, overwrite}
 use Rattle.arithmetic.proofs.Writing.{length-table, overwrite-whole}
 use Rattle.loop_laws.proofs.Loops.{store-none, store-next, store-ended}
@@ -49,3 +50,15 @@ module _ (f : ℕ → ℕ) (old : List ℕ) where
 -- what a cabinet holds after the sound ones have taken their next values over
 abbrev pub taking : List ℕ → List ℕ → List ℕ → ℕ → ℕ
 taking roles next held q = cond (eqb (get_or roles q 0) 1) (get_or next q 0) (get_or held q 0)
+
+module _ (roles next held now : List ℕ) (p : ℕ) (so_far : Filling (taking roles next held) held now p)
+    (room : p < length held) where
+  pub taken : get_or roles p 0 ≡ 1 → Filling (taking roles next held) held (set now p (get_or next p 0)) (p + 1)
+  taken sound =
+      fill (taking roles next held) held now p so_far room (get_or next p 0) (rw (eq-eqb (get_or roles p 0) 1 sound) refl)
+
+  pub kept : (get_or roles p 0 ≡ 1 → ⊥) → Filling (taking roles next held) held now (p + 1)
+  kept faulty =
+      subst (λ (l : List ℕ). Filling (taking roles next held) held l (p + 1)) (set-get_or now p 0)
+      (fill (taking roles next held) held now p so_far room (get_or now p 0)
+      (unfilled (taking roles next held) held now p so_far room ∙ rw (ne_eqb (get_or roles p 0) 1 faulty) refl))

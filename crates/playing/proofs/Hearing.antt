@@ -10,7 +10,7 @@ use native.Mathlib.Nat.{add-mul, mul_assoc}
 use native.Mathlib.Omega.{arith}
 use borrow.Author.Tests.{lt-ltb, le-ltb}
 use lib.Arith.{digits_lt}
-use lib.Dec.{eqb, lit≤}
+use lib.Dec.{eqb, ltb, lit≤}
 use lib.IntN.{ℤ}
 use lib.Signed.{mag}
 use lib.ListN.{length, get_or}
@@ -39,7 +39,19 @@ use Rattle.run.proofs.Entries.{seen}
 use Rattle.refusal_laws.proofs.Limits.{Planned}
 use Rattle.run.proofs.Ready.{plan-settings, limits_hold}
 use Rattle.trace.proofs.Traced.{Recorded, traced-start, traced_ready, traced-seen, traced-holds, window_in, found_in, replay-refuses}
-use Rattle.playing.specs.Playing.{HeldTo, Playable, below}
+use Rattle.playing.specs.Playing.{HeldTo, Playable}
+
+-- a number as an index below n
+abbrev pub below : ℕ → ℕ → Option ℕ
+below n r = cond (ltb r n) (some r) none
+
+-- what is some is not none
+abbrev has : {A : Type 0} → Option A → Bool
+has (some x) = true
+has none = false
+
+pub no_some : {A B : Type 0} (x : A) → some x ≡ none → B
+no_some x e = clash refl (ap has e)
 
 -- the entry's number by its round and its number in the round
 entry-split : (n k r p : ℕ) → k * (n * n) + (r * n + p) ≡ entry_number n k r p

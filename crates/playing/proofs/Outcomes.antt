@@ -1,11 +1,12 @@
 -- What playing a trace gives, by what its checks say, on plain values.
 -- Assumes nothing.
+use mathlib.Core.Bool.{Bool, true, false, cond}
 use mathlib.Core.List.{List, ◌++◌}
 use mathlib.Core.Option.{none, some}
-use mathlib.Core.Path.{◌≡◌, refl, sym, ap, ◌∙◌}
-use Prim.Native.Nat.{ℕ, zero, suc, ◌≤◌, ◌<◌, min}
-use native.Mathlib.Omega.{arith}
-use borrow.Author.Tests.{lt-ltb, le-ltb, ne_eqb}
+use mathlib.Core.Path.{◌≡◌, sym, ap, ◌∙◌}
+use Prim.Native.Nat.{ℕ, ◌≤◌, min}
+use borrow.Author.Tests.{le-ltb, ltb-false}
+use lib.Dec.{ltb}
 use lib.ListN.{length, get_or-append}
 use Rattle.arithmetic.specs.Naturals.{down}
 use Rattle.arithmetic.specs.Words.{two_to31}
@@ -13,15 +14,16 @@ use Rattle.model.specs.declared.Settings.{Settings}
 use Rattle.model.specs.Refusals.{Refusal}
 use Rattle.model.specs.Ensemble.{present, max_cabinets}
 use Rattle.model.specs.RoundSheet.{settings_at}
-use Rattle.model.specs.Refusals.{Check, refusal, or_next, first_of, no_room_number, run_stopped_number}
-use Rattle.model.specs.Calls.{Verdict, granted, refused, verdict}
-use Rattle.refusal_laws.proofs.Checks.{first_snoc}
+use Rattle.model.specs.Refusals.{Check, refusal, refuse_if, or_next, first_of, no_room_number}
+use Rattle.model.specs.Calls.{granted, refused, verdict}
+use Rattle.refusal_laws.proofs.Checks.{first_snoc, when_none}
 use Rattle.refusal_laws.proofs.Limits.{limits, limits-pass}
-use Rattle.sheet_laws.proofs.Outcomes.{refused-some}
+use Rattle.sheet_laws.proofs.Outcomes.{granted-none, granted-same, refused-some}
 use Rattle.trace.specs.Trace.{rounds_at}
 use Rattle.trace.specs.Replay.{run_stopped, trace_checks, replay_checks}
 use Rattle.trace_heads.proofs.Heads.{Headed}
-use Rattle.playing.specs.Playing.{HeldTo, Playable, stopped_at, RoundsPlayed, Played, played_given}
+use Rattle.playing.specs.Playing.{HeldTo, Playable, played_given}
+use Rattle.playing.proofs.Hearing.{no_some}
 
 -- what the checks before 15 leave
 pub playable : (s : List ℕ) (room : ℕ) → Headed s room → Playable s
@@ -36,62 +38,58 @@ playable s room h =
 pub playable-few : (s : List ℕ) → Playable s → (settings_at s).n ≤ max_cabinets
 playable-few s ok = (limits (settings_at s) ok.passes).cabinets
 
--- the place of 15 says whether it passes
-place_none : (place : ℕ) → stopped_at place ≡ none → place ≡ 0
-unfolding stopped_at
-place_none zero e = refl
-place_none (suc place) e =
-    let stops : stopped_at (suc place) ≡ some (refusal run_stopped_number (suc place)) = rw (ne_eqb (suc place) 0 (λ h. omega arith)) in
-    let z : ◌≡◌ {A = Check} none (some (refusal run_stopped_number (suc place))) = sym e ∙ stops in
-    cc
-
-pub rounds-played :
-    (s : List ℕ) (k j place : ℕ) (held : List ℕ) (check : Check) → k ≡ j → RoundsPlayed s k place held
-    → check ≡ stopped_at place → Played s j check held
-rounds-played s k j place held check same played e =
-    record {
-      stops = e ∙ sym played.stops ∙ ap (run_stopped s) same;
-      holds = λ h. rw same at (played.holds (place_none place (sym e ∙ h)));
-    }
-
--- a refusal is no grant
-pub no_grant : {A : Type 0} (r : Refusal) (c : Settings) → refused r ≡ granted c → A
-no_grant r c e =
-    let z : ◌≡◌ {A = ℕ} 0 1 = cc in
-    absurd (omega arith)
-
 module _ (s : List ℕ) (most room held : ℕ) where
   abbrev k : ℕ
   k = min most (rounds_at s)
 
-  pub short-given : held < max_cabinets → refused (refusal no_room_number 0) ≡ played_given s most room held
+  -- a list for fewer than 64 cabinets
+  pub short_refused :
+      (r : Refusal) → some r ≡ refuse_if (ltb held max_cabinets) no_room_number → refused r ≡ played_given s most room held
   unfolding played_given
-  short-given h = rw (lt-ltb held max_cabinets h)
+  short_refused r e = go (ltb held max_cabinets) e
+    where
+      go :
+          (short : Bool) → some r ≡ cond short (some (refusal no_room_number 0)) none
+          → refused r
+          ≡ cond short (refused (refusal no_room_number 0))
+          (verdict (first_of (replay_checks s k room)) (settings_at s))
+      go true h = cc
+      go false h = no_some r h
 
-  module _ (large : max_cabinets ≤ held) where
+  module _ (spacious : none ≡ refuse_if (ltb held max_cabinets) no_room_number) where
+    pub large : max_cabinets ≤ held
+    large = ltb-false held max_cabinets (when_none (ltb held max_cabinets) no_room_number (sym spacious))
+
     given : played_given s most room held ≡ verdict (or_next (first_of (trace_checks s room)) (run_stopped s k)) (settings_at s)
     unfolding played_given replay_checks
     given =
         rw (le-ltb held max_cabinets large)
         (ap (λ (c : Check). verdict c (settings_at s)) (first_snoc (trace_checks s room) (run_stopped s k)))
 
-    pub refused-given :
-        (r : Refusal) → verdict (first_of (trace_checks s room)) (settings_at s) ≡ refused r
+    pub trace_refused :
+        (r : Refusal) → refused r ≡ verdict (first_of (trace_checks s room)) (settings_at s)
         → refused r ≡ played_given s most room held
-    refused-given r e =
+    trace_refused r e =
         sym
         (given
         ∙ ap (λ (c : Check). verdict (or_next c (run_stopped s k)) (settings_at s))
-        (refused-some (first_of (trace_checks s room)) (settings_at s) r e))
+        (refused-some (first_of (trace_checks s room)) (settings_at s) r (sym e)))
 
-    module _ (passes : first_of (trace_checks s room) ≡ none) (check : Check) (stops : check ≡ run_stopped s k)
-        (c : Settings) (own : settings_at s ≡ c) where
-      pub played-given : (v : Verdict Settings) → v ≡ verdict check c → v ≡ played_given s most room held
-      played-given v e =
-          e
-          ∙ ap (verdict check) (sym own)
+    module _ (c : Settings) (screened : granted c ≡ verdict (first_of (trace_checks s room)) (settings_at s)) where
+      rest : {check : Check} → check ≡ run_stopped s k → verdict check c ≡ played_given s most room held
+      rest {check} stops =
+          ap (verdict check) (sym (granted-same (first_of (trace_checks s room)) (settings_at s) c (sym screened)))
           ∙ ap (λ (x : Check). verdict x (settings_at s)) stops
-          ∙ sym (given ∙ ap (λ (x : Check). verdict (or_next x (run_stopped s k)) (settings_at s)) passes)
+          ∙ sym
+          (given
+          ∙ ap (λ (x : Check). verdict (or_next x (run_stopped s k)) (settings_at s))
+          (granted-none (first_of (trace_checks s room)) (settings_at s) c (sym screened)))
+
+      pub run_refused : (r : Refusal) → some r ≡ run_stopped s k → refused r ≡ played_given s most room held
+      run_refused r h = rest h
+
+      pub run_granted : none ≡ run_stopped s k → granted c ≡ played_given s most room held
+      run_granted h = rest h
 
 -- what is held by the first places of a list is held by the list
 pub held_whole :

@@ -8,7 +8,6 @@ use mathlib.Core.Path.{◌≡◌, refl, sym, ap, ap₂, ◌∙◌}
 use Prim.Native.Nat.{ℕ, zero, suc, ◌+◌, ◌*◌, ◌≤◌, ◌<◌, zero-le}
 use native.Mathlib.Numerals.{add-one}
 use native.Mathlib.Omega.{arith}
-use borrow.Author.Tests.{lt-ltb, le-ltb, ne_eqb}
 use lib.ListN.{length, get_or}
 use Rattle.arithmetic.specs.Naturals.{down, up}
 use Rattle.arithmetic.specs.Words.{two_to31}
@@ -27,7 +26,8 @@ use Rattle.run.specs.Run.{stepped, next, state_after}
 use Rattle.trace.specs.Trace.{first_at}
 use Rattle.trace.specs.Replay.{state_to, at_round, in_round, run_stopped}
 use Rattle.trace.proofs.Traced.{bits_fit}
-use Rattle.playing.specs.Playing.{HeldTo, below, RoundPlayed, stopped_at, RoundsPlayed}
+use Rattle.playing.specs.Playing.{HeldTo, RoundPlayed, Played}
+use Rattle.playing.proofs.Hearing.{no_some}
 
 -- ---- before the first round
 
@@ -56,13 +56,11 @@ module _ (s : List ℕ) where
   plan-next k p q e f = f ∙ ap (λ (x : Plan). stepped (step x) x) e ∙ sym (ap (λ (j : ℕ). (state_to s j).plan) (add-one k))
 
   -- a round in which nobody meets too many faults
-  pub none_passes :
-      (k r : ℕ) (held : List ℕ) → RoundPlayed s k r held → (settings_at s).n ≤ r → run_stopped s k ≡ none
-      → run_stopped s (k + 1) ≡ none
+  none_passes :
+      (k : ℕ) (held : List ℕ) → RoundPlayed s k none held → run_stopped s k ≡ none → run_stopped s (k + 1) ≡ none
   unfolding run_stopped
-  none_passes k r held played all before =
-      let nobody : below (settings_at s).n r ≡ none = rw (le-ltb r (settings_at s).n all) in
-      ap (run_stopped s) (add-one k) ∙ ap₂ or_next before (ap (at_round k) (played.first ∙ nobody))
+  none_passes k held played before =
+      ap (run_stopped s) (add-one k) ∙ ap₂ or_next before (ap (at_round k) played.first)
 
   -- a round that stops stands for all later ones
   stops_on :
@@ -76,28 +74,22 @@ module _ (s : List ℕ) where
       (split-last k j l)
 
   pub stops-here :
-      (k r most : ℕ) (held : List ℕ) → RoundPlayed s k r held → r < (settings_at s).n → run_stopped s k ≡ none → k < most
-      → RoundsPlayed s most (max_cabinets * (k + 1) + r) held
-  unfolding stopped_at
-  stops-here k r most held played few before early =
-      let here : below (settings_at s).n r ≡ some r = rw (lt-ltb r (settings_at s).n few) in
+      (k p most : ℕ) (held : List ℕ) → RoundPlayed s k (some p) held → run_stopped s k ≡ none → k < most
+      → (x : Refusal) → x ≡ refusal run_stopped_number (max_cabinets * (k + 1) + p) → Played s most (some x) held
+  stops-here k p most held played before early x e =
       record {
-        stops =
-            stops_on k (refusal run_stopped_number (max_cabinets * (k + 1) + r)) before
-            (ap (at_round k) (played.first ∙ here)) most early
-            ∙ rw (ne_eqb (max_cabinets * (k + 1) + r) 0 (λ h. omega arith));
-        holds = λ h. absurd (omega arith);
+        stops = sym (stops_on k x before (ap (at_round k) played.first ∙ ap some (sym e)) most early);
+        holds = no_some x;
       }
 
   -- all are played
   pub played-all :
       (k most : ℕ) (held : List ℕ) → run_stopped s k ≡ none → HeldTo s k held → k ≤ most → most ≤ k
-      → RoundsPlayed s most 0 held
-  unfolding stopped_at
+      → Played s most none held
   played-all k most held before holds l h =
       let same : k ≡ most = omega arith in
       record {
-        stops = ap (run_stopped s) (sym same) ∙ before;
+        stops = sym (ap (run_stopped s) (sym same) ∙ before);
         holds = λ z. rw same at holds;
       }
 
@@ -118,14 +110,14 @@ going_first s most c held own holds =
     record { up_to = zero-le; planned = plan-first s c own; before = refl; holds = holds; long = refl }
 
 pub going_next :
-    (s : List ℕ) (most room : ℕ) (p q : Plan) (k r : ℕ) (held later : List ℕ) → Going s most room p k held
-    → k < most → RoundPlayed s k r later → (settings_at s).n ≤ r → q ≡ stepped (step p) p → length later ≡ length held
+    (s : List ℕ) (most room : ℕ) (p q : Plan) (k : ℕ) (held later : List ℕ) → Going s most room p k held
+    → k < most → RoundPlayed s k none later → q ≡ stepped (step p) p → length later ≡ length held
     → Going s most room q (k + 1) later
-going_next s most room p q k r held later going early played all e same =
+going_next s most room p q k held later going early played e same =
     record {
       up_to = omega arith;
       planned = plan-next s k p q going.planned e;
-      before = none_passes s k r later played all going.before;
-      holds = played.holds all;
+      before = none_passes s k later played going.before;
+      holds = played.holds refl;
       long = same ∙ going.long;
     }

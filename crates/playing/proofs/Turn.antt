@@ -9,6 +9,7 @@ use Prim.Native.Nat.{ℕ, ◌+◌, ◌*◌, ◌≤◌, ◌<◌}
 use native.Mathlib.Nat.{le_of_lt, le_refl}
 use native.Mathlib.Numerals.{add-one}
 use native.Mathlib.Omega.{arith}
+use borrow.Author.Tests.{lt-ltb, le-ltb}
 use lib.Dec.{eqb}
 use lib.ListN.{length, get_or}
 use Rattle.arithmetic.specs.Counting.{lowest}
@@ -21,8 +22,8 @@ use Rattle.station_rounds.specs.Rounds.{meets_too_many, next_value, place_of, fi
 use Rattle.trace.specs.Trace.{trace_header_size, rounds_at, trace_entries}
 use Rattle.trace.specs.Replay.{state_to, refused_in}
 use Rattle.trace_parts.specs.Parts.{part_from}
-use Rattle.playing.specs.Playing.{HeldTo, Playable, below, RoundPlayed}
-use Rattle.playing.proofs.Hearing.{first_is, holds-next}
+use Rattle.playing.specs.Playing.{HeldTo, Playable, RoundPlayed}
+use Rattle.playing.proofs.Hearing.{below, no_some, first_is, holds-next}
 use Rattle.playing.proofs.Parting.{cabinets, roles-long, parts, fits-here}
 
 -- no cabinet past the last
@@ -80,33 +81,28 @@ module _ (s : List ℕ) (small : (j : ℕ) → byte s j < 256) (ok : Playable s)
         omega (arith, first-most c roles held sent readings, roles-room))
         ∙ next-room
 
-    most : r ≤ (settings_at s).n
-    most =
-        omega
-        (arith, first-given, first-most c roles held sent readings, roles-room, cabinets s small ok k early c own)
-
     found : lowest (refused_in s k) (settings_at s).n ≡ below (settings_at s).n r
     found =
         first_is s small ok k early roles sent readings
         (parts s small ok k early c own roles sent readings roles-are sent-are readings-are) held holds c own
         ∙ ap (below (settings_at s).n) (sym first-given)
 
-    pub round-stops : r < c.n → RoundPlayed s k r held
+    pub round-stops : r < c.n → RoundPlayed s k (some r) held
     round-stops few =
+        let fewer : r < (settings_at s).n = omega (arith, cabinets s small ok k early c own) in
         record {
-          up_to = most;
-          first = found;
-          holds = λ all. absurd (omega (arith, cabinets s small ok k early c own));
+          first = found ∙ rw (lt-ltb r (settings_at s).n fewer);
+          holds = λ e. no_some r e;
         }
 
     pub round-passes :
         c.n ≤ r → (later : List ℕ)
         → later ≡ table (λ p. cond (eqb (get_or roles p 0) 1) (get_or next p 0) (get_or held p 0)) (length roles)
-        → RoundPlayed s k r later
+        → RoundPlayed s k none later
     round-passes all later e =
+        let past : (settings_at s).n ≤ r = omega (arith, cabinets s small ok k early c own) in
         record {
-          up_to = most;
-          first = found;
+          first = found ∙ rw (le-ltb r (settings_at s).n past);
           holds = λ _.
               subst (λ (j : ℕ). HeldTo s j later) (sym (add-one k))
               (holds-next s small ok k early roles sent readings

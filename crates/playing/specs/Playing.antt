@@ -2,13 +2,12 @@
 -- lists of what the sound cabinets hold, moved up by 2^31.
 --   HeldTo        the list holds what sound cabinets hold after k rounds
 --   Playable      what checks 1 to 5 and 13 leave of a trace
---   below         a number as an index below n
+--   stopped_of     the cabinet that a round stops at
 --   RoundPlayed   what playing a round gives and leaves
---   stopped_at     a place as check 15; 0 where it passes
---   RoundsPlayed  what playing some rounds gives and leaves
---   Played        the same from the first readings on
+--   Played        what playing some rounds gives and leaves
 --   played_given   what `play` gives
 use Rattle.std.specs.Prelude.{true, cond, List, ◌≡◌, ℕ, ◌+◌, ◌≤◌, ◌<◌, min, ltb, eqb, length, get_or}
+use Rattle.std.specs.Prelude as o
 use Rattle.std.proofs.Math.Option.{Option, none, some}
 use Rattle.arithmetic.specs.Counting.{lowest}
 use Rattle.arithmetic.specs.Naturals.{down}
@@ -17,7 +16,7 @@ use Rattle.model.specs.declared.Settings.{Settings}
 use Rattle.model.specs.Ensemble.{present, max_cabinets}
 use Rattle.model.specs.RoundSheet.{fca, settings_at}
 use Rattle.model.specs.Planner.{max_rounds}
-use Rattle.model.specs.Refusals.{Check, refusal, first_of, settings_checks, no_room_number, run_stopped_number}
+use Rattle.model.specs.Refusals.{Check, refusal, first_of, settings_checks, no_room_number}
 use Rattle.model.specs.Calls.{Verdict, refused, verdict}
 use Rattle.trace.specs.Trace.{rounds_at, sound_at, trace_length}
 use Rattle.trace.specs.Replay.{state_to, refused_in, run_stopped, replay_checks}
@@ -32,22 +31,17 @@ pub record Playable (s : List ℕ) : Type 0 where
   pub few : rounds_at s ≤ max_rounds
   pub long : length s ≡ trace_length (settings_at s).n (rounds_at s)
 
-abbrev pub below : ℕ → ℕ → Option ℕ
-below n r = cond (ltb r n) (some r) none
+-- the cabinet that a round stops at, where it stops
+abbrev pub stopped_of : o.Option ℕ → Option ℕ
+stopped_of (o.Some p) = some p
+stopped_of o.None = none
 
-pub record RoundPlayed (s : List ℕ) (k r : ℕ) (held : List ℕ) : Type 0 where
-  pub up_to : r ≤ (settings_at s).n
-  pub first : lowest (refused_in s k) (settings_at s).n ≡ below (settings_at s).n r
-  pub holds : (settings_at s).n ≤ r → HeldTo s (k + 1) held
+-- the first cabinet that meets too many faults in round k, and what is held where none does
+pub record RoundPlayed (s : List ℕ) (k : ℕ) (stopped : Option ℕ) (held : List ℕ) : Type 0 where
+  pub first : lowest (refused_in s k) (settings_at s).n ≡ stopped
+  pub holds : stopped ≡ none → HeldTo s (k + 1) held
 
-unfoldable pub stopped_at : ℕ → Check
-stopped_at place = cond (eqb place 0) none (some (refusal run_stopped_number place))
-
-pub record RoundsPlayed (s : List ℕ) (k place : ℕ) (held : List ℕ) : Type 0 where
-  pub stops : run_stopped s k ≡ stopped_at place
-  pub holds : place ≡ 0 → HeldTo s k held
-
--- the rounds of a trace that passes its other checks, from the first readings on
+-- the first k rounds of a trace that passes its other checks
 pub record Played (s : List ℕ) (k : ℕ) (check : Check) (held : List ℕ) : Type 0 where
   pub stops : check ≡ run_stopped s k
   pub holds : check ≡ none → HeldTo s k held

@@ -9,20 +9,15 @@ ghost use Rattle.arithmetic.specs.Writing.{table};
 ghost use Rattle.model.specs.Ensemble.{max_cabinets};
 ghost use Rattle.model.specs.RoundSheet.{settings_at};
 ghost use Rattle.model.specs.Calls.{granted};
-ghost use Rattle.refusals.specs.Answers.{check_of};
-ghost use Rattle.sheet_checks.specs.Answers.{opened_of};
+ghost use Rattle.refusals.specs.Answers.{check_of, verdict_of};
 ghost use Rattle.trace.specs.Trace.{rounds_at, first_at};
 ghost use Rattle.trace.specs.Replay.{state_to};
-ghost use Rattle.playing.specs.Playing.{HeldTo, Playable, RoundPlayed, stopped_at};
-ghost use Rattle.playing.specs.Playing.{RoundsPlayed, Played, played_given};
+ghost use Rattle.playing.specs.Playing.{HeldTo, Playable, stopped_of, RoundPlayed, Played};
+ghost use Rattle.playing.specs.Playing.{played_given};
 
-use model::{HEADER_SIZE, MAX_CABINETS, NO_ROOM, RUN_STOPPED, Settings, TRACE_HEADER_SIZE};
+use model::{HEADER_SIZE, MOST, SOUND, Settings, TRACE_HEADER_SIZE};
 use planner::Plan;
-use refusals::Screened;
-use sheet_checks::Opened;
-
-// The role of a sound cabinet.
-const SOUND: u8 = 1;
+use refusals::{Reason, Refusal};
 
 // What each cabinet first reads.
 fn first_readings(trace: &[u8], held: &mut [u32])
@@ -32,18 +27,9 @@ fn first_readings(trace: &[u8], held: &mut [u32])
         (length held.old) }
 {
     let start = TRACE_HEADER_SIZE + held.len();
-    let mut p: usize = 0;
-    'cabinets: while p < held.len() {
-        held[p] = held::bias(words::word_at(trace, start + 4 * p));
-        p += 1;
+    'cabinets: for (p, value) in held.iter_mut().enumerate() {
+        *value = held::bias(words::word_at(trace, start + 4 * p));
     }
-}
-
-// The next value of a sound cabinet; a faulty one keeps what it had.
-fn later(role: u8, next: u32, old: u32) -> u32
-    ensures { result ≡ cond (eqb role 1) next old }
-{
-    if role == SOUND { next } else { old }
 }
 
 // Sound cabinets take their next values over.
@@ -54,14 +40,15 @@ fn take_over(roles: &[u8], next: &[u32], held: &mut [u32])
         (get_or held.old p 0))
         (length roles.now) }
 {
-    let mut p: usize = 0;
-    'cabinets: while p < roles.len() {
-        held[p] = later(roles[p], next[p], held[p]);
-        p += 1;
+    'cabinets: for (p, role) in roles.iter().enumerate() {
+        if *role == SOUND {
+            held[p] = next[p];
+        }
     }
 }
 
-// Plays round k, from 0, with lent places for the next values.
+// Plays round k, from 0, with lent places for the next values: the first cabinet that meets too many faults, where one
+// does.
 fn play_in(
     trace: &[u8],
     settings: Settings,
@@ -69,106 +56,91 @@ fn play_in(
     k: u8,
     next: &mut [u32],
     held: &mut [u32],
-) -> usize
+) -> Option<u8>
     requires playable { Playable trace.now × (settings ≡ (state_to trace.now k).plan.settings) }
     requires rounds_value { (rounds ≡ rounds_at trace.now) × (k < rounds) }
     requires next_len { (length next.old ≡ settings.n) × (length held.old ≡ settings.n) }
     requires held_to { HeldTo trace.now k held.old }
-    ensures { RoundPlayed trace.now k result held.new }
+    ensures { RoundPlayed trace.now k (stopped_of result) held.new }
 {
     let roles = trace_parts::roles(trace, settings.n);
     let sent = trace_parts::marks(trace, settings.n, k);
     let readings = trace_parts::readings(trace, settings.n, rounds, k);
     let refused = station_rounds::settle_round(settings, roles, &*held, sent, readings, &mut *next);
     if refused < (settings.n as usize) {
-        return refused;
+        return Some(refused as u8);
     }
     take_over(roles, &*next, held);
-    refused
+    None
 }
 
-// Plays round k, from 0: the first cabinet that meets too many faults, or else the number of cabinets, which then hold
-// their next values.
-fn play_round(trace: &[u8], settings: Settings, rounds: u8, k: u8, held: &mut [u32]) -> usize
+// Plays round k, from 0: the first cabinet that meets too many faults; where none does, they hold their next values.
+fn play_round(trace: &[u8], settings: Settings, rounds: u8, k: u8, held: &mut [u32]) -> Option<u8>
     requires playable { Playable trace.now × (settings ≡ (state_to trace.now k).plan.settings) }
     requires rounds_value { (rounds ≡ rounds_at trace.now) × (k < rounds) × (length held.old ≡ settings.n) }
     requires n_le_max_cabinets { (settings.n ≤ max_cabinets) × HeldTo trace.now k held.old }
-    ensures { RoundPlayed trace.now k result held.new }
+    ensures { RoundPlayed trace.now k (stopped_of result) held.new }
 {
     let n = settings.n as usize;
     let mut next = [0u32; 64];
     play_in(trace, settings, rounds, k, &mut next[..n], held)
 }
 
-// Plays the first rounds, each at its planned window: the place of check 15, or 0 where no sound cabinet meets too many
-// faults.
-fn play_rounds(trace: &[u8], settings: Settings, rounds: u8, most: u8, held: &mut [u32]) -> u32
+// Plays the first rounds, each at its planned window, up to check 15.
+fn play_rounds(
+    trace: &[u8],
+    settings: Settings,
+    rounds: u8,
+    most: u8,
+    held: &mut [u32],
+) -> Result<(), Refusal>
     requires playable { Playable trace.now × (settings ≡ settings_at trace.now) }
     requires rounds_value { (rounds ≡ rounds_at trace.now) × (most ≤ rounds) × (length held.old ≡ settings.n) }
     requires held_to { HeldTo trace.now 0 held.old }
-    ensures { RoundsPlayed trace.now most result held.new }
+    ensures { Played trace.now most (check_of result) held.new }
 {
     let mut plan = Plan {
         settings,
         accuracy: 0,
         rounds: 0,
     };
-    let mut k: u8 = 0;
-    'rounds: while k < most {
-        let refused = play_round(trace, plan.settings, rounds, k, &mut *held);
-        if refused < (settings.n as usize) {
-            return trace_sizes::stop_place(k, refused as u8);
+    'rounds: for k in 0..most {
+        if let Some(p) = play_round(trace, plan.settings, rounds, k, &mut *held) {
+            return Err(Reason::RunStopped.at(trace_sizes::stop_place(k, p)));
         }
         plan = plan_steps::stepped(plan);
-        k += 1;
     }
-    0
-}
-
-// Check 15 by its place.
-fn stopped(place: u32) -> Screened
-    ensures { check_of result ≡ stopped_at place }
-{
-    if place == 0 {
-        return Screened::Passed;
-    }
-    Screened::Refused(refusals::refuse_at(RUN_STOPPED, place))
+    Ok(())
 }
 
 // Plays the first rounds of a trace that passes its other checks.
-fn play_checked(trace: &[u8], settings: Settings, most: u8, held: &mut [u32]) -> Screened
+fn play_checked(trace: &[u8], settings: Settings, most: u8, held: &mut [u32]) -> Result<(), Refusal>
     requires { Playable trace.now × (settings ≡ settings_at trace.now) × (length held.old ≡ settings.n) }
     ensures { Played trace.now (min most (rounds_at trace.now)) (check_of result) held.new }
 {
     let rounds = words::byte_at(trace, HEADER_SIZE);
     first_readings(trace, &mut *held);
-    let place = play_rounds(
+    play_rounds(
         trace,
         settings,
         rounds,
         trace_rounds::rounds_to_play(rounds, most),
         held,
-    );
-    stopped(place)
+    )
 }
 
 // Plays the first rounds of a trace, at most as many as it has, for a buffer of this length: its settings, or the first
 // refusal. Where it is granted, the lent list, which has room for 64 cabinets, has what sound cabinets hold after them.
 // A shorter list is refused as a short buffer is.
-pub fn play(trace: &[u8], room: usize, most: u8, held: &mut [u32]) -> Opened
-    ensures result_value { opened_of result ≡ played_given trace.now most room (length held.old) }
-    ensures held_to { opened_of result ≡ granted (settings_at trace.now)
+#[tactic(auto, using(crate::proofs::Outcomes::short_refused, crate::proofs::Outcomes::trace_refused, crate::proofs::Outcomes::run_refused))]
+pub fn play(trace: &[u8], room: usize, most: u8, held: &mut [u32]) -> Result<Settings, Refusal>
+    ensures result_value { verdict_of result ≡ played_given trace.now most room (length held.old) }
+    ensures held_to { verdict_of result ≡ granted (settings_at trace.now)
         → HeldTo trace.now (min most (rounds_at trace.now)) held.new }
 {
-    if held.len() < (MAX_CABINETS as usize) {
-        return Opened::Refused(refusals::refuse(NO_ROOM));
-    }
-    match trace_checks::screen(trace, room) {
-        Opened::Refused(r) => Opened::Refused(r),
-        Opened::Granted(settings) => {
-            let n = settings.n as usize;
-            let played = play_checked(trace, settings, most, &mut held[..n]);
-            sheet_checks::unless_refused(played, settings)
-        }
-    }
+    refusals::refuse_if(held.len() < MOST, Reason::NoRoom)?;
+    let settings = trace_checks::screen(trace, room)?;
+    let n = settings.n as usize;
+    play_checked(trace, settings, most, &mut held[..n])?;
+    Ok(settings)
 }

@@ -6,6 +6,7 @@ use Prim.Native.Nat.{ℕ, ◌≤◌, ◌<◌}
 use native.Mathlib.Nat.{le_refl}
 use lib.ListN.{length}
 use Rattle.model.specs.Refusals.{Refusal}
+use Rattle.model.specs.Calls.{granted, refused}
 use Rattle.model.specs.RoundSheet.{byte}
 use Rattle.trace.specs.Trace.{rounds_at}
 use Rattle.trace.specs.Replay.{replay}
@@ -15,20 +16,18 @@ use Rattle.text.specs.Text.{refusal_written}
 use Rattle.text.proofs.Texts.{text_fits}
 use Rattle.replay_text.specs.Final.{final_capacity, final_written}
 use Rattle.replay_text.proofs.Listings as text
-use Rattle.replaying.specs.declared.Replayed.TheVariants.{Granted, Refused}
-use Rattle.replaying.specs.Answers.{replaying_of}
 use Rattle.replay_listing.specs.Listed.{replay_listed}
 
 module _ (s buffer values left : List ℕ) (room : length values ≡ listed_room) where
   pub refusal-listed :
-      (r : Refusal) → replaying_of (Refused r) left ≡ replay s values → final_capacity ≤ length buffer
+      (r : Refusal) → record { verdict = refused r; buffer = left } ≡ replay s values → final_capacity ≤ length buffer
       → refusal_written r.number r.place buffer ≡ replay_listed s buffer
   unfolding replay_listed replay
   refusal-listed r e spacious =
       text.refusal-listed s buffer r (rw room at (replay-refused s values left (rounds_at s) r e)) spacious
 
   pub final_listed :
-      ((j : ℕ) → byte s j < 256) → (size : ℕ) → replaying_of (Granted size) left ≡ replay s values
+      ((j : ℕ) → byte s j < 256) → (size : ℕ) → record { verdict = granted size; buffer = left } ≡ replay s values
       → final_written s left buffer ≡ replay_listed s buffer
   unfolding replay_listed replay
   final_listed small size e =

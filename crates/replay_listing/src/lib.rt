@@ -7,7 +7,6 @@ ghost use Rattle.replay_text.specs.Final.{final_capacity};
 ghost use Rattle.replay_listing.specs.Listed.{replay_listed};
 
 use replay_text::FINAL_CAPACITY;
-use replaying::Replayed;
 
 // Replays a trace into a buffer of values, and writes the text of these or of the refusal.
 fn listing_in(trace: &[u8], values: &mut [u8], text: &mut [u8]) -> usize
@@ -17,8 +16,8 @@ fn listing_in(trace: &[u8], values: &mut [u8], text: &mut [u8]) -> usize
     ensures text_after { text.new ≡ (replay_listed trace.now text.old).buffer }
 {
     match replaying::replay(trace, values) {
-        Replayed::Granted(_) => replay_text::final_text(trace, values, text),
-        Replayed::Refused(r) => refused_text::refused_text(r, text),
+        Ok(_) => replay_text::final_text(trace, values, text),
+        Err(refusal) => refused_text::refused_text(refusal, text),
     }
 }
 

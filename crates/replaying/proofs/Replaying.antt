@@ -44,15 +44,16 @@ module _ (s : List ℕ) (most : ℕ) (values : List ℕ) where
   unfolding played_given
   given = refl
 
-  pub replay-refused :
-      (r : Refusal) → refused r ≡ played_given s most (length values) max_cabinets
+  pub replay_refused :
+      (r : Refusal) (held : ℕ) → held ≡ max_cabinets → refused r ≡ played_given s most (length values) held
       → record { verdict = refused r; buffer = values } ≡ replay_to s k values
   unfolding replay_to
-  replay-refused r e =
+  replay_refused r held large e =
       sym
       (ap
       (λ (c : Check). written_after c (4 * (settings_at s).n) (reading_bytes (values_to s k)) values)
-      (refused-some (first_of (replay_checks s k (length values))) (settings_at s) r (sym (e ∙ given))))
+      (refused-some (first_of (replay_checks s k (length values))) (settings_at s) r
+      (sym (e ∙ ap (played_given s most (length values)) large ∙ given))))
 
   module _ (c : Settings) (e : granted c ≡ played_given s most (length values) max_cabinets) where
     pub own : settings_at s ≡ c

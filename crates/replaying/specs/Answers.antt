@@ -1,13 +1,10 @@
 -- What replaying answers, in the terms of document 02 and document 01.
---   replayed_of     a replay's answer: the bytes of the final values, or the refusal
---   replaying_of    with what the lent buffer holds after it
-use Rattle.std.specs.Prelude.{List, ℕ}
-use Rattle.model.specs.Calls.{Verdict, granted, refused, Outcome}
-use Rattle.replaying.specs.declared.Replayed.{Replayed}
+--   replaying_of    a replay's answer, the bytes of the final values or the refusal, and what the lent buffer holds after
+--                   it
+use Rattle.std.specs.Prelude.{Result, List, ℕ}
+use Rattle.model.specs.Calls.{Outcome}
+use Rattle.refusals.specs.declared.Refusal.{Refusal}
+use Rattle.refusals.specs.Answers.{verdict_of}
 
-abbrev pub replayed_of : Replayed → Verdict ℕ
-replayed_of (Replayed.Granted size) = granted size
-replayed_of (Replayed.Refused r) = refused r
-
-abbrev pub replaying_of : Replayed → List ℕ → Outcome
-replaying_of r values = record { verdict = replayed_of r; buffer = values }
+abbrev pub replaying_of : Result ℕ Refusal → List ℕ → Outcome
+replaying_of r values = record { verdict = verdict_of r; buffer = values }

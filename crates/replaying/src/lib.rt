@@ -7,46 +7,36 @@ ghost use Rattle.trace.specs.Trace.{rounds_at};
 ghost use Rattle.trace.specs.Replay.{replay_to, replay};
 ghost use Rattle.replaying.specs.Answers.{replaying_of};
 
-use model::Refusal;
-use sheet_checks::Opened;
+use model::MOST;
+use refusals::Refusal;
 
 // As many rounds as any trace has: no byte says more.
-const EVERY_ROUND: u8 = 255;
-
-// The bytes of the final values, or the first refusal.
-#[derive(Drop)]
-pub enum Replayed {
-    Granted(usize),
-    Refused(Refusal),
-}
+const EVERY_ROUND: u8 = u8::MAX;
 
 // Replays the first rounds with a lent list for what sound cabinets hold.
-fn replay_in(trace: &[u8], most: u8, held: &mut [u32], values: &mut [u8]) -> Replayed
+#[tactic(auto, using(crate::proofs::Replaying::replay_refused))]
+fn replay_in(trace: &[u8], most: u8, held: &mut [u32], values: &mut [u8]) -> Result<usize, Refusal>
     requires { length held.old ≡ max_cabinets }
     ensures { replaying_of result values.new
         ≡ replay_to trace.now (min most (rounds_at trace.now)) values.old }
 {
-    match playing::play(trace, values.len(), most, &mut *held) {
-        Opened::Refused(r) => Replayed::Refused(r),
-        Opened::Granted(settings) => {
-            let roles = trace_parts::roles(trace, settings.n);
-            Replayed::Granted(value_writer::put_values(roles, &*held, values))
-        }
-    }
+    let settings = playing::play(trace, values.len(), most, &mut *held)?;
+    let roles = trace_parts::roles(trace, settings.n);
+    Ok(value_writer::put_values(roles, &*held, values))
 }
 
 // Replays the first rounds of a trace, at most as many as it has: what sound cabinets hold after them, four bytes each,
 // in the lent buffer, or the first refusal, which changes nothing.
-pub fn replay_to(trace: &[u8], most: u8, values: &mut [u8]) -> Replayed
+pub fn replay_to(trace: &[u8], most: u8, values: &mut [u8]) -> Result<usize, Refusal>
     ensures { replaying_of result values.new
         ≡ replay_to trace.now (min most (rounds_at trace.now)) values.old }
 {
-    let mut held = [0u32; 64];
+    let mut held = [0u32; MOST];
     replay_in(trace, most, &mut held, values)
 }
 
 // Replays a trace: the final values in the lent buffer, or the first refusal, which changes nothing.
-pub fn replay(trace: &[u8], values: &mut [u8]) -> Replayed
+pub fn replay(trace: &[u8], values: &mut [u8]) -> Result<usize, Refusal>
     ensures { replaying_of result values.new ≡ replay trace.now values.old }
 {
     replay_to(trace, EVERY_ROUND, values)

@@ -2,32 +2,27 @@
 // as there are roles.
 #![tactic(auto)]
 
-ghost use Rattle.std.specs.Prelude.{◌≡◌};
+ghost use Rattle.std.specs.Prelude.{◌≡◌, ltb};
+ghost use Rattle.std.specs.List.{list_any};
 ghost use Rattle.refusals.specs.Answers.{check_of};
-ghost use Rattle.role_checks.specs.Roles.{strange_in, roles_in};
+ghost use Rattle.role_checks.specs.Roles.{roles_in};
 
-use model::BAD_ROLES;
-use refusals::Screened;
+use model::SOUND;
+use refusals::{Reason, Refusal};
 
 // Whether a role is not 0 or 1.
 fn strange(roles: &[u8]) -> bool
-    ensures { result ≡ strange_in roles.now }
+    ensures { result ≡ list_any (λ role. ltb 1 role) roles.now }
 {
-    let mut found = false;
-    let mut p: usize = 0;
-    'cabinets: while p < roles.len() {
-        found = found | (1 < roles[p]);
-        p += 1;
-    }
-    found
+    roles.iter().any(|role| SOUND < *role)
 }
 
 // Check 14.
-pub fn check(roles: &[u8], marks: &[u8]) -> Screened
+pub fn check(roles: &[u8], marks: &[u8]) -> Result<(), Refusal>
     ensures { check_of result ≡ roles_in roles.now marks.now }
 {
     refusals::refuse_if(
         strange(roles) | sender_checks::sound_sent(roles, marks),
-        BAD_ROLES,
+        Reason::BadRoles,
     )
 }

@@ -2,8 +2,8 @@
 -- Assumes nothing.
 use mathlib.Core.Bool.{Bool, false, ◌&&◌, ◌||◌}
 use mathlib.Core.List.{List}
-use mathlib.Core.Option.{Option}
-use mathlib.Core.Path.{◌≡◌, sym, ap, ap₂, ◌∙◌}
+use mathlib.Core.Option.{Option, none, some}
+use mathlib.Core.Path.{◌≡◌, refl, sym, ap, ap₂, ◌∙◌}
 use Prim.Native.Nat.{ℕ, ◌+◌, ◌*◌, ◌-◌, ◌≤◌, ◌<◌}
 use native.Mathlib.Nat.{mod-lt}
 use native.Mathlib.Omega.{arith}
@@ -14,7 +14,7 @@ use lib.Seq.{length-take-le, get_or-take, get_or-drop, take_all}
 use Rattle.arithmetic.specs.Counting.{any_below, lowest}
 use Rattle.arithmetic.proofs.Counting.{any_ext, lowest_ext}
 use Rattle.model.specs.RoundSheet.{byte, word}
-use Rattle.model.specs.Refusals.{Check, refuse_if, at_entry, or_next, first_of, array_checks, bad_mark, bad_missing, not_zero}
+use Rattle.model.specs.Refusals.{Check, Refusal, refuse_if, at_entry, or_next, first_of, array_checks, bad_mark, bad_missing, not_zero}
 use Rattle.model.specs.Refusals.{bad_mark_number, bad_missing_number, bad_roles_number}
 use Rattle.refusal_laws.proofs.Checks.{next-none, first_snoc}
 use Rattle.trace.specs.Trace.{trace_header_size, role_at, sound_at, sender_of, trace_entries, traced_mark, traced_bits}
@@ -134,7 +134,7 @@ module _ (s : List ℕ) (n rounds : ℕ) (shaped : Shaped s n rounds) where
   roles_checked = ap₂ (λ (a b : Bool). refuse_if (a || b) bad_roles_number) strange-same sent-same
 
   -- what is found in the parts says which refuses
-  pub body-parts :
+  body-parts :
       (from to : ℕ) → from ≡ start → to ≡ start + entries → {found last x : Check}
       → found ≡ or_next (marks_in (part s from to)) (missing_in (part s from to) (part s to (length s)))
       → last ≡ roles_in roles (part s from to) → x ≡ or_next found last
@@ -152,3 +152,14 @@ module _ (s : List ℕ) (n rounds : ℕ) (shaped : Shaped s n rounds) where
       ∙ sym (next-none (bad_missing (traced_mark s n) (traced_bits s n rounds) entries))))
       (c ∙ ap (roles_in roles) same ∙ roles_checked)
       ∙ sym (first_snoc (array_checks (traced_mark s n) (traced_bits s n rounds) entries) (roles_of s n rounds))
+
+  module _ (from to : ℕ) (first : from ≡ start) (last : to ≡ start + entries) where
+    pub entries_refused :
+        (r : Refusal) → some r ≡ or_next (marks_in (part s from to)) (missing_in (part s from to) (part s to (length s)))
+        → some r ≡ first_of (body_of s n rounds)
+    entries_refused r h = body-parts from to first last h refl refl
+
+    pub roles-decide :
+        {x : Check} → none ≡ or_next (marks_in (part s from to)) (missing_in (part s from to) (part s to (length s)))
+        → x ≡ roles_in roles (part s from to) → x ≡ first_of (body_of s n rounds)
+    roles-decide h e = body-parts from to first last h e refl

@@ -12,9 +12,9 @@ use Rattle.model.specs.Ensemble.{max_cabinets}
 use Rattle.model.specs.Planner.{max_rounds}
 use Rattle.model.specs.RoundSheet.{settings_at}
 use Rattle.model.specs.Refusals.{Check, or_next, first_of, too_short, settings_checks, no_room}
-use Rattle.model.specs.Calls.{Verdict, granted, refused, verdict}
+use Rattle.model.specs.Calls.{granted, refused, verdict}
 use Rattle.refusal_laws.proofs.Checks.{first_append, next-none-left, next-none-right}
-use Rattle.sheet_laws.proofs.Outcomes.{granted-none, granted-same}
+use Rattle.sheet_laws.proofs.Outcomes.{granted-none, granted-same, refused-some}
 use Rattle.trace.specs.Trace.{rounds_at, trace_entries}
 use Rattle.trace.specs.Replay.{bad_trace, strange_role, sound_sent, bad_roles, trace_checks}
 use Rattle.sheet_sizes.specs.Bounds.{most_entries}
@@ -42,15 +42,21 @@ module _ (s : List ℕ) (room : ℕ) where
       ((too_short s ∷ settings_checks (settings_at s)) ++ (bad_trace s ∷ no_room room (4 * (settings_at s).n) ∷ []))
       body
 
-  pub head-refused :
-      (x : Refusal) → first_of (head_checks s room) ≡ some x
+  pub head_refused :
+      (x : Refusal) → refused x ≡ verdict (first_of (head_checks s room)) (settings_at s)
       → refused x ≡ verdict (first_of (trace_checks s room)) (settings_at s)
-  head-refused x h = rw (trace_checks_lem, h)
+  head_refused x h = rw (trace_checks_lem, refused-some (first_of (head_checks s room)) (settings_at s) x (sym h))
 
-  module _ (passes : first_of (head_checks s room) ≡ none) where
+  module _ (c : Settings) (opened : granted c ≡ verdict (first_of (head_checks s room)) (settings_at s)) where
+    passes : first_of (head_checks s room) ≡ none
+    passes = granted-none (first_of (head_checks s room)) (settings_at s) c (sym opened)
+
+    same : settings_at s ≡ c
+    same = granted-same (first_of (head_checks s room)) (settings_at s) c (sym opened)
+
     -- what the checks of the entries want
-    pub shaped : (c : Settings) (rounds : ℕ) → settings_at s ≡ c → rounds ≡ rounds_at s → Shaped s c.n rounds
-    shaped c rounds same e =
+    pub entries_shaped : (rounds : ℕ) → rounds ≡ rounds_at s → Shaped s c.n rounds
+    entries_shaped rounds e =
         let h = headed s room passes in
         rw (← same, e)
         (record {
@@ -59,17 +65,25 @@ module _ (s : List ℕ) (room : ℕ) where
           few = most-entries (settings_at s).n (rounds_at s) h.within.cabinets h.rounds;
         })
 
-    pub body_decides :
-        (c : Settings) (rounds : ℕ) → settings_at s ≡ c → rounds ≡ rounds_at s → {o : Verdict Settings} {x : Check}
-        → o ≡ verdict x c → x ≡ first_of (body_of s c.n rounds)
-        → o ≡ verdict (first_of (trace_checks s room)) (settings_at s)
-    body_decides c rounds same e answer h =
-        answer
-        ∙ ap₂ verdict
+    rest :
+        (rounds : ℕ) → rounds ≡ rounds_at s → {x : Check} → x ≡ first_of (body_of s c.n rounds)
+        → verdict x c ≡ verdict (first_of (trace_checks s room)) (settings_at s)
+    rest rounds e h =
+        ap₂ verdict
         (h
         ∙ ap₂ (λ (d : Settings) (k : ℕ). first_of (body_of s d.n k)) (sym same) e
         ∙ sym (trace_checks_lem ∙ ap (λ (x : Check). or_next x (first_of body)) passes))
         (sym same)
+
+    module _ (rounds : ℕ) (asked : rounds ≡ rounds_at s) where
+      pub entries_refused :
+          (r : Refusal) → some r ≡ first_of (body_of s c.n rounds)
+          → refused r ≡ verdict (first_of (trace_checks s room)) (settings_at s)
+      entries_refused r h = rest rounds asked h
+
+      pub entries_granted :
+          none ≡ first_of (body_of s c.n rounds) → granted c ≡ verdict (first_of (trace_checks s room)) (settings_at s)
+      entries_granted h = rest rounds asked h
 
   -- what it means that the checks of a trace grant settings
   pub record Traced (c : Settings) : Type 0 where

@@ -1,11 +1,12 @@
 -- The line of the values that the replay leaves is the one listed, and after a refusal there is none.
 use Rattle.std.proofs.Common.{◌∙◌, ap}
 use Rattle.text.specs.Text.{Text}
+use Rattle.refusals.specs.Answers.{refusal_of}
 use Rattle.after_listing.proofs.Outcomes.{refusal-listed, line-listed}
 use Rattle.after_listing.proofs.line_in.Goals as goal
 
-pub returns-in-Granted-clause-value : goal.returns-in-Granted-clause-value
-returns-in-Granted-clause-value c =
+pub returns-in-Ok-clause-value : goal.returns-in-Ok-clause-value
+returns-in-Ok-clause-value c =
     let a = c.args in
     let same =
     line-listed a.trace.now a.k a.text.now a.values.now c.replay_to.new.values c.requires.k_bound
@@ -13,12 +14,12 @@ returns-in-Granted-clause-value c =
     c.byte_at-n.result
     c.byte_at-n.ensures
     (λ j. (c.type_inv.trace j).fits)
-    c.in-Granted.field-0
-    c.in-Granted.ensures in
+    c.in-Ok.field-0
+    c.in-Ok.ensures in
     c.after_text.ensures.value ∙ ap (λ (t : Text). t.size) same
 
-pub returns-in-Granted-clause-text_after : goal.returns-in-Granted-clause-text_after
-returns-in-Granted-clause-text_after c =
+pub returns-in-Ok-clause-text_after : goal.returns-in-Ok-clause-text_after
+returns-in-Ok-clause-text_after c =
     let a = c.args in
     let same =
     line-listed a.trace.now a.k a.text.now a.values.now c.replay_to.new.values c.requires.k_bound
@@ -26,24 +27,24 @@ returns-in-Granted-clause-text_after c =
     c.byte_at-n.result
     c.byte_at-n.ensures
     (λ j. (c.type_inv.trace j).fits)
-    c.in-Granted.field-0
-    c.in-Granted.ensures in
+    c.in-Ok.field-0
+    c.in-Ok.ensures in
     c.after_text.ensures.text_after ∙ ap (λ (t : Text). t.buffer) same
 
-pub returns-in-Refused-clause-value : goal.returns-in-Refused-clause-value
-returns-in-Refused-clause-value c =
+pub returns-in-Err-clause-value : goal.returns-in-Err-clause-value
+returns-in-Err-clause-value c =
     let a = c.args in
     (refusal-listed a.trace.now a.k a.text.now a.values.now c.replay_to.new.values c.requires.k_bound
     c.requires.values_len
-    c.in-Refused.field-0
-    c.in-Refused.ensures
+    (refusal_of c.in-Err.field-0)
+    c.in-Err.ensures
     c.requires.after_capacity_in_bounds).0
 
-pub returns-in-Refused-clause-text_after : goal.returns-in-Refused-clause-text_after
-returns-in-Refused-clause-text_after c =
+pub returns-in-Err-clause-text_after : goal.returns-in-Err-clause-text_after
+returns-in-Err-clause-text_after c =
     let a = c.args in
     (refusal-listed a.trace.now a.k a.text.now a.values.now c.replay_to.new.values c.requires.k_bound
     c.requires.values_len
-    c.in-Refused.field-0
-    c.in-Refused.ensures
+    (refusal_of c.in-Err.field-0)
+    c.in-Err.ensures
     c.requires.after_capacity_in_bounds).1

@@ -2,6 +2,7 @@
 use Rattle.std.proofs.Common.{sym, ap, ◌∙◌, ◌<◌, length, arith}
 use Rattle.model.specs.declared.Settings.{Settings}
 use Rattle.model.specs.Planner.{Plan}
+use Rattle.model.specs.Refusals.{refusal, run_stopped_number}
 use Rattle.planner.specs.Answers.{plan_of}
 use Rattle.trace.specs.Trace.{rounds_at}
 use Rattle.playing.proofs.Parting.{cabinets, few}
@@ -13,8 +14,8 @@ rounds-init c =
     let a = c.args in
     going_first a.trace.now a.most a.settings a.held.now c.requires.playable.1 c.requires.held_to
 
-pub play_round-refused-requires-clause-rounds_value : goal.play_round-refused-requires-clause-rounds_value
-play_round-refused-requires-clause-rounds_value c =
+pub play_round-requires-clause-rounds_value : goal.play_round-requires-clause-rounds_value
+play_round-requires-clause-rounds_value c =
     let a = c.args in
     let asked = c.requires.rounds_value in
     let early = c.rounds-test.true in
@@ -27,8 +28,8 @@ play_round-refused-requires-clause-rounds_value c =
     c.rounds.invariant.long ∙ asked.2 ∙ ap (λ (d : Settings). d.n) c.requires.playable.1 ∙ sym same in
     (asked.0, omega (arith, early, asked.1), long)
 
-pub play_round-refused-requires-clause-n_le_max_cabinets : goal.play_round-refused-requires-clause-n_le_max_cabinets
-play_round-refused-requires-clause-n_le_max_cabinets c =
+pub play_round-requires-clause-n_le_max_cabinets : goal.play_round-requires-clause-n_le_max_cabinets
+play_round-requires-clause-n_le_max_cabinets c =
     let a = c.args in
     let asked = c.requires.rounds_value in
     let early = c.rounds-test.true in
@@ -39,31 +40,26 @@ play_round-refused-requires-clause-n_le_max_cabinets c =
     c.rounds.plan.settings own in
     (small, c.rounds.invariant.holds)
 
-pub returns-then-refused-settings : goal.returns-then-refused-settings
-returns-then-refused-settings c =
-    let a = c.args in
-    rw c.stop_place.ensures
-    (stops-here a.trace.now c.rounds.k c.play_round-refused.result a.most
-    c.play_round-refused.new.held
-    c.play_round-refused.ensures
-    (omega (arith, c.if-refused-settings.true, ap (λ (d : Settings). d.n) c.requires.playable.1))
+pub returns-in-Some : goal.returns-in-Some
+returns-in-Some c =
+    stops-here c.args.trace.now c.rounds.k c.in-Some.p c.args.most c.play_round.new.held c.in-Some.ensures
     c.rounds.invariant.before
-    c.rounds-test.true)
+    c.rounds-test.true
+    _
+    (c.at.ensures ∙ ap (refusal run_stopped_number) c.stop_place.ensures)
 
 pub rounds-preserved : goal.rounds-preserved
 rounds-preserved c =
     let a = c.args in
     going_next a.trace.now a.most (length a.held.now) (plan_of c.rounds.plan) (plan_of c.stepped-plan.result)
     c.rounds.k
-    c.play_round-refused.result
     c.rounds.held
-    c.play_round-refused.new.held
+    c.play_round.new.held
     c.rounds.invariant
     c.rounds-test.true
-    c.play_round-refused.ensures
-    (omega (arith, c.if-refused-settings.false, ap (λ (d : Settings). d.n) c.requires.playable.1))
+    c.in_default.ensures
     c.stepped-plan.ensures
-    c.play_round-refused.auto.held
+    c.play_round.auto.held
 
 pub returns : goal.returns
 returns c =

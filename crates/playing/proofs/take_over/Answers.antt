@@ -1,7 +1,8 @@
--- Each turn stores what one cabinet more holds next.
-use Rattle.std.proofs.Common.{ℕ, ◌<◌, ap, ◌∙◌, cond, eqb, length, get_or, arith}
-use Rattle.playing.proofs.Filling.{taking, begin, fill, filled, unfilled}
+-- Each turn stores what one cabinet more holds next, or leaves it.
+use Rattle.std.proofs.Common.{◌<◌, length, arith}
+use Rattle.playing.proofs.Filling.{taking, begin, filled, taken, kept}
 use Rattle.playing.proofs.take_over.Goals as goal
+use Rattle.playing.proofs.take_over.Goals.{then-role-eq-SOUND, else-role-eq-SOUND}
 
 pub cabinets-init : goal.cabinets-init
 cabinets-init c =
@@ -11,14 +12,14 @@ cabinets-init c =
 pub cabinets-preserved : goal.cabinets-preserved
 cabinets-preserved c =
     let a = c.args in
-    let taken = c.cabinets-test.true in
-    let p = c.cabinets.p in
-    let room : c.cabinets.p < length a.held.now = omega (arith, c.requires.1, taken) in
-    fill (taking a.roles.now a.next.now a.held.now) a.held.now c.cabinets.held p c.cabinets.invariant room
-    c.later.result
-    (c.later.ensures
-    ∙ ap (λ (x : ℕ). cond (eqb (get_or a.roles.now p 0) 1) (get_or a.next.now p 0) x)
-    (unfilled (taking a.roles.now a.next.now a.held.now) a.held.now c.cabinets.held p c.cabinets.invariant room))
+    let m = c.cabinets in
+    let room : m.p < length a.held.now = omega (arith, c.requires.1, c.cabinets-test.true) in
+    elim c.if-role-eq-SOUND.branch [
+      | then-role-eq-SOUND w ↦
+          rw w.held-is (taken a.roles.now a.next.now a.held.now m.held m.p m.invariant room w.if-role-eq-SOUND.true)
+      | else-role-eq-SOUND w ↦
+          rw w.held-is (kept a.roles.now a.next.now a.held.now m.held m.p m.invariant room w.if-role-eq-SOUND.false)
+    ]
 
 pub returns : goal.returns
 returns c =

@@ -1,28 +1,22 @@
--- A refusal leaves the values as they were, and else those of the recorded run are written.
+-- Where playing grants, the values of the recorded run are written.
 use Rattle.std.proofs.Common.{sym, ap, ◌∙◌, length}
 use Rattle.model.specs.Calls.{granted}
 use Rattle.playing.specs.Playing.{played_given}
-use Rattle.replaying.proofs.Replaying.{replay-refused, own, replay-granted}
+use Rattle.replaying.proofs.Replaying.{own, replay-granted}
 use Rattle.replaying.proofs.replay_in.Goals as goal
 
-pub returns-in-Refused : goal.returns-in-Refused
-returns-in-Refused c =
+pub returns : goal.returns
+returns c =
     let a = c.args in
-    replay-refused a.trace.now a.most a.values.now c.in-Refused.r
-    (c.in-Refused.ensures.result_value ∙ ap (played_given a.trace.now a.most (length a.values.now)) c.requires)
-
-pub returns-in-Granted : goal.returns-in-Granted
-returns-in-Granted c =
-    let a = c.args in
-    let settings = c.in-Granted.settings in
+    let settings = c.in_ok-settings.settings in
     let grants =
-    c.in-Granted.ensures.result_value ∙ ap (played_given a.trace.now a.most (length a.values.now)) c.requires in
+    c.in_ok-settings.ensures.result_value ∙ ap (played_given a.trace.now a.most (length a.values.now)) c.requires in
     let same = own a.trace.now a.most a.values.now settings grants in
     replay-granted a.trace.now a.most a.values.now settings grants c.roles-roles.result.now
     c.roles-roles.ensures
     c.play.new.held
     (c.play.auto.held ∙ c.requires)
-    (c.in-Granted.ensures.held_to (ap granted (sym same)))
+    (c.in_ok-settings.ensures.held_to (ap granted (sym same)))
     c.put_values.result
     c.put_values.new.values
     c.put_values.ensures.value

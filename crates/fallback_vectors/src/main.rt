@@ -47,9 +47,7 @@ fn show_part<'a>(
     write!(
         out,
         " {}; shown {} {}",
-        named.source,
-        named.start,
-        named.length
+        named.source, named.start, named.length
     )?;
     let by_crusaders = named.source == 1 && is_part(crusaders, named.start, named.length, part);
     let by_direct = named.source == 2 && is_part(direct, named.start, named.length, part);
@@ -89,7 +87,10 @@ fn fall_back(out: &mut impl Write, vector: &[u8]) -> io::Result<()> {
     let mut buffer = [165u8; 340];
     let room = (words::word_at(vector, 1) % 341) as usize;
     let size = words::word_at(vector, 5) as usize;
-    let Some((crusaders, direct)) = vector.get(9..).and_then(|sheets| sheets.split_at_checked(size)) else {
+    let Some((crusaders, direct)) = vector
+        .get(9..)
+        .and_then(|sheets| sheets.split_at_checked(size))
+    else {
         return Ok(());
     };
     let settled = falling_back::fall_back(crusaders, direct, &mut buffer[..room]);

@@ -125,11 +125,7 @@ fn by_request<E: Env, O: Write, W: Write>(
 }
 
 // Four arguments, of which the first is `interval`.
-fn by_interval<E: Env, O: Write, W: Write>(
-    env: &E,
-    out: &mut O,
-    errors: &mut W,
-) -> io::Result<()> {
+fn by_interval<E: Env, O: Write, W: Write>(env: &E, out: &mut O, errors: &mut W) -> io::Result<()> {
     match plan_arguments::read_spacing(env, errors) {
         Some(spacing) => show_interval(out, spacing),
         None => Ok(()),

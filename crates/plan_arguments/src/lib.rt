@@ -53,10 +53,11 @@ fn estimator_named(word: &[u8]) -> Option<u8> {
     }
 }
 
-fn aim_named(word: &[u8]) -> Option<fn(u32) -> Aim> {
+// Whether a target is asked for, and not a count of rounds.
+fn target_named(word: &[u8]) -> Option<bool> {
     match word {
-        b"rounds" => Some(Aim::Rounds),
-        b"target" => Some(Aim::Target),
+        b"rounds" => Some(false),
+        b"target" => Some(true),
         _ => None,
     }
 }
@@ -67,6 +68,7 @@ fn in_a_byte(value: u32) -> u8 {
 }
 
 // The arguments, and where a bad one is complained about.
+#[derive(Drop)]
 struct Reader<'a, E, W> {
     env: &'a E,
     errors: &'a mut W,
@@ -104,7 +106,9 @@ impl<E: Env, W: Write> Reader<'_, E, W> {
         requires { F.IsAlwaysCallable parse }
     {
         let mut buffer = [0u8; 4096];
-        let value = console::argument(self.env, at, &mut buffer).ok().and_then(parse);
+        let value = console::argument(self.env, at, &mut buffer)
+            .ok()
+            .and_then(parse);
         if value.is_none() {
             let _ = self.complain(at, name, wanted);
         }
@@ -146,10 +150,13 @@ impl<E: Env, W: Write> Reader<'_, E, W> {
     }
 
     fn aim(&mut self) -> Option<Aim> {
-        let aim = self.read(7, "argument 7", "rounds or target is wanted", aim_named);
+        let is_target = self.read(7, "argument 7", "rounds or target is wanted", target_named);
         let last = self.number(8, "COUNT or TICKS");
-        let aim = aim?;
-        Some(aim(last?))
+        if is_target? {
+            Some(Aim::Target(last?))
+        } else {
+            Some(Aim::Rounds(last?))
+        }
     }
 
     // How many cabinets are bad. More than N are complained about.

@@ -67,12 +67,7 @@ pub fn show_no_interval(
 }
 
 // A number of ticks, and in brackets the seconds that they are, with these billionths.
-fn show_seconds(
-    out: &mut impl Write,
-    name: &str,
-    ticks: u64,
-    billionths: u64,
-) -> io::Result<()> {
+fn show_seconds(out: &mut impl Write, name: &str, ticks: u64, billionths: u64) -> io::Result<()> {
     write!(out, "{name} {ticks} ticks ({}.", seconds::whole(ticks))?;
     out.write_all(&seconds::decimals(billionths))?;
     writeln!(out, " seconds)")
@@ -85,12 +80,7 @@ pub fn show_interval(out: &mut impl Write, least: u64, greatest: u64) -> io::Res
 }
 
 // The line of a plan: the rounds done, the window, the accuracy, and in brackets the microseconds that these are.
-pub fn show_line(
-    out: &mut impl Write,
-    rounds: u32,
-    window: u32,
-    accuracy: u32,
-) -> io::Result<()> {
+pub fn show_line(out: &mut impl Write, rounds: u32, window: u32, accuracy: u32) -> io::Result<()> {
     write!(out, "{rounds} {window} ({}) ", microseconds(window))?;
     writeln!(out, "{accuracy} ({})", microseconds(accuracy))
 }
@@ -99,6 +89,12 @@ pub fn show_line(
 pub fn show_apart(out: &mut impl Write, name: &str, gap: u32, error: u32) -> io::Result<()> {
     let apart = microseconds(gap);
     let off = microseconds(error);
-    write!(out, "{name} two are at most {gap} ticks ({apart} microseconds) apart, ")?;
-    write!(out, "each within {error} ticks ({off} microseconds) of true time")
+    write!(
+        out,
+        "{name} two are at most {gap} ticks ({apart} microseconds) apart, "
+    )?;
+    write!(
+        out,
+        "each within {error} ticks ({off} microseconds) of true time"
+    )
 }

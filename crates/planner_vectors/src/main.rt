@@ -14,9 +14,7 @@ fn show(out: &mut impl Write, answer: Planned) -> io::Result<()> {
         Planned::Granted(plan) => write!(
             out,
             "  granted {} {} {}",
-            plan.settings.window,
-            plan.accuracy,
-            plan.rounds
+            plan.settings.window, plan.accuracy, plan.rounds
         ),
         Planned::Refused(refusal) => vectors::refused(out, refusal),
     }

@@ -61,7 +61,10 @@ fn show_filled(out: &mut impl Write, filled: Filled) -> io::Result<()> {
 // readings.
 fn write(out: &mut impl Write, vector: &[u8]) -> io::Result<()> {
     let count = (words::word_at(vector, 13) % 65) as usize;
-    let Some((marks, bytes)) = vector.get(21..).and_then(|entries| entries.split_at_checked(count)) else {
+    let Some((marks, bytes)) = vector
+        .get(21..)
+        .and_then(|entries| entries.split_at_checked(count))
+    else {
         return Ok(());
     };
     let mut readings = [0i32; 64];

@@ -9,13 +9,12 @@
 // A program gets a vector as bytes: the first letter of the call's name, and then the numbers.
 #![tactic(auto)]
 
-ghost use Rattle.std.specs.Prelude.{IfOk, ◌≤◌, length};
+ghost use Rattle.std.specs.Prelude.{IfOk, ◌≡◌, ◌≤◌, length};
 
 use model::{ANSWER_HEADER_SIZE, Refusal, Settings};
-use std::fmt;
 use std::fmt::Display;
-use std::io;
 use std::io::{Read, Write};
+use std::{fmt, io};
 
 const MODULUS: u64 = 4_294_967_296;
 
@@ -41,7 +40,9 @@ struct Word {
 
 impl Word {
     // A word of which nothing is read.
-    fn fresh(size: usize) -> Word {
+    fn fresh(size: usize) -> Word
+        ensures { result.size ≡ size }
+    {
         Word {
             size,
             kind: Kind::Nothing,
@@ -51,7 +52,9 @@ impl Word {
     }
 
     // The word with one more digit.
-    fn lengthen(self, digit: u8) -> Word {
+    fn lengthen(self, digit: u8) -> Word
+        ensures { result.size ≡ self.size }
+    {
         let kind = match self.kind {
             Kind::Nothing => Kind::Byte,
             kind => kind,
@@ -154,11 +157,7 @@ fn read_byte(input: &mut impl Read, out: &mut impl Write) -> io::Result<Option<u
 
 // Reads and prints the next line, at most 65,536 characters of it, and answers how many bytes its vector has:
 // none for a heading, and at the end of the input.
-pub fn next(
-    input: &mut impl Read,
-    out: &mut impl Write,
-    vector: &mut [u8],
-) -> io::Result<usize>
+pub fn next(input: &mut impl Read, out: &mut impl Write, vector: &mut [u8]) -> io::Result<usize>
     ensures { IfOk result (λ size. size ≤ length vector.new) }
 {
     let mut word = Word::fresh(0);

@@ -5,7 +5,7 @@
 ghost use Rattle.std.specs.Prelude.{IfOk, IfSome, length, ◌≤◌};
 
 use console::{Failure, Program};
-use falling_back::PairSettled;
+use falling_back::Source;
 use input_sizes::MAX_INPUT;
 use std::fs::File;
 use std::io::{Cursor, Write};
@@ -86,17 +86,14 @@ fn answer(out: &mut impl Write, crusaders: &[u8], direct: &[u8]) -> io::Result<(
     let mut answer = [0u8; 330];
     let mut text = [0u8; ROUND_CAPACITY];
     let end = match falling_back::fall_back(crusaders, direct, &mut answer) {
-        PairSettled::Crusaders(_) => {
-            out.write_all(b"settled by crusaders\n")?;
+        Ok(settled) => {
+            out.write_all(match settled.source {
+                Source::Crusaders => b"settled by crusaders\n",
+                Source::Direct => b"settled by direct\n",
+            })?;
             text::round_text(&answer, &mut text)
         }
-        PairSettled::Direct(_) => {
-            out.write_all(b"settled by direct\n")?;
-            text::round_text(&answer, &mut text)
-        }
-        PairSettled::Refused(refusal) => {
-            text::refusal_text(refusal.number, refusal.place, &mut text)
-        }
+        Err(refusal) => text::refusal_text(refusal.number(), refusal.place, &mut text),
     };
     out.write_all(&text[..end.min(ROUND_CAPACITY)])
 }

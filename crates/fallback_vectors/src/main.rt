@@ -4,8 +4,8 @@
 // the call.
 #![tactic(auto)]
 
-use falling_back::PairSettled;
-use model::Refusal;
+use falling_back::Settlement;
+use refusals::Refusal;
 use std::io;
 use std::io::Write;
 use vectors::{Answer, Spaced};
@@ -20,28 +20,16 @@ fn say_unless(out: &mut impl Write, is_so: bool, what: &str) -> io::Result<()> {
     if is_so { Ok(()) } else { write!(out, "{what}") }
 }
 
-// The same answer again, which each call is handed for good.
-fn same_again(settled: &PairSettled) -> PairSettled {
-    match settled {
-        PairSettled::Crusaders(size) => PairSettled::Crusaders(*size),
-        PairSettled::Direct(size) => PairSettled::Direct(*size),
-        PairSettled::Refused(refusal) => PairSettled::Refused(Refusal {
-            number: refusal.number,
-            place: refusal.place,
-        }),
-    }
-}
-
 // The sheet and the readings that the C call names; and where the part that is shown has other bytes, or is another by
 // `settle_shown`, that it does.
 fn show_part<'a>(
     out: &mut impl Write,
     crusaders: &'a [u8],
     direct: &'a [u8],
-    settled: &PairSettled,
+    settled: Result<Settlement, Refusal>,
 ) -> io::Result<()> {
-    let named = fallback_packing::pack_fallen(crusaders, direct, same_again(settled));
-    let part = shown_readings::shown(crusaders, direct, same_again(settled));
+    let named = fallback_packing::pack_fallen(crusaders, direct, settled);
+    let part = shown_readings::shown(crusaders, direct, settled);
     let mut again = [0u8; 330];
     let once_more = shown_readings::settle_shown(crusaders, direct, &mut again);
     write!(
@@ -63,17 +51,17 @@ fn show<'a>(
     out: &mut impl Write,
     crusaders: &'a [u8],
     direct: &'a [u8],
-    settled: PairSettled,
+    settled: Result<Settlement, Refusal>,
     buffer: &[u8],
 ) -> io::Result<()> {
-    match same_again(&settled) {
-        PairSettled::Crusaders(size) | PairSettled::Direct(size) => {
+    match settled {
+        Ok(Settlement { size, .. }) => {
             let (sheet, behind) = buffer.split_at(size.min(buffer.len()));
             write!(out, "  granted {size}")?;
-            show_part(out, crusaders, direct, &settled)?;
+            show_part(out, crusaders, direct, settled)?;
             writeln!(out, "{}; behind{}", Answer(sheet), Spaced(behind))
         }
-        PairSettled::Refused(refusal) => {
+        Err(refusal) => {
             vectors::refused(out, refusal)?;
             let part = shown_readings::shown(crusaders, direct, settled);
             say_unless(out, part.is_empty(), ", and bytes are shown")?;

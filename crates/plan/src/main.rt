@@ -3,12 +3,11 @@
 #![tactic(auto)]
 
 use console::Failure;
-use interval_bounds::Scheduled;
 use limits::{Limits, Wider};
-use model::{Refusal, Settings};
+use model::Settings;
 use plan_arguments::{Aim, Request, Spacing};
 use plan_text::PLAN;
-use planner::{Counted, Planned};
+use refusals::Refusal;
 use std::env::Env;
 use std::io;
 use std::io::Write;
@@ -21,10 +20,8 @@ fn show_round(
     rounds: u32,
 ) -> io::Result<()> {
     match planner::plan_for(settings, accuracy, rounds) {
-        Planned::Granted(plan) => {
-            plan_text::show_line(out, plan.rounds, plan.settings.window, plan.accuracy)
-        }
-        Planned::Refused(refusal) => plan_text::show_refusal(out, refusal),
+        Ok(plan) => { plan_text::show_line(out, plan.rounds, plan.settings.window, plan.accuracy) }
+        Err(refusal) => plan_text::show_refusal(out, refusal),
     }
 }
 
@@ -55,32 +52,30 @@ fn show_wider(out: &mut impl Write, wider: Wider) -> io::Result<()> {
 fn show_limits(out: &mut impl Write, settings: Settings, accuracy: u32, t: u32) -> io::Result<()> {
     write!(out, "with {t} bad: ")?;
     match limits::limits_for(settings, accuracy, t) {
-        Limits::Planned => writeln!(
+        Ok(Limits::Planned) => writeln!(
             out,
             "no sound cabinet refuses; after each round two are at most its window apart, each within its \
               accuracy of true time"
         ),
-        Limits::Wider(wider) => show_wider(out, wider),
-        Limits::Nothing => writeln!(out, "nothing is promised"),
-        Limits::Refused(refusal) => plan_text::show_refusal(out, refusal),
+        Ok(Limits::Wider(wider)) => show_wider(out, wider),
+        Ok(Limits::Nothing) => writeln!(out, "nothing is promised"),
+        Err(refusal) => plan_text::show_refusal(out, refusal),
     }
 }
 
 // How many rounds are asked for, or reach the target.
 fn rounds_for(request: Request) -> Result<u32, Refusal> {
+    let Request {
+        settings,
+        accuracy,
+        ..
+    } = request;
     match request.aim {
         Aim::Rounds(rounds) => {
-            match planner::plan_for(request.settings, request.accuracy, rounds) {
-                Planned::Granted(_) => Ok(rounds),
-                Planned::Refused(refusal) => Err(refusal),
-            }
+            planner::plan_for(settings, accuracy, rounds)?;
+            Ok(rounds)
         }
-        Aim::Target(target) => {
-            match planner::rounds_for(request.settings, request.accuracy, target) {
-                Counted::Granted(rounds) => Ok(rounds),
-                Counted::Refused(refusal) => Err(refusal),
-            }
-        }
+        Aim::Target(target) => planner::rounds_for(settings, accuracy, target),
     }
 }
 
@@ -104,10 +99,8 @@ fn show_interval(out: &mut impl Write, spacing: Spacing) -> io::Result<()> {
         drift,
     } = spacing;
     match interval_bounds::interval_for(window, precision, drift) {
-        Scheduled::Granted(interval) => {
-            plan_text::show_interval(out, interval.least, interval.greatest)
-        }
-        Scheduled::Refused(refusal) => plan_text::show_no_interval(out, refusal, window, precision),
+        Ok(interval) => { plan_text::show_interval(out, interval.least, interval.greatest) }
+        Err(refusal) => plan_text::show_no_interval(out, refusal, window, precision),
     }
 }
 

@@ -2,8 +2,8 @@
 #![tactic(auto)]
 
 use console::Program;
-use model::{BAD_CABINETS, BAD_FAULTS, BAD_INTERVAL, BAD_METHOD, BAD_PLAN, BAD_WINDOW, Refusal};
 use number_parser::microseconds;
+use refusals::{Reason, Refusal};
 use std::io;
 use std::io::Write;
 
@@ -27,13 +27,14 @@ pub const PLAN: Program = Program {
 };
 
 // What a refusal of the planner means.
-fn explain(number: u8) -> &'static str {
-    match number {
-        BAD_CABINETS => "N is 0 or above 64",
-        BAD_FAULTS => "N is below 3m+1",
-        BAD_METHOD => "no plan has a trimming rule: what such a rule promises is of one round",
-        BAD_WINDOW => "the window is above 1,000,000",
-        BAD_PLAN => {
+fn explain(reason: Reason) -> &'static str {
+    match reason {
+        Reason::BadCabinets => "N is 0 or above 64",
+        Reason::BadFaults => "N is below 3m+1",
+        Reason::BadMethod =>
+            "no plan has a trimming rule: what such a rule promises is of one round",
+        Reason::BadWindow => "the window is above 1,000,000",
+        Reason::BadPlan => {
             "starting accuracy above 1,000,000,000, more than 32 rounds, or a plan that can go no further"
         }
         _ => "no count of rounds up to 32 reaches the target",
@@ -41,8 +42,8 @@ fn explain(number: u8) -> &'static str {
 }
 
 // Why there is no interval.
-fn explain_interval(number: u8, window: u32, precision: u32) -> &'static str {
-    if number == BAD_INTERVAL {
+fn explain_interval(reason: Reason, window: u32, precision: u32) -> &'static str {
+    if reason == Reason::BadInterval {
         "the window or the precision is above 1,000,000, or the drift is not 1 to 1,000"
     } else if window <= precision {
         "the window is not wider than the precision"
@@ -51,9 +52,13 @@ fn explain_interval(number: u8, window: u32, precision: u32) -> &'static str {
     }
 }
 
+// A refusal's number and place, and what it means.
+fn show_why(out: &mut impl Write, refusal: Refusal, why: &str) -> io::Result<()> {
+    writeln!(out, "refused {} {}: {why}", refusal.number(), refusal.place)
+}
+
 pub fn show_refusal(out: &mut impl Write, refusal: Refusal) -> io::Result<()> {
-    let why = explain(refusal.number);
-    writeln!(out, "refused {} {}: {why}", refusal.number, refusal.place)
+    show_why(out, refusal, explain(refusal.reason))
 }
 
 pub fn show_no_interval(
@@ -62,8 +67,11 @@ pub fn show_no_interval(
     window: u32,
     precision: u32,
 ) -> io::Result<()> {
-    let why = explain_interval(refusal.number, window, precision);
-    writeln!(out, "refused {} {}: {why}", refusal.number, refusal.place)
+    show_why(
+        out,
+        refusal,
+        explain_interval(refusal.reason, window, precision),
+    )
 }
 
 // A number of ticks, and in brackets the seconds that they are, with these billionths.

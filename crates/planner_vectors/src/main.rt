@@ -3,29 +3,26 @@
 // greatest interval between rounds.
 #![tactic(auto)]
 
-use interval_bounds::Scheduled;
 use model::Settings;
-use planner::{Counted, Plan, Planned};
+use planner::Plan;
+use refusals::Refusal;
 use std::io;
 use std::io::Write;
 
-fn show(out: &mut impl Write, answer: Planned) -> io::Result<()> {
+fn show(out: &mut impl Write, answer: Result<Plan, Refusal>) -> io::Result<()> {
     match answer {
-        Planned::Granted(plan) => write!(
+        Ok(plan) => write!(
             out,
             "  granted {} {} {}",
             plan.settings.window, plan.accuracy, plan.rounds
         ),
-        Planned::Refused(refusal) => vectors::refused(out, refusal),
+        Err(refusal) => vectors::refused(out, refusal),
     }
 }
 
 // Whether a count is at most 32 and its window at or below the target.
 fn fits(settings: Settings, accuracy: u32, rounds: u32, target: u32) -> bool {
-    match planner::plan_for(settings, accuracy, rounds) {
-        Planned::Granted(plan) => plan.settings.window <= target,
-        Planned::Refused(_) => false,
-    }
+    planner::plan_for(settings, accuracy, rounds).is_ok_and(|plan| plan.settings.window <= target)
 }
 
 fn show_target(
@@ -35,11 +32,9 @@ fn show_target(
     target: u32,
 ) -> io::Result<()> {
     match planner::rounds_for(settings, accuracy, target) {
-        Counted::Granted(rounds) if fits(settings, accuracy, rounds, target) => {
-            write!(out, "  granted")
-        }
-        Counted::Granted(_) => Ok(()),
-        Counted::Refused(refusal) => vectors::refused(out, refusal),
+        Ok(rounds) if fits(settings, accuracy, rounds, target) => { write!(out, "  granted") }
+        Ok(_) => Ok(()),
+        Err(refusal) => vectors::refused(out, refusal),
     }
 }
 
@@ -49,10 +44,8 @@ fn show_interval(out: &mut impl Write, vector: &[u8]) -> io::Result<()> {
     let precision = words::word_at(vector, 5);
     let drift = words::word_at(vector, 9);
     match interval_bounds::interval_for(window, precision, drift) {
-        Scheduled::Granted(interval) => {
-            write!(out, "  granted {} {}", interval.least, interval.greatest)
-        }
-        Scheduled::Refused(refusal) => vectors::refused(out, refusal),
+        Ok(interval) => { write!(out, "  granted {} {}", interval.least, interval.greatest) }
+        Err(refusal) => vectors::refused(out, refusal),
     }
 }
 

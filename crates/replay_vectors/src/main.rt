@@ -2,19 +2,18 @@
 // values, the values, and what stands behind them in the buffer, which holds 165 everywhere before the call.
 #![tactic(auto)]
 
-use replaying::Replayed;
 use std::io;
 use std::io::Write;
 use vectors::{Spaced, Ticks};
 
 fn show(out: &mut impl Write, trace: &[u8], buffer: &mut [u8]) -> io::Result<()> {
     match replaying::replay(trace, &mut *buffer) {
-        Replayed::Granted(size) => {
+        Ok(size) => {
             let (values, behind) = buffer.split_at(size.min(buffer.len()));
             write!(out, "  granted {size}; values{}", Ticks(values))?;
             writeln!(out, "; behind{}", Spaced(behind))
         }
-        Replayed::Refused(refusal) => {
+        Err(refusal) => {
             vectors::refused(out, refusal)?;
             writeln!(out, "; behind{}", Spaced(&*buffer))
         }

@@ -3,19 +3,19 @@
 // and what stands behind the answer in the buffer, which holds 165 everywhere before the call.
 #![tactic(auto)]
 
-use settling::Settled;
+use refusals::Refusal;
 use std::io;
 use std::io::Write;
 use vectors::{Answer, Spaced};
 
-fn show(out: &mut impl Write, settled: Settled, buffer: &[u8]) -> io::Result<()> {
+fn show(out: &mut impl Write, settled: Result<usize, Refusal>, buffer: &[u8]) -> io::Result<()> {
     match settled {
-        Settled::Granted(size) => {
+        Ok(size) => {
             let (sheet, behind) = buffer.split_at(size.min(buffer.len()));
             write!(out, "  granted {size}{}", Answer(sheet))?;
             writeln!(out, "; behind{}", Spaced(behind))
         }
-        Settled::Refused(refusal) => {
+        Err(refusal) => {
             vectors::refused(out, refusal)?;
             writeln!(out, "; behind{}", Spaced(buffer))
         }

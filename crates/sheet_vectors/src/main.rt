@@ -2,20 +2,20 @@
 // vectors), and what they leave in what they are lent, which holds 7 everywhere before each call.
 #![tactic(auto)]
 
-use sheet_checks::Opened;
-use sheet_writer::Filled;
+use model::Settings;
+use refusals::Refusal;
 use std::io;
 use std::io::Write;
 use tick::Tick;
 use vectors::Spaced;
 
-fn show_opened(out: &mut impl Write, opened: Opened) -> io::Result<()> {
+fn show_opened(out: &mut impl Write, opened: Result<Settings, Refusal>) -> io::Result<()> {
     match opened {
-        Opened::Granted(settings) => {
+        Ok(settings) => {
             let sizes = [settings.n, settings.m, settings.rule, settings.estimator];
             write!(out, "  granted{} {}", Spaced(&sizes), settings.window)
         }
-        Opened::Refused(refusal) => vectors::refused(out, refusal),
+        Err(refusal) => vectors::refused(out, refusal),
     }
 }
 
@@ -50,10 +50,10 @@ fn decode(bytes: &[u8], readings: &mut [i32]) {
     }
 }
 
-fn show_filled(out: &mut impl Write, filled: Filled) -> io::Result<()> {
+fn show_filled(out: &mut impl Write, filled: Result<usize, Refusal>) -> io::Result<()> {
     match filled {
-        Filled::Granted(size) => write!(out, "  granted {size}"),
-        Filled::Refused(refusal) => vectors::refused(out, refusal),
+        Ok(size) => write!(out, "  granted {size}"),
+        Err(refusal) => vectors::refused(out, refusal),
     }
 }
 

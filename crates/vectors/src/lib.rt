@@ -11,7 +11,8 @@
 
 ghost use Rattle.std.specs.Prelude.{IfOk, ◌≡◌, ◌≤◌, length};
 
-use model::{ANSWER_HEADER_SIZE, Refusal, Settings};
+use model::{ANSWER_HEADER_SIZE, Settings};
+use refusals::Refusal;
 use std::fmt::Display;
 use std::io::{Read, Write};
 use std::{fmt, io};
@@ -241,5 +242,5 @@ impl Display for Answer<'_> {
 
 // A refusal.
 pub fn refused(out: &mut impl Write, refusal: Refusal) -> io::Result<()> {
-    write!(out, "  refused {} {}", refusal.number, refusal.place)
+    write!(out, "  refused {} {}", refusal.number(), refusal.place)
 }

@@ -3,7 +3,6 @@
 #![tactic(auto)]
 
 ghost use Rattle.std.specs.Prelude.{◌≡◌};
-ghost use Rattle.answer_reader.specs.Fields.{shown_of};
 ghost use Rattle.answer_reader.specs.Fields.{cabinets_in, count_in, estimate_in, value_in, mark_in, used_in};
 ghost use Rattle.packed_refusals.specs.Answers.{packed};
 

@@ -3,7 +3,6 @@
 -- Assumes nothing.
 use mathlib.Core.List.{List}
 use mathlib.Core.Option.{none, some}
-use Rattle.std.proofs.Common.{absurd}
 use mathlib.Core.Path.{◌≡◌, refl, ap, ap₂, ◌∙◌}
 use Prim.Native.Nat.{ℕ, ◌≤◌, ◌%◌, ◌<◌}
 use native.Mathlib.Omega.{arith}

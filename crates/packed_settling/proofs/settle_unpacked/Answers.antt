@@ -1,6 +1,6 @@
 -- What was packed is got back.
 use Rattle.refusals.specs.Answers.{verdict_of}
-use Rattle.packed_settling.proofs.Unpacking.{settled_back}
+use Rattle.packed_settling.proofs.Unpacking.{settle-packs, settled_back}
 use Rattle.packed_settling.proofs.settle_unpacked.Goals as goal
 
 pub returns : goal.returns
@@ -11,3 +11,6 @@ returns c =
     c.unpack.ensures
     c.settle_packed.ensures.value
     c.settle_packed.ensures.answer_after
+
+pub unpack-requires : goal.unpack-requires
+unpack-requires c = settle-packs c.args.sheet.now c.args.answer.now c.settle_packed.result c.settle_packed.ensures.value

@@ -5,11 +5,13 @@
 ghost use Rattle.std.specs.Prelude.{◌≡◌, ◌&&◌, eqb};
 ghost use Rattle.sender_checks.specs.Senders.{present_in, sent_in};
 
+use model::SOUND;
+
 // Whether a sender with this role is sound and a mark of its row is 1.
 fn row_sent(role: u8, row: &[u8]) -> bool
     ensures { result ≡ (eqb role 1 && present_in row.now) }
 {
-    role == 1 && row.contains(&1)
+    role == SOUND && row.contains(&1)
 }
 
 // Whether a sound sender's mark is 1, row by row.

@@ -5,8 +5,7 @@
 ghost use Rattle.std.specs.Prelude.{◌≡◌, ◌+◌, ◌*◌, eqb};
 ghost use Rattle.held.specs.Held.{entry_reading, held_mark, held_value};
 
-// The role of a sound cabinet.
-const SOUND: u8 = 1;
+use model::SOUND;
 
 // A reading as it is held.
 #[derive(Clone, Copy)]

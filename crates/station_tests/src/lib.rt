@@ -4,8 +4,7 @@
 
 ghost use Rattle.std.specs.Prelude.{◌≡◌, not, ◌-◌, eqb};
 
-// The role of a sound cabinet.
-const SOUND: u8 = 1;
+use model::SOUND;
 
 pub fn is_faulty(role: u8) -> bool
     ensures { result ≡ not (eqb role 1) }

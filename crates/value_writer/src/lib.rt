@@ -8,8 +8,7 @@ ghost use Rattle.arithmetic.specs.Naturals.{down};
 ghost use Rattle.arithmetic.specs.Words.{two_to31};
 ghost use Rattle.value_writer.specs.Values.{unfit, size_put, values_put};
 
-// The role of a sound cabinet.
-const SOUND: u8 = 1;
+use model::SOUND;
 
 // The bits of the value that is shown of a cabinet; 0 for a faulty one.
 fn shown(role: u8, value: u32) -> u32

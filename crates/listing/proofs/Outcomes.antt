@@ -18,8 +18,6 @@ use Rattle.model.specs.Refusals.{first_of, settle_checks}
 use Rattle.model.specs.Calls.{Verdict, granted, refused, verdict, Outcome, settle_spread, settle}
 use Rattle.model.specs.Listing.{max_input, listing_buffer, listing}
 use Rattle.sheet_laws.proofs.Outcomes.{refused-some, granted-none}
-use Rattle.settling.specs.declared.Settled.TheVariants.{Granted, Refused}
-use Rattle.settling.specs.Answers.{settling_of}
 use Rattle.text.specs.Text.{text_in, round_capacity, refusal_capacity, round_written, refusal_written}
 use Rattle.text.proofs.Texts.{text_shown, text_fits}
 use Rattle.text.proofs.Listings.{listing-refused, listing-settled}
@@ -74,7 +72,7 @@ module _ (input buffer answer left : List ℕ) (end : ℕ) (size : end ≡ min (
       let less = le-ltb (length buffer) refusal_capacity (le_trans (lit≤ tt) room) in
       rw (less, le-ltb (length buffer) round_capacity room)
 
-  pub refusal-listed : (r : Refusal) → settling_of (Refused r) left ≡ settle (take end input) answer
+  pub refusal-listed : (r : Refusal) → ◌≡◌ {A = Outcome} (record { verdict = refused r; buffer = left }) (settle (take end input) answer)
       → refusal_written r.number r.place buffer ≡ listing_in input buffer
   unfolding listing_in
   refusal-listed r e =
@@ -84,7 +82,7 @@ module _ (input buffer answer left : List ℕ) (end : ℕ) (size : end ≡ min (
       ∙ refusal-room (listing input)
 
   pub round-listed : ((j : ℕ) → byte input j < 256) → (n : ℕ)
-      → settling_of (Granted n) left ≡ settle (take end input) answer
+      → ◌≡◌ {A = Outcome} (record { verdict = granted n; buffer = left }) (settle (take end input) answer)
       → round_written left buffer ≡ listing_in input buffer
   unfolding listing_in
   round-listed small n e =

@@ -6,7 +6,6 @@ ghost use Rattle.model.specs.Listing.{listing_buffer};
 ghost use Rattle.text.specs.Text.{round_capacity};
 ghost use Rattle.listing.specs.Listed.{listing_in};
 
-use settling::Settled;
 use text::ROUND_CAPACITY;
 
 // Settles what is read into an answer buffer of zeros, and writes the text of the answer sheet or of the refusal.
@@ -18,8 +17,8 @@ fn listing_in(input: &[u8], answer: &mut [u8], text: &mut [u8]) -> usize
 {
     let end = input_sizes::read_size(input.len());
     match settling::settle(&input[..end], answer) {
-        Settled::Granted(_) => text::round_text(answer, text),
-        Settled::Refused(r) => text::refusal_text(r.number, r.place, text),
+        Ok(_) => text::round_text(answer, text),
+        Err(refusal) => refused_text::refused_text(refusal, text),
     }
 }
 

@@ -3,10 +3,11 @@
 use Rattle.std.proofs.Common.{◌∙◌, ap}
 use Rattle.text.specs.Text.{Text}
 use Rattle.listing.proofs.Outcomes.{refusal-listed, round-listed}
+use Rattle.refusals.specs.Answers.{refusal_of}
 use Rattle.listing.proofs.listing_in.Goals as goal
 
-pub returns-in-Granted-clause-value : goal.returns-in-Granted-clause-value
-returns-in-Granted-clause-value c =
+pub returns-in-Ok-clause-value : goal.returns-in-Ok-clause-value
+returns-in-Ok-clause-value c =
     let a = c.args in
     let same =
     round-listed a.input.now a.text.now a.answer.now c.settle.new.answer c.read_size-end.result
@@ -14,12 +15,12 @@ returns-in-Granted-clause-value c =
     c.requires.answer_value
     c.requires.round_capacity_in_bounds
     (λ j. (c.type_inv.input j).fits)
-    c.in-Granted.field-0
-    c.in-Granted.ensures in
+    c.in-Ok.field-0
+    c.in-Ok.ensures in
     c.round_text.ensures.value ∙ ap (λ (t : Text). t.size) same
 
-pub returns-in-Granted-clause-text_after : goal.returns-in-Granted-clause-text_after
-returns-in-Granted-clause-text_after c =
+pub returns-in-Ok-clause-text_after : goal.returns-in-Ok-clause-text_after
+returns-in-Ok-clause-text_after c =
     let a = c.args in
     let same =
     round-listed a.input.now a.text.now a.answer.now c.settle.new.answer c.read_size-end.result
@@ -27,30 +28,30 @@ returns-in-Granted-clause-text_after c =
     c.requires.answer_value
     c.requires.round_capacity_in_bounds
     (λ j. (c.type_inv.input j).fits)
-    c.in-Granted.field-0
-    c.in-Granted.ensures in
+    c.in-Ok.field-0
+    c.in-Ok.ensures in
     c.round_text.ensures.text_after ∙ ap (λ (t : Text). t.buffer) same
 
-pub returns-in-Refused-clause-value : goal.returns-in-Refused-clause-value
-returns-in-Refused-clause-value c =
+pub returns-in-Err-clause-value : goal.returns-in-Err-clause-value
+returns-in-Err-clause-value c =
     let a = c.args in
     let same =
     refusal-listed a.input.now a.text.now a.answer.now c.settle.new.answer c.read_size-end.result
     c.read_size-end.ensures
     c.requires.answer_value
     c.requires.round_capacity_in_bounds
-    c.in-Refused.r
-    c.in-Refused.ensures in
-    c.refusal_text.ensures.value ∙ ap (λ (t : Text). t.size) same
+    (refusal_of c.in-Err.refusal)
+    c.in-Err.ensures in
+    c.refused_text.ensures.value ∙ ap (λ (t : Text). t.size) same
 
-pub returns-in-Refused-clause-text_after : goal.returns-in-Refused-clause-text_after
-returns-in-Refused-clause-text_after c =
+pub returns-in-Err-clause-text_after : goal.returns-in-Err-clause-text_after
+returns-in-Err-clause-text_after c =
     let a = c.args in
     let same =
     refusal-listed a.input.now a.text.now a.answer.now c.settle.new.answer c.read_size-end.result
     c.read_size-end.ensures
     c.requires.answer_value
     c.requires.round_capacity_in_bounds
-    c.in-Refused.r
-    c.in-Refused.ensures in
-    c.refusal_text.ensures.text_after ∙ ap (λ (t : Text). t.buffer) same
+    (refusal_of c.in-Err.refusal)
+    c.in-Err.ensures in
+    c.refused_text.ensures.text_after ∙ ap (λ (t : Text). t.buffer) same

@@ -1,6 +1,7 @@
 -- What settling left in the answer buffer, or its refusal, has the listing as its text.
 -- Assumes nothing.
 use mathlib.Core.List.{List}
+use Rattle.std.specs.Prelude.{Ok, Err}
 use mathlib.Core.Option.{none}
 use mathlib.Core.Path.{◌≡◌, sym, ap, ap₂, ◌∙◌}
 use Prim.Native.Nat.{ℕ, ◌≤◌, ◌<◌, min}
@@ -11,13 +12,14 @@ use borrow.Author.Tests.{le-ltb}
 use lib.Dec.{lit<, lit≤}
 use lib.ListN.{length, take, length-take, get_or-eq_default}
 use lib.Seq.{take_all, take-length, get_or-take, length-take-le}
-use Rattle.model.specs.Refusals.{Refusal}
 use Rattle.model.specs.RoundSheet.{byte, settings_at}
 use Rattle.model.specs.AnswerSheet.{answer_length}
 use Rattle.model.specs.Refusals.{first_of, settle_checks}
 use Rattle.model.specs.Calls.{Verdict, granted, refused, verdict, Outcome, settle_spread, settle}
 use Rattle.model.specs.Listing.{max_input, listing_buffer, listing}
 use Rattle.sheet_laws.proofs.Outcomes.{refused-some, granted-none}
+use Rattle.refusals.specs.declared.Refusal.{Refusal}
+use Rattle.refusals.specs.Answers.{refusal_of, outcome_of}
 use Rattle.text.specs.Text.{text_in, round_capacity, refusal_capacity, round_written, refusal_written}
 use Rattle.text.proofs.Texts.{text_shown, text_fits}
 use Rattle.text.proofs.Listings.{listing-refused, listing-settled}
@@ -72,17 +74,17 @@ module _ (input buffer answer left : List ℕ) (end : ℕ) (size : end ≡ min (
       let less = le-ltb (length buffer) refusal_capacity (le_trans (lit≤ tt) room) in
       rw (less, le-ltb (length buffer) round_capacity room)
 
-  pub refusal-listed : (r : Refusal) → ◌≡◌ {A = Outcome} (record { verdict = refused r; buffer = left }) (settle (take end input) answer)
-      → refusal_written r.number r.place buffer ≡ listing_in input buffer
+  pub refusal-listed : (r : Refusal) → outcome_of (Err r) left ≡ settle (take end input) answer
+      → refusal_written (refusal_of r).number (refusal_of r).place buffer ≡ listing_in input buffer
   unfolding listing_in
   refusal-listed r e =
-      listing-refused input buffer r
-      (refused-some (first_of (settle_checks sheet 0 (length listing_buffer))) (answer_length (settings_at sheet).n) r
-      (verdict-here (refused r) e))
+      listing-refused input buffer (refusal_of r)
+      (refused-some (first_of (settle_checks sheet 0 (length listing_buffer))) (answer_length (settings_at sheet).n) (refusal_of r)
+      (verdict-here (refused (refusal_of r)) e))
       ∙ refusal-room (listing input)
 
   pub round-listed : ((j : ℕ) → byte input j < 256) → (n : ℕ)
-      → ◌≡◌ {A = Outcome} (record { verdict = granted n; buffer = left }) (settle (take end input) answer)
+      → outcome_of (Ok n) left ≡ settle (take end input) answer
       → round_written left buffer ≡ listing_in input buffer
   unfolding listing_in
   round-listed small n e =

@@ -1,242 +1,207 @@
 // The arguments of the program `plan`, as a person types them. A bad one is complained about on standard error.
 #![tactic(auto)]
 
+ghost use Rattle.std.specs.Prelude.{IfSome, IsSome, IsTrue, ◌↔◌};
+
 use model::{AVERAGE, CCA, FCA, MEDIAN, MIDPOINT, Settings, TRIMMED_MEAN, TRIMMED_MIDPOINT};
-use std::env::Env;
+use std::env::{Env, FillError};
+use std::io;
 use std::io::Write;
 
-// The first five arguments: the settings, and N as it was typed. Numbers that no settings hold are cut to the highest
-// that they do, which the planner refuses likewise. Nothing is read where one of them was complained about.
-#[derive(Drop)]
-pub struct Ensemble {
+// How many rounds a plan is to have, or the window that it is to reach.
+#[derive(Clone, Copy)]
+pub enum Aim {
+    Rounds(u32),
+    Target(u32),
+}
+
+// What a plan is asked for. Where more cabinets or faults are typed than settings hold, these have the highest number
+// that they hold, which the planner refuses likewise.
+#[derive(Clone, Copy)]
+pub struct Request {
     pub settings: Settings,
-    pub cabinets: u64,
-    pub is_read: bool,
-}
-
-// The next three: the accuracy, 0 for rounds or 1 for a target, and the count or the ticks.
-#[derive(Drop)]
-pub struct Aim {
     pub accuracy: u32,
-    pub kind: u8,
-    pub last: u32,
-    pub is_read: bool,
-}
-
-// The ninth, where it is given: how many cabinets are bad.
-#[derive(Drop)]
-pub struct Bad {
-    pub count: u32,
-    pub is_read: bool,
+    pub aim: Aim,
+    // How many cabinets are bad, where it is said.
+    pub bad: Option<u32>,
 }
 
 // What an interval is asked for: the window, the precision and the drift.
-#[derive(Drop)]
+#[derive(Clone, Copy)]
 pub struct Spacing {
     pub window: u32,
     pub precision: u32,
     pub drift: u32,
-    pub is_read: bool,
 }
 
-// What was given, on standard error. Of an argument that is longer than its buffer `console::argument` leaves
-// the first bytes and answers 0.
-fn show_given(env: &impl Env, errors: &mut impl Write, at: usize) {
-    let mut given = [0u8; 60];
-    let n = console::argument(env, at, &mut given);
-    if (n == 0) & (given[0] != 0) {
-        console::write_all(errors, &given);
-        console::write_all(errors, b"..");
-    } else {
-        console::write_all(errors, &given[..n]);
+fn rule_named(word: &[u8]) -> Option<u8> {
+    match word {
+        b"fca" => Some(FCA),
+        b"cca" => Some(CCA),
+        b"trimmed-midpoint" => Some(TRIMMED_MIDPOINT),
+        b"trimmed-mean" => Some(TRIMMED_MEAN),
+        _ => None,
     }
 }
 
-// A bad argument, on standard error: its name, what was given, what is wanted.
-fn complain(env: &impl Env, errors: &mut impl Write, name: &[u8], at: usize, wanted: &[u8]) {
-    console::write_all(errors, b"plan: ");
-    console::write_all(errors, name);
-    console::write_all(errors, b" is '");
-    show_given(env, errors, at);
-    console::write_all(errors, b"': ");
-    console::write_all(errors, wanted);
-    console::write_all(errors, b"\n");
+fn estimator_named(word: &[u8]) -> Option<u8> {
+    match word {
+        b"average" => Some(AVERAGE),
+        b"median" => Some(MEDIAN),
+        b"midpoint" => Some(MIDPOINT),
+        _ => None,
+    }
 }
 
-// Above every number of 32 bits, for an argument that is none.
-const NO_NUMBER: u64 = 4_294_967_296;
-
-// The number that an argument is, or `NO_NUMBER`, which is complained about.
-fn number_at(env: &impl Env, errors: &mut impl Write, at: usize, name: &[u8]) -> u64 {
-    let mut given = [0u8; 4096];
-    let n = console::argument(env, at, &mut given);
-    if let Some(value) = number_parser::number_in(&given[..n]) {
-        return value as u64;
+// Whether a target is asked for, and not a count of rounds.
+fn target_named(word: &[u8]) -> Option<bool> {
+    match word {
+        b"rounds" => Some(false),
+        b"target" => Some(true),
+        _ => None,
     }
-    complain(
-        env,
-        errors,
-        name,
-        at,
-        b"a whole number from 0 to 4294967295 is wanted",
-    );
-    NO_NUMBER
-}
-
-// Whether an argument is a word.
-pub fn is_word(env: &impl Env, at: usize, word: &[u8]) -> bool {
-    let mut given = [0u8; 4096];
-    let n = console::argument(env, at, &mut given);
-    &given[..n] == word
-}
-
-// The rule's number, or 255, which is complained about.
-fn rule_at(env: &impl Env, errors: &mut impl Write, at: usize) -> u8 {
-    if is_word(env, at, b"fca") {
-        return FCA;
-    }
-    if is_word(env, at, b"cca") {
-        return CCA;
-    }
-    if is_word(env, at, b"trimmed-midpoint") {
-        return TRIMMED_MIDPOINT;
-    }
-    if is_word(env, at, b"trimmed-mean") {
-        return TRIMMED_MEAN;
-    }
-    complain(
-        env,
-        errors,
-        b"RULE",
-        at,
-        b"fca or cca is wanted (no plan has trimmed-midpoint or trimmed-mean)",
-    );
-    255
-}
-
-// The estimator's number, or 255, which is complained about.
-fn estimator_at(env: &impl Env, errors: &mut impl Write, at: usize) -> u8 {
-    if is_word(env, at, b"average") {
-        return AVERAGE;
-    }
-    if is_word(env, at, b"median") {
-        return MEDIAN;
-    }
-    if is_word(env, at, b"midpoint") {
-        return MIDPOINT;
-    }
-    complain(
-        env,
-        errors,
-        b"ESTIMATOR",
-        at,
-        b"average, median or midpoint is wanted",
-    );
-    255
-}
-
-// 0 for rounds, 1 for a target, or 255, which is complained about.
-fn aim_at(env: &impl Env, errors: &mut impl Write, at: usize) -> u8 {
-    if is_word(env, at, b"rounds") {
-        return 0;
-    }
-    if is_word(env, at, b"target") {
-        return 1;
-    }
-    complain(
-        env,
-        errors,
-        b"argument 7",
-        at,
-        b"rounds or target is wanted",
-    );
-    255
 }
 
 // A number of cabinets in a byte. Those above 255 are refused as 255 is.
-fn in_a_byte(value: u64) -> u8 {
-    if value < 255 { value as u8 } else { 255 }
+fn in_a_byte(value: u32) -> u8 {
+    value.min(255) as u8
 }
 
-fn in_32_bits(value: u64) -> u32 {
-    if value < 4_294_967_295 {
-        value as u32
+// The arguments, and where a bad one is complained about.
+#[derive(Drop)]
+struct Reader<'a, E, W> {
+    env: &'a E,
+    errors: &'a mut W,
+}
+
+impl<E: Env, W: Write> Reader<'_, E, W> {
+    // What was given; of an argument that is longer than the buffer the first bytes.
+    fn show_given(&mut self, at: usize) -> io::Result<()> {
+        let mut given = [0u8; 60];
+        match self.env.arg(at, &mut given) {
+            Ok(size) => self.errors.write_all(&given[..size]),
+            Err(FillError::TooLong) => {
+                self.errors.write_all(&given)?;
+                self.errors.write_all(b"..")
+            }
+            Err(FillError::NotPresent) => Ok(()),
+        }
+    }
+
+    // A bad argument: its name, what was given, what is wanted.
+    fn complain(&mut self, at: usize, name: &str, wanted: &str) -> io::Result<()> {
+        write!(self.errors, "plan: {name} is '")?;
+        self.show_given(at)?;
+        writeln!(self.errors, "': {wanted}")
+    }
+
+    // What an argument says; none is complained about.
+    fn read<T, F: FnOnce(&[u8]) -> Option<T>>(
+        &mut self,
+        at: usize,
+        name: &str,
+        wanted: &str,
+        parse: F,
+    ) -> Option<T>
+        requires { F.IsAlwaysCallable parse }
+    {
+        let mut buffer = [0u8; 4096];
+        let value = console::argument(self.env, at, &mut buffer)
+            .ok()
+            .and_then(parse);
+        if value.is_none() {
+            let _ = self.complain(at, name, wanted);
+        }
+        value
+    }
+
+    fn number(&mut self, at: usize, name: &str) -> Option<u32> {
+        self.read(
+            at,
+            name,
+            "a whole number from 0 to 4294967295 is wanted",
+            number_parser::number_in,
+        )
+    }
+
+    // The settings, with N as it was read.
+    fn settings(&mut self, n: Option<u32>) -> Option<Settings> {
+        let m = self.number(2, "M");
+        let rule = self.read(
+            3,
+            "RULE",
+            "fca or cca is wanted (no plan has trimmed-midpoint or trimmed-mean)",
+            rule_named,
+        );
+        let estimator = self.read(
+            4,
+            "ESTIMATOR",
+            "average, median or midpoint is wanted",
+            estimator_named,
+        );
+        let window = self.number(5, "WINDOW");
+        Some(Settings {
+            n: in_a_byte(n?),
+            m: in_a_byte(m?),
+            rule: rule?,
+            estimator: estimator?,
+            window: window?,
+        })
+    }
+
+    fn aim(&mut self) -> Option<Aim> {
+        let is_target = self.read(7, "argument 7", "rounds or target is wanted", target_named);
+        let last = self.number(8, "COUNT or TICKS");
+        if is_target? {
+            Some(Aim::Target(last?))
+        } else {
+            Some(Aim::Rounds(last?))
+        }
+    }
+
+    // How many cabinets are bad. More than N are complained about.
+    fn bad(&mut self, n: Option<u32>) -> Option<u32> {
+        let bad = self.number(9, "T")?;
+        if n.is_some_and(|n| n < bad) {
+            let _ = self.complain(9, "T", "a number of at most N is wanted");
+            return None;
+        }
+        Some(bad)
+    }
+}
+
+// What a plan is asked for, and for how many bad cabinets where it is limited. Every argument is read before one that
+// was complained about ends the reading.
+pub fn read_request<E: Env, W: Write>(env: &E, errors: &mut W, is_limited: bool) -> Option<Request>
+    ensures { IfSome result (λ request. IsTrue is_limited ↔ IsSome request.bad) }
+{
+    let mut reader = Reader { env, errors };
+    let n = reader.number(1, "N");
+    let settings = reader.settings(n);
+    let accuracy = reader.number(6, "ACCURACY");
+    let aim = reader.aim();
+    let bad = if is_limited {
+        Some(reader.bad(n)?)
     } else {
-        4_294_967_295
-    }
-}
-
-fn is_number(value: u64) -> bool {
-    value < NO_NUMBER
-}
-
-// The ninth argument, where it is given.
-fn limit_at(env: &impl Env, errors: &mut impl Write, is_limited: bool) -> u64 {
-    if is_limited {
-        number_at(env, errors, 9, b"T")
-    } else {
-        0
-    }
-}
-
-// Whether at most N cabinets are bad; more are complained about.
-fn is_within(env: &impl Env, errors: &mut impl Write, t: u64, n: u64) -> bool {
-    if is_number(t) & (n < t) {
-        complain(env, errors, b"T", 9, b"a number of at most N is wanted");
-        return false;
-    }
-    true
-}
-
-pub fn read_ensemble(env: &impl Env, errors: &mut impl Write) -> Ensemble {
-    let n = number_at(env, errors, 1, b"N");
-    let m = number_at(env, errors, 2, b"M");
-    let rule = rule_at(env, errors, 3);
-    let estimator = estimator_at(env, errors, 4);
-    let window = number_at(env, errors, 5, b"WINDOW");
-    let settings = Settings {
-        n: in_a_byte(n),
-        m: in_a_byte(m),
-        rule,
-        estimator,
-        window: in_32_bits(window),
+        None
     };
-    Ensemble {
-        settings,
-        cabinets: n,
-        is_read: is_number(n) & is_number(m) & is_number(window) & (rule < 255) & (estimator < 255),
-    }
-}
-
-pub fn read_aim(env: &impl Env, errors: &mut impl Write) -> Aim {
-    let accuracy = number_at(env, errors, 6, b"ACCURACY");
-    let kind = aim_at(env, errors, 7);
-    let last = number_at(env, errors, 8, b"COUNT or TICKS");
-    Aim {
-        accuracy: in_32_bits(accuracy),
-        kind,
-        last: in_32_bits(last),
-        is_read: is_number(accuracy) & (kind < 255) & is_number(last),
-    }
-}
-
-pub fn read_bad(env: &impl Env, errors: &mut impl Write, is_limited: bool, cabinets: u64) -> Bad {
-    let t = limit_at(env, errors, is_limited);
-    Bad {
-        count: in_32_bits(t),
-        is_read: is_number(t) & is_within(env, errors, t, cabinets),
-    }
+    Some(Request {
+        settings: settings?,
+        accuracy: accuracy?,
+        aim: aim?,
+        bad,
+    })
 }
 
 // The three arguments behind the word `interval`.
-pub fn read_spacing(env: &impl Env, errors: &mut impl Write) -> Spacing {
-    let window = number_at(env, errors, 2, b"WINDOW");
-    let precision = number_at(env, errors, 3, b"PRECISION");
-    let drift = number_at(env, errors, 4, b"DRIFT");
-    Spacing {
-        window: in_32_bits(window),
-        precision: in_32_bits(precision),
-        drift: in_32_bits(drift),
-        is_read: is_number(window) & is_number(precision) & is_number(drift),
-    }
+pub fn read_spacing<E: Env, W: Write>(env: &E, errors: &mut W) -> Option<Spacing> {
+    let mut reader = Reader { env, errors };
+    let window = reader.number(2, "WINDOW");
+    let precision = reader.number(3, "PRECISION");
+    let drift = reader.number(4, "DRIFT");
+    Some(Spacing {
+        window: window?,
+        precision: precision?,
+        drift: drift?,
+    })
 }

@@ -9,157 +9,182 @@
 // A program gets a vector as bytes: the first letter of the call's name, and then the numbers.
 #![tactic(auto)]
 
-ghost use Rattle.std.specs.Prelude.{◌≤◌, length};
+ghost use Rattle.std.specs.Prelude.{IfOk, ◌≡◌, ◌≤◌, length};
 
-use model::{Refusal, Settings};
+use model::{ANSWER_HEADER_SIZE, Settings};
+use refusals::Refusal;
+use std::fmt::Display;
 use std::io::{Read, Write};
-
-// What a word is so far. A digit makes nothing a byte, and leaves the others, which are odd.
-const NOTHING: u8 = 0;
-
-const BYTE: u8 = 1;
-
-const PLUS: u8 = 3;
-
-const MINUS: u8 = 5;
-
-const COMMENT: u8 = 7;
+use std::{fmt, io};
 
 const MODULUS: u64 = 4_294_967_296;
 
-// How many bytes were put, and the word that is being read: what it is so far, the number of its digits, and how
+// What a word is so far.
+#[derive(Clone, Copy, PartialEq, Eq)]
+enum Kind {
+    Nothing,
+    Byte,
+    Plus,
+    Minus,
+    Comment,
+}
+
+// The word that is being read, behind so many bytes of the vector: what it is so far, the number of its digits, and how
 // many times it is put.
 #[derive(Clone, Copy)]
 struct Word {
     size: usize,
-    kind: u8,
+    kind: Kind,
     value: u64,
     times: u64,
 }
 
-// The next byte of the input, which is printed too; 0 at the end of the input.
-fn read_byte(input: &mut impl Read, out: &mut impl Write) -> u8 {
+impl Word {
+    // A word of which nothing is read.
+    fn fresh(size: usize) -> Word
+        ensures { result.size ≡ size }
+    {
+        Word {
+            size,
+            kind: Kind::Nothing,
+            value: 0,
+            times: 1,
+        }
+    }
+
+    // The word with one more digit.
+    fn lengthen(self, digit: u8) -> Word
+        ensures { result.size ≡ self.size }
+    {
+        let kind = match self.kind {
+            Kind::Nothing => Kind::Byte,
+            kind => kind,
+        };
+        Word {
+            kind,
+            value: 10 * (self.value % MODULUS) + u64::from(digit),
+            ..self
+        }
+    }
+
+    // The word with one more character.
+    fn grow(self, character: u8) -> Word
+        ensures { result.size ≡ self.size }
+    {
+        match character {
+            b'#' => Word {
+                kind: Kind::Comment,
+                ..self
+            },
+            b'*' => Word {
+                kind: Kind::Nothing,
+                value: 0,
+                times: self.value,
+                ..self
+            },
+            b'+' => Word {
+                kind: Kind::Plus,
+                ..self
+            },
+            b'-' => Word {
+                kind: Kind::Minus,
+                ..self
+            },
+            b'0'..=b'9' => self.lengthen(character - b'0'),
+            b':'..=255 if self.size == 0 && self.value == 0 => Word {
+                kind: Kind::Byte,
+                value: u64::from(character),
+                ..self
+            },
+            _ => self,
+        }
+    }
+
+    // The bytes of the word's number, that of one byte four times.
+    fn bytes(self) -> [u8; 4] {
+        let low = (self.value % MODULUS) as u32;
+        match self.kind {
+            Kind::Byte => [(low % 256) as u8; 4],
+            Kind::Minus => low.wrapping_neg().to_le_bytes(),
+            _ => low.to_le_bytes(),
+        }
+    }
+
+    // How many bytes the word puts.
+    fn count(self) -> u64 {
+        match self.kind {
+            Kind::Nothing | Kind::Comment => 0,
+            Kind::Byte => self.times,
+            Kind::Plus | Kind::Minus => self.times % MODULUS * 4,
+        }
+    }
+
+    // Puts the word, as far as the vector has room, and answers the place behind it.
+    fn put(self, vector: &mut [u8]) -> usize
+        requires { self.size ≤ length vector.old }
+        ensures { result ≤ length vector.new }
+    {
+        let bytes = self.bytes();
+        let room = vector.len() - self.size;
+        let end = self.size + self.count().min(room as u64) as usize;
+        'places: for (k, place) in vector[self.size..end].iter_mut().enumerate() {
+            *place = bytes[k % 4];
+        }
+        end
+    }
+
+    // Takes a character: a space puts the word, and begins another.
+    fn take(self, vector: &mut [u8], character: u8) -> Word
+        requires { self.size ≤ length vector.old }
+        ensures { result.size ≤ length vector.new }
+    {
+        if self.kind == Kind::Comment {
+            return self;
+        }
+        if character == b' ' {
+            return Word::fresh(self.put(vector));
+        }
+        self.grow(character)
+    }
+}
+
+// The next byte of the input, which is printed too; none at the end of the input.
+fn read_byte(input: &mut impl Read, out: &mut impl Write) -> io::Result<Option<u8>> {
     let mut byte = [0u8; 1];
     let size = input.read(&mut byte).unwrap_or(0);
-    console::write_all(out, &byte[0..size]);
-    byte[0]
-}
-
-// The word with one more character.
-fn grow(word: Word, character: u8) -> Word {
-    let mut next = word;
-    if character == b'#' {
-        next.kind = COMMENT;
-        return next;
-    }
-    if character == b'*' {
-        next.kind = NOTHING;
-        next.times = word.value;
-        next.value = 0;
-        return next;
-    }
-    if character == b'+' {
-        next.kind = PLUS;
-        return next;
-    }
-    if character == b'-' {
-        next.kind = MINUS;
-        return next;
-    }
-    if character < b'0' {
-        return next;
-    }
-    if character <= b'9' {
-        next.kind = word.kind | BYTE;
-        next.value = 10 * (word.value % MODULUS) + ((character - b'0') as u64);
-        return next;
-    }
-    if (word.size == 0) & (word.value == 0) {
-        next.kind = BYTE;
-        next.value = character as u64;
-        return next;
-    }
-    next
-}
-
-// The 32 bits of a word's number, that of one byte in each of the four.
-fn bits_of(kind: u8, value: u64) -> u32 {
-    if kind == BYTE {
-        return ((value % 256) as u32) * 16_843_009;
-    }
-    if kind == MINUS {
-        return ((MODULUS - value % MODULUS) % MODULUS) as u32;
-    }
-    (value % MODULUS) as u32
-}
-
-// How many bytes a word puts.
-fn count_of(kind: u8, times: u64) -> u64 {
-    if kind == NOTHING {
-        return 0;
-    }
-    if kind == BYTE {
-        return times;
-    }
-    times % MODULUS * 4
-}
-
-// Puts so many bytes, those of the bits over and over, from a place on, and answers the place behind them.
-fn put(vector: &mut [u8], from: usize, bits: u32, count: u64) -> usize {
-    let mut size = from;
-    let mut rest = bits;
-    let mut left = count;
-    'bytes: while 0 < left {
-        if vector.len() <= size {
-            return size;
-        }
-        vector[size] = (rest % 256) as u8;
-        rest = rest / 256 + rest % 256 * 16_777_216;
-        size += 1;
-        left -= 1;
-    }
-    size
-}
-
-// A word of which nothing is read, behind so many bytes.
-fn fresh(size: usize) -> Word {
-    Word {
-        size,
-        kind: NOTHING,
-        value: 0,
-        times: 1,
-    }
-}
-
-// Takes a character: a space puts the word, and begins another.
-fn take(vector: &mut [u8], word: Word, character: u8) -> Word {
-    if word.kind == COMMENT {
-        return word;
-    }
-    if character == b' ' {
-        let bits = bits_of(word.kind, word.value);
-        let count = count_of(word.kind, word.times);
-        return fresh(put(vector, word.size, bits, count));
-    }
-    grow(word, character)
+    out.write_all(&byte[..size])?;
+    Ok(byte[..size].first().copied())
 }
 
 // Reads and prints the next line, at most 65,536 characters of it, and answers how many bytes its vector has:
 // none for a heading, and at the end of the input.
-pub fn next(input: &mut impl Read, out: &mut impl Write, vector: &mut [u8]) -> usize
-    ensures { result ≤ length vector.new }
+pub fn next(input: &mut impl Read, out: &mut impl Write, vector: &mut [u8]) -> io::Result<usize>
+    ensures { IfOk result (λ size. size ≤ length vector.new) }
 {
-    let mut word = fresh(0);
+    let mut word = Word::fresh(0);
     'characters: for _ in 0..65_536u32 {
-        let character = read_byte(input, out);
-        if character < b' ' {
-            break 'characters;
+        match read_byte(input, out)? {
+            Some(character) if b' ' <= character => word = word.take(vector, character),
+            _ => break 'characters,
         }
-        word = take(vector, word, character);
     }
-    let last = take(vector, word, b' ');
-    let size = last.size;
-    if size <= vector.len() { size } else { 0 }
+    Ok(word.take(vector, b' ').size)
+}
+
+// Reads and prints each line, of which there are at most a thousand, and answers its vector.
+pub fn answer_lines<R: Read, W: Write, F: Fn(&mut W, &[u8]) -> io::Result<()>>(
+    input: &mut R,
+    out: &mut W,
+    vector: &mut [u8],
+    answer: F,
+) -> io::Result<()>
+    requires { F.IsAlwaysCallable answer }
+{
+    'lines: for _ in 0..1000u32 {
+        let size = next(input, out, vector)?;
+        answer(out, &vector[..size])?;
+    }
+    Ok(())
 }
 
 // The settings that a vector starts with.
@@ -173,64 +198,49 @@ pub fn settings(vector: &[u8]) -> Settings {
     }
 }
 
-// Ends a line.
-pub fn end(out: &mut impl Write) {
-    console::write_all(out, b"\n");
-}
+// Bytes or numbers, each behind a space.
+#[derive(Clone, Copy)]
+pub struct Spaced<'a, T>(pub &'a [T]);
 
-pub fn number(out: &mut impl Write, value: u64) {
-    console::write_all(out, b" ");
-    console::write_decimal(out, value);
-}
-
-pub fn byte(out: &mut impl Write, value: u8) {
-    number(out, value as u64);
-}
-
-// A signed number, given its bits.
-pub fn signed(out: &mut impl Write, bits: u32) {
-    if bits < 2_147_483_648 {
-        number(out, bits as u64);
-    } else {
-        console::write_all(out, b" -");
-        console::write_decimal(out, MODULUS - (bits as u64));
-    }
-}
-
-pub fn granted(out: &mut impl Write) {
-    console::write_all(out, b"  granted");
-}
-
-pub fn refused(out: &mut impl Write, refusal: Refusal) {
-    console::write_all(out, b"  refused");
-    byte(out, refusal.number);
-    number(out, refusal.place as u64);
-}
-
-// The bytes from a place up to another.
-pub fn bytes(out: &mut impl Write, name: &[u8], s: &[u8], from: usize, to: usize) {
-    console::write_all(out, name);
-    let mut i = from;
-    'bytes: while i < to {
-        if s.len() <= i {
-            return;
+impl<T: Display> Display for Spaced<'_, T> {
+    fn fmt<W: fmt::Write>(&self, f: &mut fmt::Formatter<W>) -> fmt::Result {
+        'items: for item in self.0 {
+            write!(f, " {item}")?;
         }
-        byte(out, s[i]);
-        i += 1;
+        Ok(())
     }
 }
 
-// So many signed numbers of four bytes from a place on.
-pub fn ticks(out: &mut impl Write, name: &[u8], s: &[u8], from: usize, count: usize) {
-    console::write_all(out, name);
-    let mut at = from;
-    let mut left = count;
-    'numbers: while 0 < left {
-        if s.len() <= at {
-            return;
+// Signed numbers of four bytes, each behind a space.
+#[derive(Clone, Copy)]
+pub struct Ticks<'a>(pub &'a [u8]);
+
+impl Display for Ticks<'_> {
+    fn fmt<W: fmt::Write>(&self, f: &mut fmt::Formatter<W>) -> fmt::Result {
+        'numbers: for bytes in self.0.chunks(4) {
+            write!(f, " {}", words::word_at(bytes, 0).cast_signed())?;
         }
-        signed(out, words::word_at(s, at));
-        at += 4;
-        left -= 1;
+        Ok(())
     }
+}
+
+// An answer sheet: the round, the marks and the used values.
+#[derive(Clone, Copy)]
+pub struct Answer<'a>(pub &'a [u8]);
+
+impl Display for Answer<'_> {
+    fn fmt<W: fmt::Write>(&self, f: &mut fmt::Formatter<W>) -> fmt::Result {
+        let sheet = self.0;
+        let (header, entries) = sheet.split_at(ANSWER_HEADER_SIZE.min(sheet.len()));
+        let (counts, values) = header.split_at(2.min(header.len()));
+        let cabinets = words::byte_at(sheet, 0) as usize;
+        let (marks, used) = entries.split_at(cabinets.min(entries.len()));
+        write!(f, "; round{}{}", Spaced(counts), Ticks(values))?;
+        write!(f, "; marks{}; used{}", Spaced(marks), Ticks(used))
+    }
+}
+
+// A refusal.
+pub fn refused(out: &mut impl Write, refusal: Refusal) -> io::Result<()> {
+    write!(out, "  refused {} {}", refusal.number(), refusal.place)
 }

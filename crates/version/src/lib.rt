@@ -12,8 +12,8 @@ pub fn number() -> u32
 }
 
 // Major, minor and patch, parted by full stops.
-pub fn text() -> [u8; 5]
-    ensures { result ≡ version_text }
+pub fn text() -> &'static str
+    ensures { result.now ≡ version_text }
 {
-    [b'0', b'.', b'7', b'.', b'0']
+    "0.7.0"
 }

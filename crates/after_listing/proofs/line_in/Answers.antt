@@ -5,8 +5,8 @@ use Rattle.refusals.specs.Answers.{refusal_of}
 use Rattle.after_listing.proofs.Outcomes.{refusal-listed, line-listed}
 use Rattle.after_listing.proofs.line_in.Goals as goal
 
-pub returns-in-Ok-clause-value : goal.returns-in-Ok-clause-value
-returns-in-Ok-clause-value c =
+pub returns-in-Ok : goal.returns-in-Ok
+returns-in-Ok c =
     let a = c.args in
     let same =
     line-listed a.trace.now a.k a.text.now a.values.now c.replay_to.new.values c.requires.k_bound
@@ -16,35 +16,16 @@ returns-in-Ok-clause-value c =
     (λ j. (c.type_inv.trace j).fits)
     c.in-Ok.field-0
     c.in-Ok.ensures in
-    c.after_text.ensures.value ∙ ap (λ (t : Text). t.size) same
+    let text = c.after_text.ensures in
+    record { value = text.value ∙ ap (λ (t : Text). t.size) same; text_after = text.text_after ∙ ap (λ (t : Text). t.buffer) same }
 
-pub returns-in-Ok-clause-text_after : goal.returns-in-Ok-clause-text_after
-returns-in-Ok-clause-text_after c =
+pub returns-in-Err : goal.returns-in-Err
+returns-in-Err c =
     let a = c.args in
-    let same =
-    line-listed a.trace.now a.k a.text.now a.values.now c.replay_to.new.values c.requires.k_bound
-    c.requires.values_len
-    c.byte_at-n.result
-    c.byte_at-n.ensures
-    (λ j. (c.type_inv.trace j).fits)
-    c.in-Ok.field-0
-    c.in-Ok.ensures in
-    c.after_text.ensures.text_after ∙ ap (λ (t : Text). t.buffer) same
-
-pub returns-in-Err-clause-value : goal.returns-in-Err-clause-value
-returns-in-Err-clause-value c =
-    let a = c.args in
-    (refusal-listed a.trace.now a.k a.text.now a.values.now c.replay_to.new.values c.requires.k_bound
+    let none =
+    refusal-listed a.trace.now a.k a.text.now a.values.now c.replay_to.new.values c.requires.k_bound
     c.requires.values_len
     (refusal_of c.in-Err.field-0)
     c.in-Err.ensures
-    c.requires.after_capacity_in_bounds).0
-
-pub returns-in-Err-clause-text_after : goal.returns-in-Err-clause-text_after
-returns-in-Err-clause-text_after c =
-    let a = c.args in
-    (refusal-listed a.trace.now a.k a.text.now a.values.now c.replay_to.new.values c.requires.k_bound
-    c.requires.values_len
-    (refusal_of c.in-Err.field-0)
-    c.in-Err.ensures
-    c.requires.after_capacity_in_bounds).1
+    c.requires.after_capacity_in_bounds in
+    record { value = none.0; text_after = none.1 }

@@ -3,11 +3,10 @@
 use Rattle.std.proofs.Common.{◌∙◌, ap}
 use Rattle.text.specs.Text.{Text}
 use Rattle.listing.proofs.Outcomes.{refusal-listed, round-listed}
-use Rattle.refusals.specs.Answers.{refusal_of}
 use Rattle.listing.proofs.listing_in.Goals as goal
 
-pub returns-in-Ok-clause-value : goal.returns-in-Ok-clause-value
-returns-in-Ok-clause-value c =
+pub returns-in-Ok : goal.returns-in-Ok
+returns-in-Ok c =
     let a = c.args in
     let same =
     round-listed a.input.now a.text.now a.answer.now c.settle.new.answer c.read_size-end.result
@@ -17,41 +16,18 @@ returns-in-Ok-clause-value c =
     (λ j. (c.type_inv.input j).fits)
     c.in-Ok.field-0
     c.in-Ok.ensures in
-    c.round_text.ensures.value ∙ ap (λ (t : Text). t.size) same
+    let text = c.round_text.ensures in
+    record { value = text.value ∙ ap (λ (t : Text). t.size) same; text_after = text.text_after ∙ ap (λ (t : Text). t.buffer) same }
 
-pub returns-in-Ok-clause-text_after : goal.returns-in-Ok-clause-text_after
-returns-in-Ok-clause-text_after c =
-    let a = c.args in
-    let same =
-    round-listed a.input.now a.text.now a.answer.now c.settle.new.answer c.read_size-end.result
-    c.read_size-end.ensures
-    c.requires.answer_value
-    c.requires.round_capacity_in_bounds
-    (λ j. (c.type_inv.input j).fits)
-    c.in-Ok.field-0
-    c.in-Ok.ensures in
-    c.round_text.ensures.text_after ∙ ap (λ (t : Text). t.buffer) same
-
-pub returns-in-Err-clause-value : goal.returns-in-Err-clause-value
-returns-in-Err-clause-value c =
+pub returns-in-Err : goal.returns-in-Err
+returns-in-Err c =
     let a = c.args in
     let same =
     refusal-listed a.input.now a.text.now a.answer.now c.settle.new.answer c.read_size-end.result
     c.read_size-end.ensures
     c.requires.answer_value
     c.requires.round_capacity_in_bounds
-    (refusal_of c.in-Err.refusal)
+    c.in-Err.refusal
     c.in-Err.ensures in
-    c.refused_text.ensures.value ∙ ap (λ (t : Text). t.size) same
-
-pub returns-in-Err-clause-text_after : goal.returns-in-Err-clause-text_after
-returns-in-Err-clause-text_after c =
-    let a = c.args in
-    let same =
-    refusal-listed a.input.now a.text.now a.answer.now c.settle.new.answer c.read_size-end.result
-    c.read_size-end.ensures
-    c.requires.answer_value
-    c.requires.round_capacity_in_bounds
-    (refusal_of c.in-Err.refusal)
-    c.in-Err.ensures in
-    c.refused_text.ensures.text_after ∙ ap (λ (t : Text). t.buffer) same
+    let text = c.refused_text.ensures in
+    record { value = text.value ∙ ap (λ (t : Text). t.size) same; text_after = text.text_after ∙ ap (λ (t : Text). t.buffer) same }

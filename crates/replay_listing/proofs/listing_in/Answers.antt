@@ -5,42 +5,24 @@ use Rattle.refusals.specs.Answers.{refusal_of}
 use Rattle.replay_listing.proofs.Outcomes.{refusal-listed, final_listed}
 use Rattle.replay_listing.proofs.listing_in.Goals as goal
 
-pub returns-in-Ok-clause-value : goal.returns-in-Ok-clause-value
-returns-in-Ok-clause-value c =
+pub returns-in-Ok : goal.returns-in-Ok
+returns-in-Ok c =
     let a = c.args in
     let same =
     final_listed a.trace.now a.text.now a.values.now c.replay.new.values c.requires.values_len
     (λ j. (c.type_inv.trace j).fits)
     c.in-Ok.field-0
     c.in-Ok.ensures in
-    c.final_text.ensures.value ∙ ap (λ (t : Text). t.size) same
+    let text = c.final_text.ensures in
+    record { value = text.value ∙ ap (λ (t : Text). t.size) same; text_after = text.text_after ∙ ap (λ (t : Text). t.buffer) same }
 
-pub returns-in-Ok-clause-text_after : goal.returns-in-Ok-clause-text_after
-returns-in-Ok-clause-text_after c =
-    let a = c.args in
-    let same =
-    final_listed a.trace.now a.text.now a.values.now c.replay.new.values c.requires.values_len
-    (λ j. (c.type_inv.trace j).fits)
-    c.in-Ok.field-0
-    c.in-Ok.ensures in
-    c.final_text.ensures.text_after ∙ ap (λ (t : Text). t.buffer) same
-
-pub returns-in-Err-clause-value : goal.returns-in-Err-clause-value
-returns-in-Err-clause-value c =
+pub returns-in-Err : goal.returns-in-Err
+returns-in-Err c =
     let a = c.args in
     let same =
     refusal-listed a.trace.now a.text.now a.values.now c.replay.new.values c.requires.values_len
     (refusal_of c.in-Err.refusal)
     c.in-Err.ensures
     c.requires.final_capacity_in_bounds in
-    c.refused_text.ensures.value ∙ ap (λ (t : Text). t.size) same
-
-pub returns-in-Err-clause-text_after : goal.returns-in-Err-clause-text_after
-returns-in-Err-clause-text_after c =
-    let a = c.args in
-    let same =
-    refusal-listed a.trace.now a.text.now a.values.now c.replay.new.values c.requires.values_len
-    (refusal_of c.in-Err.refusal)
-    c.in-Err.ensures
-    c.requires.final_capacity_in_bounds in
-    c.refused_text.ensures.text_after ∙ ap (λ (t : Text). t.buffer) same
+    let text = c.refused_text.ensures in
+    record { value = text.value ∙ ap (λ (t : Text). t.size) same; text_after = text.text_after ∙ ap (λ (t : Text). t.buffer) same }

@@ -1,17 +1,19 @@
 -- What falling back gives, by what its calls gave, on plain values: the checks of the pair refuse; the crusaders sheet
 -- settles; or it is refused, and what trying the direct sheet gave stands.
 -- Assumes nothing.
-use mathlib.Core.Bool.{Bool, true, false, cond}
-use mathlib.Core.List.{List}
-use mathlib.Core.Option.{none, some}
-use mathlib.Core.Path.{◌≡◌, refl, sym, ap, ◌∙◌}
-use Prim.Native.Nat.{ℕ}
-use borrow.Author.Tests.{eqb-true, eqb-false, eq-eqb, ne_eqb}
+use Rattle.std.proofs.Common.{Bool, true, false, not, cond, List, ◌≡◌, refl, sym, ap, ◌∙◌, ℕ, length, Result, Ok, Err}
+use Rattle.std.proofs.Math.Option.{none, some}
+use Rattle.std.proofs.lemmas.Bool.{eqb-true, eqb-false, not-true, not-false}
 use lib.Dec.{eqb}
-use lib.ListN.{length}
+use denote.Enum.Bare.{sameb}
 use Rattle.model.specs.Refusals.{Refusal}
 use Rattle.model.specs.Refusals.{first_of, too_many_faults_number}
 use Rattle.model.specs.Calls.{Verdict, granted, refused, Outcome, settle}
+use Rattle.refusals.specs.declared.Refusal as code
+use Rattle.refusals.specs.declared.Reason.{Reason}
+use Rattle.refusals.specs.declared.Reason.TheVariants.{TooShort, BadCabinets, BadFaults, BadMethod, BadWindow, BadLength, NoRoom, BadMark, BadMissing, TooManyFaults, BadPlan, TargetMissed, BadTrace, BadRoles, RunStopped, BadSpread, BadInterval, NoInterval, BadPair}
+use Rattle.refusals.specs.contracts.Reason.{the_type}
+use Rattle.refusals.specs.Answers.{number_of, refusal_of, verdict_of, outcome_of}
 use Rattle.sheet_pairs.specs.Fallback.{crusaders, pair_checks, Settlement, fallback}
 use Rattle.sheet_pairs.specs.Results.{Kept}
 use Rattle.sheet_pairs.proofs.Results.{fallback-results, refused-buffer}
@@ -19,29 +21,49 @@ use Rattle.falling_back.specs.Trying.{settled_direct, tried_verdict, tried_buffe
 
 -- ---- trying the direct sheet
 
-module _ (r : Refusal) (b answer : List ℕ) where
+-- a reason is "too many faults" where its number is 10
+abbrev too_many : Reason → Bool
+too_many x = sameb the_type x TooManyFaults
+
+number-ten : (x : Reason) → eqb (number_of x) too_many_faults_number ≡ too_many x
+number-ten TooShort = refl
+number-ten BadCabinets = refl
+number-ten BadFaults = refl
+number-ten BadMethod = refl
+number-ten BadWindow = refl
+number-ten BadLength = refl
+number-ten NoRoom = refl
+number-ten BadMark = refl
+number-ten BadMissing = refl
+number-ten TooManyFaults = refl
+number-ten BadPlan = refl
+number-ten TargetMissed = refl
+number-ten BadTrace = refl
+number-ten BadRoles = refl
+number-ten RunStopped = refl
+number-ten BadSpread = refl
+number-ten BadInterval = refl
+number-ten NoInterval = refl
+number-ten BadPair = refl
+
+module _ (r : code.Refusal) (b answer : List ℕ) where
   abbrev Tried : Verdict Settlement → List ℕ → Type 0
-  Tried v buffer = (v ≡ tried_verdict r b answer) × (buffer ≡ tried_buffer r b answer)
+  Tried v buffer = (v ≡ tried_verdict (refusal_of r) b answer) × (buffer ≡ tried_buffer (refusal_of r) b answer)
 
-  pub other-stands : (r.number ≡ too_many_faults_number → ⊥) → Tried (refused r) answer
+  pub other-stands : not (too_many r.reason) ≡ true → Tried (refused (refusal_of r)) answer
   unfolding tried_verdict tried_buffer
-  other-stands other = let e = ne_eqb r.number too_many_faults_number other in (rw e, rw e)
+  other-stands other =
+      let e = number-ten r.reason ∙ not-true (too_many r.reason) other in
+      (rw e, rw e)
 
-  module _ (ten : r.number ≡ too_many_faults_number) (left : List ℕ) where
-    is_ten : eqb r.number too_many_faults_number ≡ true
-    is_ten = eq-eqb r.number too_many_faults_number ten
-
-    tried : (v : Verdict ℕ) → (settle b answer).verdict ≡ v → (settle b answer).buffer ≡ left → Tried (settled_direct v) left
-    unfolding tried_verdict tried_buffer
-    tried v e h = (rw (is_ten, e), rw (is_ten, h))
-
-    pub direct-settles : (size : ℕ) → ◌≡◌ {A = Outcome} (record { verdict = granted size; buffer = left }) (settle b answer) → Tried (settled_direct (granted size)) left
-    direct-settles size e =
-        tried (granted size) (sym (ap (λ (x : Outcome). x.verdict) e)) (sym (ap (λ (x : Outcome). x.buffer) e))
-
-    pub direct-refuses : (own : Refusal) → ◌≡◌ {A = Outcome} (record { verdict = refused own; buffer = left }) (settle b answer) → Tried (refused own) left
-    direct-refuses own e =
-        tried (refused own) (sym (ap (λ (x : Outcome). x.verdict) e)) (sym (ap (λ (x : Outcome). x.buffer) e))
+  -- what settling the direct sheet gave, and the buffer as it left it
+  pub direct-tried :
+      not (too_many r.reason) ≡ false → (said : Result ℕ code.Refusal) (left : List ℕ) → outcome_of said left ≡ settle b answer
+      → Tried (settled_direct (verdict_of said)) left
+  unfolding tried_verdict tried_buffer
+  direct-tried ten said left e =
+      let is_ten = number-ten r.reason ∙ not-false (too_many r.reason) ten in
+      (rw (is_ten, ← e), rw (is_ten, ← e))
 
 -- ---- falling back
 
@@ -57,14 +79,17 @@ module _ (a b answer : List ℕ) where
 
   module _ (pass : none ≡ first_of (pair_checks a b (length answer))) (left : List ℕ) where
     pub crusaders-settle :
-        (size : ℕ) → ◌≡◌ {A = Outcome} (record { verdict = granted size; buffer = left }) (settle a answer)
+        (size : ℕ) → outcome_of (Ok size) left ≡ settle a answer
         → Fell (granted (record { source = crusaders; size = size })) left
     crusaders-settle size e =
         let h = (fallback-results a b answer).settles (sym pass) size (sym (ap (λ (x : Outcome). x.verdict) e)) in
         (sym h.verdict, ap (λ (x : Outcome). x.buffer) e ∙ sym h.buffer)
 
     -- trying the direct sheet gave v, and left the buffer so
-    module _ (r : Refusal) (e : ◌≡◌ {A = Outcome} (record { verdict = refused r; buffer = left }) (settle a answer)) where
+    module _ (own : code.Refusal) (e : outcome_of (Err own) left ≡ settle a answer) where
+      abbrev r : Refusal
+      r = refusal_of own
+
       refuses : (settle a answer).verdict ≡ refused r
       refuses = sym (ap (λ (x : Outcome). x.verdict) e)
 
@@ -75,25 +100,25 @@ module _ (a b answer : List ℕ) where
       unfolding tried_verdict tried_buffer
       after = go (eqb r.number too_many_faults_number) refl
         where
-          own :
+          direct :
               r.number ≡ too_many_faults_number → (v : Verdict ℕ) → (settle b answer).verdict ≡ v
               → Fell (settled_direct v) (settle b answer).buffer
-          own ten (granted size) q =
+          direct ten (granted size) q =
               let h = (fallback-results a b answer).falls-back (sym pass) r refuses ten size q in
               (sym h.verdict, sym h.buffer)
-          own ten (refused x) q =
+          direct ten (refused x) q =
               let h = (fallback-results a b answer).refuses (sym pass) r refuses ten x q in
               (sym h.verdict, refused-buffer b answer x q ∙ sym h.buffer)
 
           go :
               (i : Bool) → eqb r.number too_many_faults_number ≡ i
               → Fell (cond i (settled_direct (settle b answer).verdict) (refused r)) (cond i (settle b answer).buffer answer)
-          go true q = own (eqb-true r.number too_many_faults_number q) (settle b answer).verdict refl
+          go true q = direct (eqb-true r.number too_many_faults_number q) (settle b answer).verdict refl
           go false q =
               kept r ((fallback-results a b answer).stands (sym pass) r refuses (eqb-false r.number too_many_faults_number q))
 
-      pub direct-tried :
+      pub after-direct :
           (v : Verdict Settlement) (buffer : List ℕ)
           → v ≡ tried_verdict r b left → buffer ≡ tried_buffer r b left → Fell v buffer
-      direct-tried v buffer p q =
+      after-direct v buffer p q =
           (p ∙ ap (tried_verdict r b) unchanged ∙ after.0, q ∙ ap (tried_buffer r b) unchanged ∙ after.1)

@@ -1,39 +1,25 @@
 -- A refusal under 10 has the direct sheet settled, any other stands.
-use Rattle.falling_back.proofs.Outcomes.{other-stands, direct-settles, direct-refuses}
+use Rattle.std.proofs.Common.{rules, sym, Ok, Err}
+use Rattle.falling_back.proofs.Outcomes.{other-stands, direct-tried}
 use Rattle.falling_back.proofs.try_direct.Goals as goal
 
-pub returns-then-refusal-ne-TOO_MANY_FAULTS-clause-result_value :
-    goal.returns-then-refusal-ne-TOO_MANY_FAULTS-clause-result_value
-returns-then-refusal-ne-TOO_MANY_FAULTS-clause-result_value c =
+pub returns-then-ne : goal.returns-then-ne
+returns-then-ne c =
     let a = c.args in
-    (other-stands a.refusal a.direct.now a.answer.now c.if-refusal-ne-TOO_MANY_FAULTS.true).0
+    let h = other-stands a.refusal a.direct.now a.answer.now (sym c.if-ne.ensures) in
+    record { result_value = h.0; answer_after = h.1 }
 
-pub returns-then-refusal-ne-TOO_MANY_FAULTS-clause-answer_after :
-    goal.returns-then-refusal-ne-TOO_MANY_FAULTS-clause-answer_after
-returns-then-refusal-ne-TOO_MANY_FAULTS-clause-answer_after c =
+pub returns-in_err-size : goal.returns-in_err-size
+returns-in_err-size c =
     let a = c.args in
-    (other-stands a.refusal a.direct.now a.answer.now c.if-refusal-ne-TOO_MANY_FAULTS.true).1
+    let own = c.in_err-size in
+    let h = direct-tried a.refusal a.direct.now a.answer.now (sym c.if-ne.ensures) (Err own.field-0.0)
+    c.settle_unpacked.new.answer own.ensures in
+    record { result_value = search (rules, h.0); answer_after = h.1 }
 
-pub returns-in-Granted-clause-result_value : goal.returns-in-Granted-clause-result_value
-returns-in-Granted-clause-result_value c =
+pub returns : goal.returns
+returns c =
     let a = c.args in
-    (direct-settles a.refusal a.direct.now a.answer.now c.if-refusal-ne-TOO_MANY_FAULTS.false
-    c.settle_unpacked.new.answer c.in-Granted.size c.in-Granted.ensures).0
-
-pub returns-in-Granted-clause-answer_after : goal.returns-in-Granted-clause-answer_after
-returns-in-Granted-clause-answer_after c =
-    let a = c.args in
-    (direct-settles a.refusal a.direct.now a.answer.now c.if-refusal-ne-TOO_MANY_FAULTS.false
-    c.settle_unpacked.new.answer c.in-Granted.size c.in-Granted.ensures).1
-
-pub returns-in-Refused-clause-result_value : goal.returns-in-Refused-clause-result_value
-returns-in-Refused-clause-result_value c =
-    let a = c.args in
-    (direct-refuses a.refusal a.direct.now a.answer.now c.if-refusal-ne-TOO_MANY_FAULTS.false
-    c.settle_unpacked.new.answer c.in-Refused.own c.in-Refused.ensures).0
-
-pub returns-in-Refused-clause-answer_after : goal.returns-in-Refused-clause-answer_after
-returns-in-Refused-clause-answer_after c =
-    let a = c.args in
-    (direct-refuses a.refusal a.direct.now a.answer.now c.if-refusal-ne-TOO_MANY_FAULTS.false
-    c.settle_unpacked.new.answer c.in-Refused.own c.in-Refused.ensures).1
+    let h = direct-tried a.refusal a.direct.now a.answer.now (sym c.if-ne.ensures) (Ok c.in_ok-size.size)
+    c.settle_unpacked.new.answer c.in_ok-size.ensures in
+    record { result_value = h.0; answer_after = h.1 }

@@ -4,9 +4,8 @@
 use mathlib.Core.Bool.{Bool, true, false, ◌&&◌, ◌||◌}
 use mathlib.Core.List.{List, [], ◌∷◌}
 use mathlib.Core.Path.{◌≡◌, refl, sym, ap, ◌∙◌}
-use Prim.Native.Nat.{ℕ, zero, suc, ◌+◌, ◌≤◌}
-use native.Mathlib.Nat.{le_antisymm, add-zero, add-suc}
-use native.Mathlib.Numerals.{add-one}
+use Prim.Native.Nat.{ℕ, zero, suc, ◌+◌}
+use native.Mathlib.Nat.{add-zero, add-suc}
 use lib.ListN.{length, get_or}
 use Rattle.std.specs.List.{list_any}
 use Rattle.arithmetic.specs.Counting.{any_below}
@@ -24,13 +23,6 @@ module _ (p : ℕ → Bool) where
   pub any_none : false ≡ any_below p 0
   unfolding any_below
   any_none = refl
-
-  pub any_next : (n : ℕ) {found : Bool} → found ≡ any_below p n → (found || p n) ≡ any_below p (n + 1)
-  unfolding any_below
-  any_next n e = rw (add-one n, e)
-
-  pub any-ended : (n t : ℕ) {found : Bool} → t ≤ n → n ≤ t → found ≡ any_below p t → found ≡ any_below p n
-  any-ended n t a b e = e ∙ ap (any_below p) (le_antisymm a b)
 
   -- the first a indices, and the b that follow
   pub any-parts : (a b : ℕ) → any_below p (a + b) ≡ (any_below p a || any_below (λ j. p (a + j)) b)

@@ -12,11 +12,8 @@ ghost use Rattle.acceptance.specs.Values.{accepted_in, accepted_count, count_giv
 ghost use Rattle.acceptance.specs.Values.{admitted, passed_at, Counting, Remembered, Holds, Begins};
 
 use held::PRESENT;
-use model::MAX_CABINETS;
+use model::MOST;
 use starts::Known;
-
-// The most readings.
-const MOST: usize = MAX_CABINETS as usize;
 
 // From this number of readings on a span is counted in one pass, without a branch.
 const WIDE: usize = 8;

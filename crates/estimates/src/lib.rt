@@ -19,6 +19,13 @@ pub struct Estimated {
     pub value: u32,
 }
 
+// Nothing is counted.
+pub const NOTHING: Estimated = Estimated {
+    estimate: 0,
+    count: 0,
+    value: 0,
+};
+
 // How far document 01's estimate of the present readings, average, median or midpoint, lies above the lowest.
 fn estimate(kind: u8, marks: &[u8], values: &[u32], summary: Summary) -> u32
     requires { Fitting marks.now values.now × Summarizes summary marks.now values.now }
@@ -38,14 +45,9 @@ pub fn evaluate(kind: u8, marks: &[u8], values: &[u32]) -> Estimated
     ensures value { result ≡ evaluated_of kind marks.now values.now }
     ensures count_le_max_cabinets { result.count ≤ max_cabinets }
 {
-    let summary = summaries::summarize(marks, values);
-    if summary.count == 0 {
-        return Estimated {
-            count: 0,
-            estimate: 0,
-            value: 0,
-        };
-    }
+    let Some(summary) = summaries::summarize(marks, values) else {
+        return NOTHING;
+    };
     let n = marks.len() as u32;
     let missing = n - summary.count;
     let above = estimate(kind, marks, values, summary);

@@ -66,12 +66,13 @@ impl Row<'_> {
         let mut candidate: u32 = 0;
         let mut lead: u32 = 0;
         'copies: for (t, mark) in self.copies.marks.iter().enumerate() {
+            let mark = *mark;
             let bits = self.copies.bits(t);
-            if copies::holds(*mark, candidate, bits) {
+            if copies::holds(mark, candidate, bits) {
                 lead += 1;
             } else if 0 < lead {
                 lead -= 1;
-            } else if *mark == 1 {
+            } else if mark == 1 {
                 candidate = bits;
                 lead = 1;
             }

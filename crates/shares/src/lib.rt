@@ -11,7 +11,8 @@ use model::{CCA, MEDIAN, Settings};
 
 // parts × window
 fn product(settings: Settings, parts: u32) -> u64
-    ensures { (result ≡ parts * settings.window) × (result ≤ (two_to32 - 1) * (two_to32 - 1)) }
+    ensures value { result ≡ parts * settings.window }
+    ensures bound { result ≤ (two_to32 - 1) * (two_to32 - 1) }
 {
     (parts as u64) * (settings.window as u64)
 }
@@ -39,7 +40,8 @@ pub fn past_share(settings: Settings, parts: u32) -> u64
 }
 
 fn window_factor(rule: u8, estimator: u8) -> u32
-    ensures { (result ≡ cond (eqb rule cca && eqb estimator median) 1 2) × (result ≤ 2) }
+    ensures value { result ≡ cond (eqb rule cca && eqb estimator median) 1 2 }
+    ensures bound { result ≤ 2 }
 {
     if (rule == CCA) & (estimator == MEDIAN) {
         1

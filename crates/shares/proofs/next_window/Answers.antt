@@ -15,5 +15,5 @@ returns c =
     let settings = c.args.settings in
     c.past_share.ensures
     ∙ ap (λ (a : ℕ). past_div a settings.n) (mul_assoc factor.result settings.m settings.window)
-    ∙ ap (λ (f : ℕ). past_div (f * (settings.m * settings.window)) settings.n) factor.ensures.0
+    ∙ ap (λ (f : ℕ). past_div (f * (settings.m * settings.window)) settings.n) factor.ensures.value
     ∙ some-window settings c.if-settings.false

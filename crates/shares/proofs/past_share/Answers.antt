@@ -13,4 +13,4 @@ pub returns : goal.returns
 unfolding past_div
 returns c =
     let n = c.args.settings.n in
-    ap (λ (a : ℕ). a / n + 1) c.product.ensures.0
+    ap (λ (a : ℕ). a / n + 1) c.product.ensures.value

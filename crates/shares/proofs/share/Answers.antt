@@ -12,4 +12,4 @@ returns-then-n-eq0 c =
 pub returns : goal.returns
 returns c =
     let n = c.args.settings.n in
-    c.div_ceil.ensures ∙ rounded-up _ n (omega arith) ∙ ap (λ (a : ℕ). ceil_div a n) c.product.ensures.0
+    c.div_ceil.ensures ∙ rounded-up _ n (omega arith) ∙ ap (λ (a : ℕ). ceil_div a n) c.product.ensures.value

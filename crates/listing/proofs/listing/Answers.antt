@@ -5,14 +5,9 @@ use Rattle.text.proofs.Texts.{text_refused}
 use Rattle.listing.specs.Listed.{listing_in}
 use Rattle.listing.proofs.listing.Goals as goal
 
-pub returns-then-text-lt-ROUND_CAPACITY-clause-value : goal.returns-then-text-lt-ROUND_CAPACITY-clause-value
+pub returns-then-text-lt-ROUND_CAPACITY : goal.returns-then-text-lt-ROUND_CAPACITY
 unfolding listing_in
-returns-then-text-lt-ROUND_CAPACITY-clause-value c =
+returns-then-text-lt-ROUND_CAPACITY c =
     let a = c.args in
-    (text_refused round_capacity (listing a.input.now) a.text.now c.if-text-lt-ROUND_CAPACITY.true).0
-
-pub returns-then-text-lt-ROUND_CAPACITY-clause-text_after : goal.returns-then-text-lt-ROUND_CAPACITY-clause-text_after
-unfolding listing_in
-returns-then-text-lt-ROUND_CAPACITY-clause-text_after c =
-    let a = c.args in
-    (text_refused round_capacity (listing a.input.now) a.text.now c.if-text-lt-ROUND_CAPACITY.true).1
+    let left = text_refused round_capacity (listing a.input.now) a.text.now c.if-text-lt-ROUND_CAPACITY.true in
+    record { value = left.0; text_after = left.1 }

@@ -5,8 +5,8 @@ use Rattle.text.specs.Text.{Text}
 use Rattle.listing.proofs.Outcomes.{refusal-listed, round-listed}
 use Rattle.listing.proofs.listing_in.Goals as goal
 
-pub returns-in-Granted-clause-value : goal.returns-in-Granted-clause-value
-returns-in-Granted-clause-value c =
+pub returns-in-Granted : goal.returns-in-Granted
+returns-in-Granted c =
     let a = c.args in
     let same =
     round-listed a.input.now a.text.now a.answer.now c.settle.new.answer c.read_size-end.result
@@ -16,23 +16,11 @@ returns-in-Granted-clause-value c =
     (λ j. (c.type_inv.input j).fits)
     c.in-Granted.field-0
     c.in-Granted.ensures in
-    c.round_text.ensures.value ∙ ap (λ (t : Text). t.size) same
+    let text = c.round_text.ensures in
+    record { value = text.value ∙ ap (λ (t : Text). t.size) same; text_after = text.text_after ∙ ap (λ (t : Text). t.buffer) same }
 
-pub returns-in-Granted-clause-text_after : goal.returns-in-Granted-clause-text_after
-returns-in-Granted-clause-text_after c =
-    let a = c.args in
-    let same =
-    round-listed a.input.now a.text.now a.answer.now c.settle.new.answer c.read_size-end.result
-    c.read_size-end.ensures
-    c.requires.answer_value
-    c.requires.round_capacity_in_bounds
-    (λ j. (c.type_inv.input j).fits)
-    c.in-Granted.field-0
-    c.in-Granted.ensures in
-    c.round_text.ensures.text_after ∙ ap (λ (t : Text). t.buffer) same
-
-pub returns-in-Refused-clause-value : goal.returns-in-Refused-clause-value
-returns-in-Refused-clause-value c =
+pub returns-in-Refused : goal.returns-in-Refused
+returns-in-Refused c =
     let a = c.args in
     let same =
     refusal-listed a.input.now a.text.now a.answer.now c.settle.new.answer c.read_size-end.result
@@ -41,16 +29,5 @@ returns-in-Refused-clause-value c =
     c.requires.round_capacity_in_bounds
     c.in-Refused.r
     c.in-Refused.ensures in
-    c.refusal_text.ensures.value ∙ ap (λ (t : Text). t.size) same
-
-pub returns-in-Refused-clause-text_after : goal.returns-in-Refused-clause-text_after
-returns-in-Refused-clause-text_after c =
-    let a = c.args in
-    let same =
-    refusal-listed a.input.now a.text.now a.answer.now c.settle.new.answer c.read_size-end.result
-    c.read_size-end.ensures
-    c.requires.answer_value
-    c.requires.round_capacity_in_bounds
-    c.in-Refused.r
-    c.in-Refused.ensures in
-    c.refusal_text.ensures.text_after ∙ ap (λ (t : Text). t.buffer) same
+    let text = c.refusal_text.ensures in
+    record { value = text.value ∙ ap (λ (t : Text). t.size) same; text_after = text.text_after ∙ ap (λ (t : Text). t.buffer) same }

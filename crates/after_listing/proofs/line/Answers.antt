@@ -13,26 +13,17 @@ use Rattle.after_listing.proofs.line.Goals as goal
 fewer : {b : Bool} {rounds x : ℕ} (k : ℕ) → x ≡ rounds → b ≡ ltb x k → ltb rounds k ≡ b
 fewer k read test = sym (test ∙ ap (λ (y : ℕ). ltb y k) read)
 
-pub returns-then-text-lt-AFTER_CAPACITY-clause-value : goal.returns-then-text-lt-AFTER_CAPACITY-clause-value
+pub returns-then-text-lt-AFTER_CAPACITY : goal.returns-then-text-lt-AFTER_CAPACITY
 unfolding after_listed
-returns-then-text-lt-AFTER_CAPACITY-clause-value c =
+returns-then-text-lt-AFTER_CAPACITY c =
     let a = c.args in
-    (text_refused after_capacity (after_listing a.trace.now a.k) a.text.now c.if-text-lt-AFTER_CAPACITY.true).0
+    let left = text_refused after_capacity (after_listing a.trace.now a.k) a.text.now c.if-text-lt-AFTER_CAPACITY.true in
+    record { value = left.0; text_after = left.1 }
 
-pub returns-then-text-lt-AFTER_CAPACITY-clause-text_after : goal.returns-then-text-lt-AFTER_CAPACITY-clause-text_after
-unfolding after_listed
-returns-then-text-lt-AFTER_CAPACITY-clause-text_after c =
+pub returns-then-is_past : goal.returns-then-is_past
+returns-then-is_past c =
     let a = c.args in
-    (text_refused after_capacity (after_listing a.trace.now a.k) a.text.now c.if-text-lt-AFTER_CAPACITY.true).1
-
-pub returns-then-is_past-clause-value : goal.returns-then-is_past-clause-value
-returns-then-is_past-clause-value c =
-    let a = c.args in
-    (too_few a.trace.now a.k a.text.now (fewer a.k c.byte_at.ensures c.is_past.ensures ∙ c.if-is_past.true)
-    c.if-text-lt-AFTER_CAPACITY.false).0
-
-pub returns-then-is_past-clause-text_after : goal.returns-then-is_past-clause-text_after
-returns-then-is_past-clause-text_after c =
-    let a = c.args in
-    (too_few a.trace.now a.k a.text.now (fewer a.k c.byte_at.ensures c.is_past.ensures ∙ c.if-is_past.true)
-    c.if-text-lt-AFTER_CAPACITY.false).1
+    let none =
+    too_few a.trace.now a.k a.text.now (fewer a.k c.byte_at.ensures c.is_past.ensures ∙ c.if-is_past.true)
+    c.if-text-lt-AFTER_CAPACITY.false in
+    record { value = none.0; text_after = none.1 }

@@ -4,8 +4,8 @@ use Rattle.text.specs.Text.{Text}
 use Rattle.after_listing.proofs.Outcomes.{refusal-listed, line-listed}
 use Rattle.after_listing.proofs.line_in.Goals as goal
 
-pub returns-in-Granted-clause-value : goal.returns-in-Granted-clause-value
-returns-in-Granted-clause-value c =
+pub returns-in-Granted : goal.returns-in-Granted
+returns-in-Granted c =
     let a = c.args in
     let same =
     line-listed a.trace.now a.k a.text.now a.values.now c.replay_to.new.values c.requires.k_bound
@@ -15,35 +15,16 @@ returns-in-Granted-clause-value c =
     (λ j. (c.type_inv.trace j).fits)
     c.in-Granted.field-0
     c.in-Granted.ensures in
-    c.after_text.ensures.value ∙ ap (λ (t : Text). t.size) same
+    let text = c.after_text.ensures in
+    record { value = text.value ∙ ap (λ (t : Text). t.size) same; text_after = text.text_after ∙ ap (λ (t : Text). t.buffer) same }
 
-pub returns-in-Granted-clause-text_after : goal.returns-in-Granted-clause-text_after
-returns-in-Granted-clause-text_after c =
+pub returns-in-Refused : goal.returns-in-Refused
+returns-in-Refused c =
     let a = c.args in
-    let same =
-    line-listed a.trace.now a.k a.text.now a.values.now c.replay_to.new.values c.requires.k_bound
-    c.requires.values_len
-    c.byte_at-n.result
-    c.byte_at-n.ensures
-    (λ j. (c.type_inv.trace j).fits)
-    c.in-Granted.field-0
-    c.in-Granted.ensures in
-    c.after_text.ensures.text_after ∙ ap (λ (t : Text). t.buffer) same
-
-pub returns-in-Refused-clause-value : goal.returns-in-Refused-clause-value
-returns-in-Refused-clause-value c =
-    let a = c.args in
-    (refusal-listed a.trace.now a.k a.text.now a.values.now c.replay_to.new.values c.requires.k_bound
+    let none =
+    refusal-listed a.trace.now a.k a.text.now a.values.now c.replay_to.new.values c.requires.k_bound
     c.requires.values_len
     c.in-Refused.field-0
     c.in-Refused.ensures
-    c.requires.after_capacity_in_bounds).0
-
-pub returns-in-Refused-clause-text_after : goal.returns-in-Refused-clause-text_after
-returns-in-Refused-clause-text_after c =
-    let a = c.args in
-    (refusal-listed a.trace.now a.k a.text.now a.values.now c.replay_to.new.values c.requires.k_bound
-    c.requires.values_len
-    c.in-Refused.field-0
-    c.in-Refused.ensures
-    c.requires.after_capacity_in_bounds).1
+    c.requires.after_capacity_in_bounds in
+    record { value = none.0; text_after = none.1 }

@@ -5,14 +5,9 @@ use Rattle.replay_text.specs.Final.{final_capacity}
 use Rattle.replay_listing.specs.Listed.{replay_listed}
 use Rattle.replay_listing.proofs.listing.Goals as goal
 
-pub returns-then-text-lt-FINAL_CAPACITY-clause-value : goal.returns-then-text-lt-FINAL_CAPACITY-clause-value
+pub returns-then-text-lt-FINAL_CAPACITY : goal.returns-then-text-lt-FINAL_CAPACITY
 unfolding replay_listed
-returns-then-text-lt-FINAL_CAPACITY-clause-value c =
+returns-then-text-lt-FINAL_CAPACITY c =
     let a = c.args in
-    (text_refused final_capacity (replay_listing a.trace.now) a.text.now c.if-text-lt-FINAL_CAPACITY.true).0
-
-pub returns-then-text-lt-FINAL_CAPACITY-clause-text_after : goal.returns-then-text-lt-FINAL_CAPACITY-clause-text_after
-unfolding replay_listed
-returns-then-text-lt-FINAL_CAPACITY-clause-text_after c =
-    let a = c.args in
-    (text_refused final_capacity (replay_listing a.trace.now) a.text.now c.if-text-lt-FINAL_CAPACITY.true).1
+    let left = text_refused final_capacity (replay_listing a.trace.now) a.text.now c.if-text-lt-FINAL_CAPACITY.true in
+    record { value = left.0; text_after = left.1 }

@@ -102,6 +102,7 @@ fn misfit(need: u32, marks: usize, row: usize) -> bool
 
 // The decision of a row of at most 64 copies, with four bytes for each, where need are more than half; any other is
 // known faulty.
+// Stays: the marks and the bytes apart, since docs/TRACEABILITY.md names `decide`, for lists of any length (a).
 #[tactic(auto, unfolding(crate::specs::Rows::row_decision))]
 pub fn decide(marks: &[u8], row: &[u8], need: u32) -> Option<u32>
     ensures { decision_of result ≡ row_decision need marks.now row.now }

@@ -18,11 +18,16 @@ use Rattle.model.specs.Ensemble.{max_cabinets}
 use Rattle.held.specs.Held.{present_in}
 use Rattle.acceptance.proofs.Spans.{missing-not}
 use Rattle.acceptance.specs.Values.{accepted_in, accepted_count, lists_misfit, count_given, flags_of}
-use Rattle.acceptance.specs.Values.{Alike, Remembered, Begins}
+use Rattle.acceptance.specs.Values.{Remembered, Begins}
 use Rattle.starts.specs.declared.Known.{Known}
 use Rattle.starts.specs.declared.Known.TheVariants.{Uncounted}
 use Rattle.std.specs.Prelude.{Option, None, is_some, IfSome}
 use Rattle.loop_laws.proofs.Loops.{count_next, store-none, store-next, store-ended}
+
+-- as many values as marks, at most 64, and a memory of 64 starts
+abbrev pub Alike : List ℕ → List ℕ → List Known → Type 0
+Alike marks values known =
+    (length values ≡ length marks) × (length marks ≤ max_cabinets) × (length known ≡ max_cabinets)
 
 -- a flag that is stored again
 set_again : (l : List Bool) (i : ℕ) (a b : Bool) → set (set l i a) i b ≡ set l i b

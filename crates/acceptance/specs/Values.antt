@@ -9,7 +9,6 @@
 --   admits, admitted       a present reading's span holds a number and enough readings; some reading's does
 --   Holds                  a start is a present reading's, and its span holds enough
 --   Begins                 a number is that of such a start
---   Alike                  as many values as marks, at most 64, and a memory of 64 starts
 --   Remembered             what the memory of counted spans says of each start
 --   one_pass, passed_at,     the readings of a span are counted one by one, or from some number on all at once
 --   Counting
@@ -62,10 +61,6 @@ Holds w need marks values a =
 -- of the number of a start
 abbrev pub Begins : ℕ → ℕ → List ℕ → List ℕ → ℕ → Type 0
 Begins w need marks values v = (a : ℕ) × Holds w need marks values a × (value_at values a ≡ v)
-
-abbrev pub Alike : List ℕ → List ℕ → List Known → Type 0
-Alike marks values known =
-    (length values ≡ length marks) × (length marks ≤ max_cabinets) × (length known ≡ max_cabinets)
 
 abbrev pub Remembered : ℕ → ℕ → List ℕ → List ℕ → List Known → Type 0
 Remembered w need marks values known =

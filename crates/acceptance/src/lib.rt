@@ -9,14 +9,11 @@ ghost use Rattle.held.specs.Held.{present_in, value_at};
 ghost use Rattle.spans.specs.Spans.{in_span, held_at};
 ghost use Rattle.starts.specs.Starts.{is_short};
 ghost use Rattle.acceptance.specs.Values.{accepted_in, accepted_count, count_given, flags_of};
-ghost use Rattle.acceptance.specs.Values.{admitted, passed_at, Counting, Alike, Remembered, Holds, Begins};
+ghost use Rattle.acceptance.specs.Values.{admitted, passed_at, Counting, Remembered, Holds, Begins};
 
 use held::PRESENT;
-use model::MAX_CABINETS;
+use model::MOST;
 use starts::Known;
-
-// The most readings.
-const MOST: usize = MAX_CABINETS as usize;
 
 // From this number of readings on a span is counted in one pass, without a branch.
 const WIDE: usize = 8;
@@ -28,13 +25,24 @@ fn tries(known: Known, from: u8, start: u32, span: u32, value: u32) -> bool
     (known != Known::Short) & ((from == PRESENT) & spans::spanned(start, span, value))
 }
 
+// The readings of at most 64 cabinets, how wide a span is, and how many readings it must hold.
+#[derive(Clone, Copy)]
+struct Readings<'a> {
+    marks: &'a [u8],
+    values: &'a [u32],
+    span: u32,
+    need: u32,
+    ghost even: { length values.now ≡ length marks.now },
+    ghost few: { length marks.now ≤ max_cabinets },
+}
+
 // A count with one reading more, if the span from a start holds it.
-fn one_more(found: u32, marks: &[u8], values: &[u32], start: u32, span: u32, t: usize) -> u32
-    requires { (length values.now ≡ length marks.now) × (t < length marks.now) × (found ≤ max_cabinets) }
-    ensures { result ≡ found + bit (held_at start span marks.now values.now t) }
+fn one_more(found: u32, all: &Readings, start: u32, t: usize) -> u32
+    requires { (t < length all.now.marks.now) × (found ≤ max_cabinets) }
+    ensures { result ≡ found + bit (held_at start all.now.span all.now.marks.now all.now.values.now t) }
 {
-    if spans::present(marks[t]) {
-        found + spans::reached(start, span, values[t]) as u32
+    if spans::present(all.marks[t]) {
+        found + spans::reached(start, all.span, all.values[t]) as u32
     } else {
         found
     }
@@ -42,17 +50,16 @@ fn one_more(found: u32, marks: &[u8], values: &[u32], start: u32, span: u32, t: 
 
 // How many readings the span from a start holds up to the next one, by how many it holds up to t; where there are many
 // readings, how many of all.
-fn counted(found: u32, marks: &[u8], values: &[u32], start: u32, span: u32, t: usize) -> u32
-    requires values_len { (length values.now ≡ length marks.now) × (length marks.now ≤ max_cabinets) }
-    requires counting { Counting span marks.now values.now start found t × (t < length marks.now) }
+fn counted(found: u32, all: &Readings, start: u32, t: usize) -> u32
+    requires { Counting all.now.span all.now.marks.now all.now.values.now start found t × (t < length all.now.marks.now) }
     ensures { result
-        ≡ count (held_at start span marks.now values.now)
-        (passed_at (length marks.now) t) }
+        ≡ count (held_at start all.now.span all.now.marks.now all.now.values.now)
+        (passed_at (length all.now.marks.now) t) }
 {
-    if WIDE <= marks.len() {
-        found + span_counts::held_of_all(marks, values, start, span)
+    if WIDE <= all.marks.len() {
+        found + span_counts::held_of_all(all.marks, all.values, start, all.span)
     } else {
-        one_more(found, marks, values, start, span, t)
+        one_more(found, all, start, t)
     }
 }
 
@@ -66,40 +73,34 @@ fn passed(t: usize, n: usize) -> usize
 
 // The first start whose span holds a value, and enough readings. The loops over starts and readings are left by a label
 // at the first span that does. `known` remembers what was found of each start, so that none is counted twice.
-fn accepts(
-    marks: &[u8],
-    values: &[u32],
-    span: u32,
-    need: u32,
-    known: &mut [Known],
-    value: u32,
-) -> Option<usize>
-    requires alike { Alike marks.now values.now known.old }
-    requires remembered { Remembered span need marks.now values.now known.old }
-    ensures admitted { is_some result ≡ admitted span need marks.now values.now value }
-    ensures holds { IfSome result (Holds span need marks.now values.now) }
-    ensures remembered_after { Remembered span need marks.now values.now known.new }
+// Stays: the inner `while` (d): t goes on by one reading or by all, as `passed` says, which no range does.
+fn accepts(all: &Readings, known: &mut [Known], value: u32) -> Option<usize>
+    requires room { length known.old ≡ max_cabinets }
+    requires remembered { Remembered all.now.span all.now.need all.now.marks.now all.now.values.now known.old }
+    ensures admitted { is_some result ≡ admitted all.now.span all.now.need all.now.marks.now all.now.values.now value }
+    ensures holds { IfSome result (Holds all.now.span all.now.need all.now.marks.now all.now.values.now) }
+    ensures remembered_after { Remembered all.now.span all.now.need all.now.marks.now all.now.values.now known.new }
 {
     let mut found = None;
-    'starts: for s in 0..marks.len() {
-        let start = values[s];
+    'starts: for s in 0..all.marks.len() {
+        let start = all.values[s];
         let so_far = known[s];
-        if tries(so_far, marks[s], start, span, value) {
+        if tries(so_far, all.marks[s], start, all.span, value) {
             if so_far == Known::Enough {
                 found = Some(s);
                 break 'starts;
             }
             let mut count: u32 = 0;
             let mut t = 0;
-            'readings: while t < marks.len() {
-                count = counted(count, marks, values, start, span, t);
-                t = passed(t, marks.len());
-                if need <= count {
+            'readings: while t < all.marks.len() {
+                count = counted(count, all, start, t);
+                t = passed(t, all.marks.len());
+                if all.need <= count {
                     found = Some(s);
                     break 'starts;
                 }
             }
-            known[s] = starts::judged(need, count);
+            known[s] = starts::judged(all.need, count);
         }
     }
     found
@@ -117,59 +118,49 @@ fn too_few(before: u32, left: usize, need: u32) -> bool
 // of all. Such a span holds accepted readings alone: where those before a reading and those left are too few, no start is
 // tried. A start that accepts is remembered.
 fn find_start(
-    marks: &[u8],
-    values: &[u32],
-    span: u32,
-    need: u32,
+    all: &Readings,
     known: &mut [Known],
     before: u32,
     earlier: Option<u32>,
     r: usize,
 ) -> Option<u32>
-    requires alike { Alike marks.now values.now known.old × (r < length marks.now) }
-    requires present { present_in marks.now r ≡ true }
-    requires before { before ≡ count (accepted_in span need marks.now values.now) r }
-    requires remembered { Remembered span need marks.now values.now known.old }
-    requires begins { IfSome earlier (Begins span need marks.now values.now) }
-    ensures accepted { is_some result ≡ accepted_in span need marks.now values.now r }
-    ensures holds { IfSome result (Begins span need marks.now values.now) }
-    ensures remembered_after { Remembered span need marks.now values.now known.new }
+    requires room { (length known.old ≡ max_cabinets) × (r < length all.now.marks.now) }
+    requires present { present_in all.now.marks.now r ≡ true }
+    requires before { before ≡ count (accepted_in all.now.span all.now.need all.now.marks.now all.now.values.now) r }
+    requires remembered { Remembered all.now.span all.now.need all.now.marks.now all.now.values.now known.old }
+    requires begins { IfSome earlier (Begins all.now.span all.now.need all.now.marks.now all.now.values.now) }
+    ensures accepted { is_some result ≡ accepted_in all.now.span all.now.need all.now.marks.now all.now.values.now r }
+    ensures holds { IfSome result (Begins all.now.span all.now.need all.now.marks.now all.now.values.now) }
+    ensures remembered_after { Remembered all.now.span all.now.need all.now.marks.now all.now.values.now known.new }
 {
-    let joined = starts::spanned_from(earlier, span, values[r]);
+    let joined = starts::spanned_from(earlier, all.span, all.values[r]);
     if joined.is_some() {
         return joined;
     }
-    if too_few(before, marks.len() - r, need) {
+    if too_few(before, all.marks.len() - r, all.need) {
         return None;
     }
-    let s = accepts(marks, values, span, need, &mut *known, values[r])?;
+    let s = accepts(all, &mut *known, all.values[r])?;
     known[s] = Known::Enough;
-    Some(values[s])
+    Some(all.values[s])
 }
 
 // Says of each reading whether it is accepted, and counts the accepted ones.
-fn accept_each(
-    marks: &[u8],
-    values: &[u32],
-    span: u32,
-    need: u32,
-    known: &mut [Known],
-    accepted: &mut [bool],
-) -> u32
-    requires alike { Alike marks.now values.now known.old × (length marks.now ≤ length accepted.old) }
-    requires remembered { Remembered span need marks.now values.now known.old }
-    ensures value { result ≡ accepted_count span need marks.now values.now }
+fn accept_each(all: &Readings, known: &mut [Known], accepted: &mut [bool]) -> u32
+    requires room { (length known.old ≡ max_cabinets) × (length all.now.marks.now ≤ length accepted.old) }
+    requires remembered { Remembered all.now.span all.now.need all.now.marks.now all.now.values.now known.old }
+    ensures value { result ≡ accepted_count all.now.span all.now.need all.now.marks.now all.now.values.now }
     ensures accepted_after { accepted.new
         ≡ overwrite
-        (table (accepted_in span need marks.now values.now) (length marks.now))
+        (table (accepted_in all.now.span all.now.need all.now.marks.now all.now.values.now) (length all.now.marks.now))
         accepted.old }
 {
     let mut count: u32 = 0;
     let mut earlier = None;
-    'readings: for r in 0..marks.len() {
+    'readings: for r in 0..all.marks.len() {
         accepted[r] = false;
-        if marks[r] == PRESENT {
-            let start = find_start(marks, values, span, need, &mut *known, count, earlier, r);
+        if all.marks[r] == PRESENT {
+            let start = find_start(all, &mut *known, count, earlier, r);
             count += starts::passes(start);
             if start.is_some() {
                 accepted[r] = true;
@@ -196,6 +187,12 @@ pub fn accept(marks: &[u8], values: &[u32], span: u32, need: u32, accepted: &mut
     if misfit(marks.len(), values.len(), accepted.len()) {
         return 0;
     }
+    let all = Readings {
+        marks,
+        values,
+        span,
+        need,
+    };
     let mut known = [Known::Uncounted; 64];
-    accept_each(marks, values, span, need, &mut known, accepted)
+    accept_each(&all, &mut known, accepted)
 }

@@ -13,7 +13,7 @@ use Rattle.arithmetic.proofs.Writing.{overwrite-whole, table_ext}
 use Rattle.held.specs.Held.{value_at, kept_mark}
 use Rattle.acceptance.specs.Values.{accepted_in}
 use Rattle.agreement.specs.Values.{mark_at}
-use Rattle.loop_laws.proofs.Loops.{Storing, storing_none, storing_long, storing_behind, storing_next, storing_all}
+use Rattle.loop_laws.proofs.Loops.{Storing, storing_none, storing_behind, storing_next, storing_all}
 use Rattle.held.proofs.Held.{mark-kept}
 
 module _ (flags : List Bool) (marks₀ : List ℕ) where
@@ -29,11 +29,8 @@ module _ (flags : List Bool) (marks₀ : List ℕ) where
   strike_none s = record { room = s; stores = storing_none struck (length marks₀) marks₀ (le_refl (length marks₀)) }
 
   module _ (marks : List ℕ) (r : ℕ) (so_far : Striking marks r) where
-    pub marks-long : length marks ≡ length marks₀
-    marks-long = storing_long struck (length marks₀) marks₀ marks r so_far.stores
-
     pub strike_one :
-        r < length marks
+        r < length marks₀
         → (x : ℕ)
         → x ≡ kept_mark (get_or flags r false) (get_or marks r 0)
         → Striking (set marks r x) (r + 1)
@@ -42,14 +39,14 @@ module _ (flags : List Bool) (marks₀ : List ℕ) where
         record {
           room = so_far.room;
           stores =
-              storing_next struck (length marks₀) marks₀ marks r so_far.stores (omega (arith, marks-long)) x
+              storing_next struck (length marks₀) marks₀ marks r so_far.stores h x
               (e ∙ ap (kept_mark (get_or flags r false)) here);
         }
 
-    pub all-struck : length marks ≤ r → marks ≡ table struck (length marks₀)
+    pub all-struck : length marks₀ ≤ r → marks ≡ table struck (length marks₀)
     all-struck h =
         let t = length-table struck (length marks₀) in
-        storing_all struck (length marks₀) marks₀ marks r so_far.stores (omega (arith, marks-long))
+        storing_all struck (length marks₀) marks₀ marks r so_far.stores h
         ∙ overwrite-whole (table struck (length marks₀)) marks₀ (omega arith)
 
 -- the readings struck out by the flags of acceptance

@@ -17,10 +17,8 @@ fn strike(marks: &mut [u8], accepted: &[bool])
         ≡ table (λ r. kept_mark (get_or accepted.now r false) (get_or marks.old r 0))
         (length marks.old) }
 {
-    let mut r = 0;
-    'readings: while r < marks.len() {
+    'readings: for r in 0..marks.len() {
         marks[r] = held::kept_mark(accepted[r], marks[r]);
-        r += 1;
     }
 }
 
@@ -49,11 +47,7 @@ pub fn agree(marks: &mut [u8], values: &[u32], span: u32, need: u32, kind: u8) -
     let mut accepted = [false; 64];
     let count = acceptance::accept(&*marks, values, span, need, &mut accepted);
     if count == 0 {
-        return Estimated {
-            count: 0,
-            estimate: 0,
-            value: 0,
-        };
+        return estimates::NOTHING;
     }
     strike_others(&mut *marks, &accepted, count);
     estimates::evaluate(kind, &*marks, values)

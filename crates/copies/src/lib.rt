@@ -42,6 +42,7 @@ fn misfit(marks: usize, row: usize) -> bool
 
 // How many present copies hold a value, where there are at most 64 copies and four bytes of each; any other row counts
 // none.
+// Stays: the marks and the bytes apart, since the clause with `copies_in` promises 0 for lists that don't fit too (a).
 #[tactic(auto, unfolding(crate::specs::Copies::copies_in))]
 pub fn count_copies(marks: &[u8], row: &[u8], value: u32) -> u32
     ensures { result ≡ copies_in marks.now row.now value }

@@ -23,6 +23,7 @@ use Rattle.round_laws.specs.Naturals.{average_nat, median_nat, midpoint_nat, est
 use Rattle.round_laws.proofs.Shifted.{estimate-shifted, value_shifted, even_31}
 use Rattle.value_laws.proofs.Estimates.{Between, estimate-within}
 use Rattle.value_laws.proofs.Means.{mean_upper}
+use Rattle.std.specs.Prelude.{None}
 use Rattle.held.specs.Held.{present_in, value_at, readings_in}
 use Rattle.held.proofs.Held.{fit_intro}
 use Rattle.means.specs.Means.{floor_mean, nearest_mean}
@@ -227,11 +228,6 @@ module _ (marks values : List ℕ) where
             rw (f, estimate-moved kind some-present, value-moved kind some-present, due, estimate_is, gathered.counted)
 
   -- nothing is counted
-  pub evaluate_empty :
-      (kind : ℕ) (r : Summary) → Gathers r marks values → r.count ≡ 0 → nothing ≡ evaluated_of kind marks values
+  pub evaluate_empty : (kind : ℕ) → Gathers None marks values → nothing ≡ evaluated_of kind marks values
   unfolding evaluated_of
-  evaluate_empty kind r g e =
-      ⊎_elim (λ t. rw t) (λ f. absurd (none (g.all f).1)) (both_ways (ungathered marks values))
-    where
-      none : Summarizes r marks values → ⊥
-      none s = omega (arith, s.some, e)
+  evaluate_empty kind g = ⊎_elim (λ t. rw t) (λ f. absurd ((g.all f).1)) (both_ways (ungathered marks values))

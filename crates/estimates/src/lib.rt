@@ -12,6 +12,7 @@ use summaries::Summary;
 
 // The count of the present readings, their estimate and the new value; all 0 where none is present, two lie farther
 // apart than twice the widest span, there are more than 64, or there are not as many numbers as marks.
+// Stays: a count of 0 in place of an Option (a): the accepted count of a round is 0 too where none is (`agreed_of`, byte 1 of the answer sheet).
 #[derive(Clone, Copy)]
 pub struct Estimated {
     pub estimate: u32,
@@ -19,7 +20,15 @@ pub struct Estimated {
     pub value: u32,
 }
 
+// Nothing is counted.
+pub const NOTHING: Estimated = Estimated {
+    estimate: 0,
+    count: 0,
+    value: 0,
+};
+
 // How far document 01's estimate of the present readings, average, median or midpoint, lies above the lowest.
+// Stays: `kind` is document 01's byte of a sheet (a), of which every value above 1 is the midpoint.
 fn estimate(kind: u8, marks: &[u8], values: &[u32], summary: Summary) -> u32
     requires { Fitting marks.now values.now × Summarizes summary marks.now values.now }
     ensures { result ≡ estimate_at kind marks.now values.now - summary.low }
@@ -38,14 +47,9 @@ pub fn evaluate(kind: u8, marks: &[u8], values: &[u32]) -> Estimated
     ensures value { result ≡ evaluated_of kind marks.now values.now }
     ensures count_le_max_cabinets { result.count ≤ max_cabinets }
 {
-    let summary = summaries::summarize(marks, values);
-    if summary.count == 0 {
-        return Estimated {
-            count: 0,
-            estimate: 0,
-            value: 0,
-        };
-    }
+    let Some(summary) = summaries::summarize(marks, values) else {
+        return NOTHING;
+    };
     let n = marks.len() as u32;
     let missing = n - summary.count;
     let above = estimate(kind, marks, values, summary);

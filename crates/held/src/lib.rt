@@ -9,9 +9,10 @@ ghost use Rattle.arithmetic.specs.Naturals.{down, up};
 ghost use Rattle.arithmetic.specs.Words.{two_to31};
 ghost use Rattle.held.specs.Held.{entry_reading, held_mark, held_value, kept_mark, unfit};
 
-use model::MAX_CABINETS;
+use model::MOST;
 
 // The marks: no reading, a present one, and one that is present and not accepted.
+// Stays: marks are numbers (a): they are document 01's bytes of the answer sheet, written as they are.
 pub const MISSING: u8 = 0;
 
 pub const PRESENT: u8 = 1;
@@ -64,5 +65,5 @@ pub fn kept_mark(accepted: bool, mark: u8) -> u8
 pub fn unfit(marks: usize, values: usize) -> bool
     ensures { result ≡ unfit marks values }
 {
-    ((MAX_CABINETS as usize) < marks) | (values != marks)
+    (MOST < marks) | (values != marks)
 }

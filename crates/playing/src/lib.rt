@@ -2,12 +2,12 @@
 // 2^31.
 #![tactic(auto)]
 
-ghost use Rattle.std.specs.Prelude.{◌≡◌, cond, ◌+◌, ◌≤◌, ◌<◌, min, eqb, length, get_or};
+ghost use Rattle.std.specs.Prelude.{◌≡◌, cond, ℕ, ◌+◌, ◌≤◌, ◌<◌, min, eqb, length, get_or};
 ghost use Rattle.arithmetic.specs.Naturals.{up};
 ghost use Rattle.arithmetic.specs.Words.{two_to31};
 ghost use Rattle.arithmetic.specs.Writing.{table};
 ghost use Rattle.model.specs.Ensemble.{max_cabinets};
-ghost use Rattle.model.specs.RoundSheet.{settings_at};
+ghost use Rattle.model.specs.RoundSheet.{byte, settings_at};
 ghost use Rattle.model.specs.Calls.{granted};
 ghost use Rattle.refusals.specs.Answers.{check_of, verdict_of};
 ghost use Rattle.trace.specs.Trace.{rounds_at, first_at};
@@ -18,6 +18,18 @@ ghost use Rattle.playing.specs.Playing.{played_given};
 use model::{HEADER_SIZE, MOST, SOUND, Settings, TRACE_HEADER_SIZE};
 use planner::Plan;
 use refusals::{Reason, Refusal};
+
+// A trace that passes its checks before 15, with its settings and its rounds.
+#[derive(Clone, Copy)]
+struct Recording<'a> {
+    trace: &'a [u8],
+    settings: Settings,
+    rounds: u8,
+    ghost bytes: { (j : ℕ) → byte trace.now j < 256 },
+    ghost playable: { Playable trace.now },
+    ghost sized: { settings ≡ settings_at trace.now },
+    ghost counted: { rounds ≡ rounds_at trace.now },
+}
 
 // What each cabinet first reads.
 fn first_readings(trace: &[u8], held: &mut [u32])
@@ -47,25 +59,24 @@ fn take_over(roles: &[u8], next: &[u32], held: &mut [u32])
     }
 }
 
-// Plays round k, from 0, with lent places for the next values: the first cabinet that meets too many faults, where one
-// does.
+// Plays round k, from 0, at these settings and with lent places for the next values: the first cabinet that meets too
+// many faults, where one does.
 fn play_in(
-    trace: &[u8],
+    run: Recording,
     settings: Settings,
-    rounds: u8,
     k: u8,
     next: &mut [u32],
     held: &mut [u32],
 ) -> Option<u8>
-    requires playable { Playable trace.now × (settings ≡ (state_to trace.now k).plan.settings) }
-    requires rounds_value { (rounds ≡ rounds_at trace.now) × (k < rounds) }
+    requires planned { settings ≡ (state_to run.trace.now k).plan.settings }
+    requires early { k < run.rounds }
     requires next_len { (length next.old ≡ settings.n) × (length held.old ≡ settings.n) }
-    requires held_to { HeldTo trace.now k held.old }
-    ensures { RoundPlayed trace.now k (stopped_of result) held.new }
+    requires held_to { HeldTo run.trace.now k held.old }
+    ensures { RoundPlayed run.entry.trace.now k (stopped_of result) held.new }
 {
-    let roles = trace_parts::roles(trace, settings.n);
-    let sent = trace_parts::marks(trace, settings.n, k);
-    let readings = trace_parts::readings(trace, settings.n, rounds, k);
+    let roles = trace_parts::roles(run.trace, settings.n);
+    let sent = trace_parts::marks(run.trace, settings.n, k);
+    let readings = trace_parts::readings(run.trace, settings.n, run.rounds, k);
     let refused = station_rounds::settle_round(settings, roles, &*held, sent, readings, &mut *next);
     if let Some(p) = refused {
         return Some(p as u8);
@@ -75,37 +86,30 @@ fn play_in(
 }
 
 // Plays round k, from 0: the first cabinet that meets too many faults; where none does, they hold their next values.
-fn play_round(trace: &[u8], settings: Settings, rounds: u8, k: u8, held: &mut [u32]) -> Option<u8>
-    requires playable { Playable trace.now × (settings ≡ (state_to trace.now k).plan.settings) }
-    requires rounds_value { (rounds ≡ rounds_at trace.now) × (k < rounds) × (length held.old ≡ settings.n) }
-    requires n_le_max_cabinets { (settings.n ≤ max_cabinets) × HeldTo trace.now k held.old }
-    ensures { RoundPlayed trace.now k (stopped_of result) held.new }
+fn play_round(run: Recording, settings: Settings, k: u8, held: &mut [u32]) -> Option<u8>
+    requires planned { settings ≡ (state_to run.trace.now k).plan.settings }
+    requires early { (k < run.rounds) × (length held.old ≡ settings.n) }
+    requires n_le_max_cabinets { (settings.n ≤ max_cabinets) × HeldTo run.trace.now k held.old }
+    ensures { RoundPlayed run.entry.trace.now k (stopped_of result) held.new }
 {
     let n = settings.n as usize;
-    let mut next = [0u32; 64];
-    play_in(trace, settings, rounds, k, &mut next[..n], held)
+    let mut next = [0u32; MOST];
+    play_in(run, settings, k, &mut next[..n], held)
 }
 
 // Plays the first rounds, each at its planned window, up to check 15.
-fn play_rounds(
-    trace: &[u8],
-    settings: Settings,
-    rounds: u8,
-    most: u8,
-    held: &mut [u32],
-) -> Result<(), Refusal>
-    requires playable { Playable trace.now × (settings ≡ settings_at trace.now) }
-    requires rounds_value { (rounds ≡ rounds_at trace.now) × (most ≤ rounds) × (length held.old ≡ settings.n) }
-    requires held_to { HeldTo trace.now 0 held.old }
-    ensures { Played trace.now most (check_of result) held.new }
+fn play_rounds(run: Recording, most: u8, held: &mut [u32]) -> Result<(), Refusal>
+    requires most_rounds { (most ≤ run.rounds) × (length held.old ≡ run.settings.n) }
+    requires held_to { HeldTo run.trace.now 0 held.old }
+    ensures { Played run.entry.trace.now most (check_of result) held.new }
 {
     let mut plan = Plan {
-        settings,
+        settings: run.settings,
         accuracy: 0,
         rounds: 0,
     };
     'rounds: for k in 0..most {
-        if let Some(p) = play_round(trace, plan.settings, rounds, k, &mut *held) {
+        if let Some(p) = play_round(run, plan.settings, k, &mut *held) {
             return Err(Reason::RunStopped.at(trace_sizes::stop_place(k, p)));
         }
         plan = plan_steps::stepped(plan);
@@ -113,20 +117,13 @@ fn play_rounds(
     Ok(())
 }
 
-// Plays the first rounds of a trace that passes its other checks.
-fn play_checked(trace: &[u8], settings: Settings, most: u8, held: &mut [u32]) -> Result<(), Refusal>
-    requires { Playable trace.now × (settings ≡ settings_at trace.now) × (length held.old ≡ settings.n) }
-    ensures { Played trace.now (min most (rounds_at trace.now)) (check_of result) held.new }
+// Plays the first rounds from the first readings on.
+fn play_from_start(run: Recording, most: u8, held: &mut [u32]) -> Result<(), Refusal>
+    requires { length held.old ≡ run.settings.n }
+    ensures { Played run.entry.trace.now (min most (rounds_at run.entry.trace.now)) (check_of result) held.new }
 {
-    let rounds = words::byte_at(trace, HEADER_SIZE);
-    first_readings(trace, &mut *held);
-    play_rounds(
-        trace,
-        settings,
-        rounds,
-        trace_rounds::rounds_to_play(rounds, most),
-        held,
-    )
+    first_readings(run.trace, &mut *held);
+    play_rounds(run, trace_rounds::rounds_to_play(run.rounds, most), held)
 }
 
 // Plays the first rounds of a trace, at most as many as it has, for a buffer of this length: its settings, or the first
@@ -140,7 +137,12 @@ pub fn play(trace: &[u8], room: usize, most: u8, held: &mut [u32]) -> Result<Set
 {
     refusals::refuse_if(held.len() < MOST, Reason::NoRoom)?;
     let settings = trace_checks::screen(trace, room)?;
+    let run = Recording {
+        trace,
+        settings,
+        rounds: words::byte_at(trace, HEADER_SIZE),
+    };
     let n = settings.n as usize;
-    play_checked(trace, settings, most, &mut held[..n])?;
+    play_from_start(run, most, &mut held[..n])?;
     Ok(settings)
 }

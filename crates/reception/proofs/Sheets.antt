@@ -8,7 +8,7 @@ use Prim.Native.Nat.{ℕ, ◌+◌, ◌*◌, ◌-◌, ◌/◌, ◌≤◌, ◌<◌
 use native.Mathlib.Nat.{le_of_eq}
 use native.Mathlib.Omega.{arith}
 use borrow.Author.Rules.{part_to_end}
-use borrow.Author.Tests.{eq-eqb, le-ltb, lt-leb, eqb-true, leb-true, ltb-true}
+use borrow.Author.Tests.{eq-eqb, ne_eqb, le-ltb, lt-leb, eqb-true, leb-true, ltb-true}
 use lib.Dec.{eqb, leb, ltb}
 use lib.ListN.{length, take, drop, length-drop}
 use lib.Seq.{get_or-take, get_or-drop, length-take-le}
@@ -294,64 +294,48 @@ fit c sheet marks values e =
     }
 
 -- what is left in the lists, by what the sizes are
+pub record Left (s : List ℕ) (c : Settings) (marks₀ values₀ marks values : List ℕ) : Type 0 where
+  pub marked : marks ≡ marks_received s c marks₀ values₀
+  pub valued : values ≡ values_received s c marks₀ values₀
+
+pub entries_relayed : (c : Settings) → c.rule ≡ cca → entry_count c ≡ c.n * c.n
+unfolding entry_count
+entries_relayed c e = rw (eq-eqb c.rule cca e)
+
+pub entries_direct : (c : Settings) → (c.rule ≡ cca → ⊥) → entry_count c ≡ c.n
+unfolding entry_count
+entries_direct c d = rw (ne_eqb c.rule cca d)
+
 module _ (s : List ℕ) (c : Settings) (marks₀ values₀ : List ℕ) where
-  module _ (e : fitting c (length s) (length marks₀) (length values₀) ≡ true) (marks values : List ℕ)
-      (f : Filled s c marks values) where
-    pub marks-fit : marks ≡ marks_received s c marks₀ values₀
-    unfolding marks_received
-    marks-fit = f.marked ∙ rw e
+  pub left_as_were : false ≡ fitting c (length s) (length marks₀) (length values₀) → Left s c marks₀ values₀ marks₀ values₀
+  unfolding marks_received values_received
+  left_as_were e = record { marked = rw (sym e); valued = rw (sym e) }
 
-    pub values-fit : values ≡ values_received s c marks₀ values₀
-    unfolding values_received
-    values-fit = f.valued ∙ rw e
+  module _ (e : true ≡ fitting c (length s) (length marks₀) (length values₀)) (marks values : List ℕ) where
+    here : Fit c (length s) (length marks₀) (length values₀)
+    here = fit c (length s) (length marks₀) (length values₀) (sym e)
 
-  module _ (e : fitting c (length s) (length marks₀) (length values₀) ≡ false) where
-    pub marks-not : marks₀ ≡ marks_received s c marks₀ values₀
-    unfolding marks_received
-    marks-not = rw e
+    left_filled : Filled s c marks values → Left s c marks₀ values₀ marks values
+    unfolding marks_received values_received
+    left_filled f = record { marked = f.marked ∙ rw (sym e); valued = f.valued ∙ rw (sym e) }
 
-    pub values-not : values₀ ≡ values_received s c marks₀ values₀
-    unfolding values_received
-    values-not = rw e
-
-pub entries-relayed : (c : Settings) → eqb c.rule cca ≡ true → entry_count c ≡ c.n * c.n
-unfolding entry_count
-entries-relayed c b = rw b
-
-pub entries-direct : (c : Settings) → eqb c.rule cca ≡ false → entry_count c ≡ c.n
-unfolding entry_count
-entries-direct c b = rw b
-
--- a sheet that fits has its parts
-module _ (s : List ℕ) (c : Settings) (marks₀ values₀ : List ℕ)
-    (e : fitting c (length s) (length marks₀) (length values₀) ≡ true) where
-  here : Fit c (length s) (length marks₀) (length values₀)
-  here = fit c (length s) (length marks₀) (length values₀) e
-
-  pub fit-few : c.m ≤ c.n
-  fit-few = omega (arith, here.few)
-
-  pub direct-long : eqb c.rule cca ≡ false → header_size + c.n + 4 * c.n ≤ length s
-  direct-long b = omega (arith, here.long, entries-direct c b)
-
-  pub relayed-long : eqb c.rule cca ≡ true → length s ≡ header_size + 5 * (c.n * c.n)
-  relayed-long b = omega (arith, here.long, entries-relayed c b)
-
-  module _ (marks values : List ℕ) where
-    pub direct-received :
-        eqb c.rule cca ≡ false
+    pub left_direct :
+        (c.rule ≡ cca → ⊥)
         → Stored (copy_at (sent_marks s c.n) (sent_bytes s c.n))
         (readings_taken (length (sent_marks s c.n)) (length (sent_bytes s c.n)) (length marks₀) (length values₀))
         marks₀
         values₀
         marks
         values
-        → Filled s c marks values
-    direct-received b =
-        direct-filled s c marks₀ values₀ marks values here.mark_room here.value_room b (direct-long b)
+        → Left s c marks₀ values₀ marks values
+    left_direct d st =
+        left_filled
+        (direct-filled s c marks₀ values₀ marks values here.mark_room here.value_room (ne_eqb c.rule cca d)
+        (omega (arith, here.long, entries_direct c d))
+        st)
 
-    pub relayed-received :
-        eqb c.rule cca ≡ true
+    pub left_relayed :
+        c.rule ≡ cca
         → Stored (row_reading (relayed_marks s c.n) (relayed_bytes s c.n) c.n (c.n - c.m))
         (rows_taken c.n (length (relayed_marks s c.n)) (length (relayed_bytes s c.n)) (length marks₀)
         (length values₀))
@@ -359,7 +343,10 @@ module _ (s : List ℕ) (c : Settings) (marks₀ values₀ : List ℕ)
         values₀
         marks
         values
-        → Filled s c marks values
-    relayed-received b =
-        relayed-filled s c marks₀ values₀ marks values here.mark_room here.value_room b here.few here.small
-        (relayed-long b)
+        → Left s c marks₀ values₀ marks values
+    left_relayed r st =
+        left_filled
+        (relayed-filled s c marks₀ values₀ marks values here.mark_room here.value_room (eq-eqb c.rule cca r) here.few
+        here.small
+        (omega (arith, here.long, entries_relayed c r))
+        st)

@@ -2,15 +2,20 @@
 // marks and as values of 32 bits beside them.
 #![tactic(auto)]
 
-ghost use Rattle.std.specs.Prelude.{◌≡◌, cond, eqb, length};
-ghost use Rattle.model.specs.RoundSheet.{cca};
+ghost use Rattle.std.specs.Prelude.{◌≡◌, ◌*◌, ◌≤◌, ◌<◌, cond, eqb, length, IsTrue};
+ghost use Rattle.model.specs.Ensemble.{max_cabinets};
+ghost use Rattle.model.specs.RoundSheet.{cca, sheet_length};
 ghost use Rattle.reception.specs.Receiving.{fitting, fitting_direct, marks_received, values_received};
 
 use model::{CCA, HEADER_SIZE, MAX_CABINETS, Settings};
 
 // Whether a sheet and lent lists fit settings with at most 64 cabinets, of which more than half must agree.
+#[tactic(auto, unfolding(crate::specs::Receiving::fitting))]
 fn fits(settings: Settings, sheet: usize, marks: usize, values: usize) -> bool
-    ensures { result ≡ fitting settings sheet marks values }
+    ensures value { result ≡ fitting settings sheet marks values }
+    ensures sizes { IsTrue result
+        → (settings.n ≤ max_cabinets) × (2 * settings.m < settings.n) × (sheet ≡ sheet_length settings)
+        × (marks ≡ settings.n) × (values ≡ settings.n) }
 {
     let n = settings.n as usize;
     let m = settings.m as usize;
@@ -54,6 +59,7 @@ pub fn receive_direct(
 }
 
 // Fills the lists with the sheet's readings. Where the sizes do not fit it changes nothing, and answers false.
+#[tactic(auto, using(crate::proofs::Sheets::entries_relayed))]
 pub fn receive(sheet: &[u8], settings: Settings, marks: &mut [u8], values: &mut [u32]) -> bool
     ensures value { result
         ≡ fitting settings

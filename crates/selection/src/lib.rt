@@ -1,8 +1,7 @@
 // The present reading that is numbered h from below, found by counting: nothing is sorted.
 #![tactic(auto)]
 
-ghost use Rattle.std.specs.Prelude.{◌≡◌, ◌&&◌, ◌+◌, ◌-◌, min, ◌≤◌, leb, eqb, length};
-ghost use Rattle.arithmetic.specs.Words.{two_to32};
+ghost use Rattle.std.specs.Prelude.{◌≡◌, ◌&&◌, ◌≤◌, leb, eqb, length};
 ghost use Rattle.model.specs.Ensemble.{max_cabinets};
 ghost use Rattle.selection.specs.Order.{count_below, count_up_to, numbered_of};
 
@@ -12,7 +11,7 @@ use held::PRESENT;
 const ZERO: u32 = 2_147_483_648;
 
 // How many present readings are below a number, and at or below it.
-#[derive(Drop)]
+#[derive(Clone, Copy)]
 struct Ranks {
     below: u32,
     up_to: u32,
@@ -25,13 +24,11 @@ fn rank(marks: &[u8], values: &[u32], v: u32) -> Ranks
 {
     let mut below: u32 = 0;
     let mut up_to: u32 = 0;
-    let mut t = 0;
-    'readings: while t < marks.len() {
+    'readings: for t in 0..marks.len() {
         let mark = marks[t];
         let value = values[t];
         below += ((mark == PRESENT) & (value < v)) as u32;
         up_to += ((mark == PRESENT) & (value <= v)) as u32;
-        t += 1;
     }
     Ranks { below, up_to }
 }
@@ -43,22 +40,9 @@ fn open(mark: u8, low: u32, v: u32, high: u32) -> bool
     (mark == PRESENT) & ((low <= v) & (v <= high))
 }
 
-// The number before v; 0 stays.
-fn previous(v: u32) -> u32
-    ensures { result ≡ v - 1 }
-{
-    if 0 < v { v - 1 } else { v }
-}
-
-// The number after v; the highest stays.
-fn next(v: u32) -> u32
-    ensures { result ≡ min (v + 1) (two_to32 - 1) }
-{
-    if v < u32::MAX { v + 1 } else { v }
-}
-
 // The present reading numbered h from below, counting from 1, or the reading 0 where there is none. A number that is
 // too low or too high rules out all beyond it.
+// Stays: the reading 0 in place of no reading (d): so have the definitions (`numbered_nat`), and the one caller asks for one that is there.
 pub fn numbered(marks: &[u8], values: &[u32], h: u32) -> u32
     ensures { result ≡ numbered_of marks.now values.now h }
 {
@@ -67,20 +51,18 @@ pub fn numbered(marks: &[u8], values: &[u32], h: u32) -> u32
     }
     let mut low: u32 = 0;
     let mut high = u32::MAX;
-    let mut t = 0;
-    'candidates: while t < marks.len() {
+    'candidates: for t in 0..marks.len() {
         let v = values[t];
         if open(marks[t], low, v, high) {
             let ranks = rank(marks, values, v);
             if h <= ranks.below {
-                high = previous(v);
+                high = v.saturating_sub(1);
             } else if ranks.up_to < h {
-                low = next(v);
+                low = v.saturating_add(1);
             } else {
                 return v;
             }
         }
-        t += 1;
     }
     ZERO
 }

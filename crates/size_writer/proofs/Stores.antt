@@ -1,10 +1,9 @@
--- The sizes stored, by whether they lie in the buffer.
+-- The sizes stored in a buffer in which they lie.
 -- Assumes nothing.
 use mathlib.Core.List.{List, [], ◌∷◌}
 use mathlib.Core.Path.{◌≡◌, refl, ap, ◌∙◌}
-use Prim.Native.Nat.{ℕ, ◌≤◌, ◌<◌}
+use Prim.Native.Nat.{ℕ, ◌≤◌}
 use native.Mathlib.Omega.{arith}
-use borrow.Author.Tests.{lt-ltb, le-ltb}
 use lib.ListN.{length, set}
 use lib.Seq.{sets-eq}
 use Rattle.arithmetic.specs.Writing.{overwrite}
@@ -12,16 +11,6 @@ use Rattle.model.specs.declared.Settings.{Settings}
 use Rattle.model.specs.RoundSheet.{header_size, size_bytes}
 use Rattle.sheet_laws.specs.Storing.{put_word}
 use Rattle.sheet_laws.proofs.Storing.{put-word-next}
-use Rattle.size_writer.specs.Sizes.{sizes_put}
-
-module _ (c : Settings) (b : List ℕ) where
-  pub sizes-short : length b < header_size → b ≡ sizes_put c b
-  unfolding sizes_put
-  sizes-short h = rw (lt-ltb (length b) header_size h)
-
-  pub sizes-put : header_size ≤ length b → sizes_put c b ≡ overwrite (size_bytes c) b
-  unfolding sizes_put
-  sizes-put h = rw (le-ltb (length b) header_size h)
 
 -- the four bytes and the number of the sizes
 pub sizes-stored :

@@ -7,6 +7,7 @@ ghost use Rattle.size_writer.specs.Sizes.{sizes_put};
 use model::{HEADER_SIZE, Settings};
 
 // Stores the sizes, bytes 0 to 7, where they all lie in the buffer.
+#[tactic(auto, unfolding(crate::specs::Sizes::sizes_put))]
 pub fn put_sizes(settings: Settings, buffer: &mut [u8])
     ensures { buffer.new ≡ sizes_put settings buffer.old }
 {

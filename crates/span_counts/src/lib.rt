@@ -7,10 +7,7 @@ ghost use Rattle.arithmetic.specs.Counting.{count};
 ghost use Rattle.spans.specs.Spans.{held_at};
 ghost use Rattle.span_counts.specs.Places.{places};
 
-use model::MAX_CABINETS;
-
-// The most readings.
-const MOST: usize = MAX_CABINETS as usize;
+use model::MOST;
 
 // How many of at most 64 readings the span from a start holds.
 pub fn held_of_all(marks: &[u8], values: &[u32], start: u32, span: u32) -> u32

@@ -2,6 +2,8 @@
 -- Assumes nothing.
 use Rattle.std.proofs.Common.{◌≡◌, ℕ, ◌+◌, ◌-◌, ◌*◌, ◌%◌, ◌<◌, ◌≤◌, Bool, true, false, ◌&&◌, ◌||◌, eqb, ltb, List, length, sym, refl, ap, ◌∙◌, ap₂, ⊎_elim, mul-le-mul, pos_of_ne-zero, arith, ltb-false, ltb-true, le-ltb, lt-ltb}
 use borrow.Author.Tests.{eqb-false}
+use Rattle.std.specs.Prelude.{Some, None}
+use Rattle.std.proofs.lemmas.Option.{none-some}
 use Rattle.arithmetic.specs.Naturals.{total}
 use Rattle.arithmetic.specs.Counting.{any_below}
 use Rattle.arithmetic.proofs.Bools.{both_ways, clash, and_intro, or_left, or_right}
@@ -11,7 +13,7 @@ use Rattle.model.specs.Ensemble.{max_cabinets}
 use Rattle.held.specs.Held.{unfit, present_in, value_at}
 use Rattle.held.proofs.Held.{fit-few, fit-even}
 use Rattle.selection.proofs.Selection.{lowest-first, highest-last}
-use Rattle.summaries.specs.Summaries.{present_count, Fitting, most_apart, far_apart, distance_at, Taken, OnePass, ungathered, no_summary, Gathers}
+use Rattle.summaries.specs.Summaries.{present_count, Fitting, most_apart, far_apart, distance_at, Taken, OnePass, ungathered, Summarizes, Gathers}
 use Rattle.summaries.specs.declared.Gathered.{Gathered}
 use Rattle.summaries.proofs.Gathering.{distances_small, numbers-sum}
 use Rattle.summaries.specs.declared.Summary.{Summary}
@@ -113,7 +115,7 @@ module _ (marks values : List ℕ) where
     -- by what the tests said
     module _ (fit : unfit (length marks) (length values) ≡ false) {b : Bool}
         (tested : b ≡ (eqb r.count 0 || ltb most_apart (r.high - r.low))) where
-      pub pass-none : b ≡ true → Gathers no_summary marks values
+      pub pass-none : b ≡ true → Gathers None marks values
       pass-none t = record { all = λ f. clash (by-pass fit ∙ sym tested ∙ t) f; none = λ _. refl }
 
       module _ (passed : b ≡ false) where
@@ -146,7 +148,7 @@ module _ (marks values : List ℕ) where
 
         pub pass_gather :
             (a : ℕ) → ((d : ℕ) → d < two_to32 → r.total ≡ (d + r.count * r.low) % two_to32 → a ≡ d)
-            → Gathers (record { count = r.count; sum = a; low = r.low; high = r.high }) marks values
+            → Gathers (Some (record { count = r.count; sum = a; low = r.low; high = r.high })) marks values
         pass_gather a e =
             record {
               all =
@@ -183,12 +185,15 @@ module _ (marks values : List ℕ) where
             high = pass.high_taken (some-present some)
 
   pub unfit_gathers :
-      {b : Bool} → b ≡ unfit (length marks) (length values) → b ≡ true → Gathers no_summary marks values
+      {b : Bool} → b ≡ unfit (length marks) (length values) → b ≡ true → Gathers None marks values
   unfolding ungathered
   unfit_gathers tested t =
       record { all = λ f. clash (sym tested ∙ t) (or_left (unfit (length marks) (length values)) _ f); none = λ _. refl }
 
-  -- where one is counted, something is gathered
-  pub counted_gathered : (r : Summary) → Gathers r marks values → (r.count ≡ 0 → ⊥) → ungathered marks values ≡ false
-  counted_gathered r g some =
-      ⊎_elim (λ t. absurd (some (ap (λ (s : Summary). s.count) (g.none t)))) (λ f. f) (both_ways (ungathered marks values))
+  -- where there is a summary, something is gathered, and it is the summary
+  pub summary-gathered :
+      (r : Summary)
+      → Gathers (Some r) marks values
+      → (ungathered marks values ≡ false) × Fitting marks values × Summarizes r marks values
+  summary-gathered r g =
+      ⊎_elim (λ t. absurd (none-some r (sym (g.none t)))) (λ f. let a = g.all f in (f, a.0, a.1)) (both_ways (ungathered marks values))

@@ -1,3 +1,2 @@
-pub mod Wrapping
 pub mod Gathering
 pub mod Fits

@@ -8,9 +8,8 @@
 --   Taken                 the number of a present reading
 --   OnePass               what one pass gathers: how many are present, 32 bits of their sum, the lowest and the highest
 --   ungathered            nothing is gathered: the lists do not fit, none is present, or two lie too far apart
---   no_summary             all 0
 --   Summarizes, Gathers   what is gathered of the present readings; the same of lists of any kind
-use Rattle.std.specs.Prelude.{◌≡◌, ℕ, ◌+◌, ◌-◌, ◌*◌, ◌%◌, ◌<◌, ◌≤◌, Bool, true, false, cond, ◌&&◌, ◌||◌, List, length, ◌==◌, nat_lt}
+use Rattle.std.specs.Prelude.{Option, None, MatchOption, ◌≡◌, ℕ, ◌+◌, ◌-◌, ◌*◌, ◌%◌, ◌<◌, ◌≤◌, Bool, true, false, cond, ◌&&◌, ◌||◌, List, length, ◌==◌, nat_lt}
 use Rattle.arithmetic.specs.Counting.{count, any_below}
 use Rattle.arithmetic.specs.Naturals.{total}
 use Rattle.arithmetic.specs.Words.{two_to32}
@@ -58,9 +57,6 @@ ungathered marks values =
     unfit (length marks) (length values)
     || (present_count marks == 0 || far_apart (present_in marks) (length marks) (value_at values))
 
-abbrev pub no_summary : Summary
-no_summary = record { count = 0; sum = 0; low = 0; high = 0 }
-
 -- the count of the present readings, of which there is one, the lowest, the highest, and the sum of their distances
 -- from the lowest
 pub record Summarizes (r : Summary) (marks values : List ℕ) : Type 0 where
@@ -74,6 +70,6 @@ pub record Summarizes (r : Summary) (marks values : List ℕ) : Type 0 where
   pub greatest : (j : ℕ) → j < length marks → present_in marks j ≡ true → value_at values j ≤ r.high
   pub added : r.sum ≡ total (distance_at marks values r.low) (length marks)
 
-pub record Gathers (r : Summary) (marks values : List ℕ) : Type 0 where
-  pub all : ungathered marks values ≡ false → Fitting marks values × Summarizes r marks values
-  pub none : ungathered marks values ≡ true → r ≡ no_summary
+pub record Gathers (r : Option Summary) (marks values : List ℕ) : Type 0 where
+  pub all : ungathered marks values ≡ false → Fitting marks values × MatchOption r ⊥ (λ s. Summarizes s marks values)
+  pub none : ungathered marks values ≡ true → r ≡ None

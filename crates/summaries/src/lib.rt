@@ -2,7 +2,7 @@
 // lowest. Readings are held by their marks and by their ticks moved up by 2^31.
 #![tactic(auto)]
 
-ghost use Rattle.std.specs.Prelude.{◌≡◌, ℕ, ◌+◌, ◌-◌, ◌*◌, ◌%◌, ◌<◌, ◌≤◌, min, max, ◌||◌, ◌==◌, nat_lt};
+ghost use Rattle.std.specs.Prelude.{◌≡◌, ℕ, ◌+◌, ◌-◌, ◌*◌, ◌%◌, ◌<◌, ◌≤◌, ◌||◌, ◌==◌, nat_lt};
 ghost use Rattle.arithmetic.specs.Words.{two_to32};
 ghost use Rattle.model.specs.Ensemble.{max_cabinets};
 ghost use Rattle.summaries.specs.Summaries.{Fitting, OnePass, most_apart, Gathers};
@@ -15,7 +15,7 @@ const MOST_APART: u32 = 2 * (MAX_WINDOW + MAX_SPREAD);
 
 // What one pass over the readings gathers of the present ones: how many they are, 32 bits of their sum, the lowest and
 // the highest.
-#[derive(Drop)]
+#[derive(Clone, Copy)]
 struct Gathered {
     count: u32,
     total: u32,
@@ -32,20 +32,6 @@ pub struct Summary {
     pub high: u32,
 }
 
-// The lower of two numbers.
-pub fn lower(a: u32, b: u32) -> u32
-    ensures { result ≡ min a b }
-{
-    if a < b { a } else { b }
-}
-
-// The higher of two numbers.
-pub fn higher(a: u32, b: u32) -> u32
-    ensures { result ≡ max a b }
-{
-    if a < b { b } else { a }
-}
-
 // Where no reading is present, the lowest is the highest number and the highest is 0.
 fn gather(marks: &[u8], values: &[u32]) -> Gathered
     requires { Fitting marks.now values.now }
@@ -55,16 +41,14 @@ fn gather(marks: &[u8], values: &[u32]) -> Gathered
     let mut total: u32 = 0;
     let mut low = u32::MAX;
     let mut high: u32 = 0;
-    let mut t = 0;
-    'readings: while t < marks.len() {
+    'readings: for t in 0..marks.len() {
         let v = values[t];
         if marks[t] == PRESENT {
             count += 1;
-            total = std::num::wrapping_add_u32(total, v);
-            low = lower(v, low);
-            high = higher(high, v);
+            total = total.wrapping_add(v);
+            low = v.min(low);
+            high = high.max(v);
         }
-        t += 1;
     }
     Gathered {
         count,
@@ -74,22 +58,13 @@ fn gather(marks: &[u8], values: &[u32]) -> Gathered
     }
 }
 
-// 32 bits of count times low, where at most 64 are counted.
-fn multiply(count: u32, low: u32) -> u32
-    requires { count ≤ max_cabinets }
-    ensures { result ≡ count * low % two_to32 }
-{
-    let upper = count * (low / 65536) % 65536;
-    std::num::wrapping_add_u32(count * (low % 65536), upper * 65536)
-}
-
 // The sum of so many numbers' distances from the lowest, by 32 bits of the numbers' sum: the lowest is taken off once
 // for each. What wrapped comes back, since the distances add up to a number of 32 bits.
 fn sum_distances(count: u32, total: u32, low: u32) -> u32
     requires { count ≤ max_cabinets }
     ensures { (d : ℕ) → d < two_to32 → total ≡ (d + count * low) % two_to32 → result ≡ d }
 {
-    std::num::wrapping_sub_u32(total, multiply(count, low))
+    total.wrapping_sub(count.wrapping_mul(low))
 }
 
 // Whether no reading is present, or two lie farther apart than twice the widest span.
@@ -103,28 +78,22 @@ fn unsummable(count: u32, low: u32, high: u32) -> bool
     MOST_APART < high - low
 }
 
-// What is gathered of the readings of at most 64 cabinets. All is 0 where none is present or two lie farther apart than
+// What is gathered of the readings of at most 64 cabinets; nothing where none is present or two lie farther apart than
 // twice the widest span, and for lists that are not equally long or are longer.
-pub fn summarize(marks: &[u8], values: &[u32]) -> Summary
+pub fn summarize(marks: &[u8], values: &[u32]) -> Option<Summary>
     ensures { Gathers result marks.now values.now }
 {
-    let none = Summary {
-        count: 0,
-        sum: 0,
-        low: 0,
-        high: 0,
-    };
     if held::unfit(marks.len(), values.len()) {
-        return none;
+        return None;
     }
     let all = gather(marks, values);
     if unsummable(all.count, all.low, all.high) {
-        return none;
+        return None;
     }
-    Summary {
+    Some(Summary {
         count: all.count,
         sum: sum_distances(all.count, all.total, all.low),
         low: all.low,
         high: all.high,
-    }
+    })
 }

@@ -10,16 +10,9 @@ pub fn enough(need: u32, copies: u32) -> bool
     need <= copies
 }
 
-// How many of n copies may differ from the decided value.
-fn spare(n: u32, need: u32) -> u32
-    ensures { result ≡ n - need }
-{
-    if n < need { 0 } else { n - need }
-}
-
 // Whether a value's copies leave too few of n for another to be decided.
 pub fn spent(n: u32, need: u32, copies: u32) -> bool
     ensures { result ≡ ltb (n - need) copies }
 {
-    spare(n, need) < copies
+    n.saturating_sub(need) < copies
 }

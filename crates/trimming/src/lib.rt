@@ -110,11 +110,7 @@ pub fn trim(marks: &mut [u8], values: &[u32], m: u8, rule: u8) -> Estimated
 {
     let n = marks.len();
     if dropping::unfit(n, values.len(), m) {
-        return Estimated {
-            count: 0,
-            estimate: 0,
-            value: 0,
-        };
+        return estimates::NOTHING;
     }
     let sum = if n <= FEW {
         trim_fitting::<FEW>(&mut *marks, values, m, rule)

@@ -8,7 +8,7 @@ use Rattle.acceptance.proofs.accepts.Goals as goal
 pub readings-init : goal.readings-init
 readings-init c =
     let a = c.args in
-    (uncounted a.span a.need a.marks.now a.values.now c.starts.s, c.starts.invariant.1)
+    (uncounted a.all.now.span a.all.now.need a.all.now.marks.now a.all.now.values.now c.starts.s, c.starts.invariant.1)
 
 pub starts-preserved : goal.starts-preserved
 starts-preserved c =
@@ -18,7 +18,7 @@ starts-preserved c =
     elim c.if-tries.branch [
       | then-tries+else-eq+else-readings-test w ↦
           rw (w.known-is, w.found-is) (
-            pass-counted a.span a.need a.marks.now a.values.now a.value s.known s.s below s.invariant.0
+            pass-counted a.all.now.span a.all.now.need a.all.now.marks.now a.all.now.values.now a.value s.known s.s below s.invariant.0
                 w.readings.count
                 w.readings.t
                 w.judged.result
@@ -29,7 +29,7 @@ starts-preserved c =
           )
       | else-tries w ↦
           rw (w.known-is, w.found-is) (
-            pass-untried a.span a.need a.marks.now a.values.now a.value s.known s.s below s.invariant.0
+            pass-untried a.all.now.span a.all.now.need a.all.now.marks.now a.all.now.values.now a.value s.known s.s below s.invariant.0
                 c.tries.ensures
                 w.if-tries.false,
             s.invariant.1,
@@ -41,7 +41,7 @@ returns-after-starts-clause-admitted c =
     let a = c.args in
     let s = c.starts in
     rw s.invariant.1
-    (unanswered a.span a.need a.marks.now a.values.now a.value s.known s.s s.invariant.0 c.starts-test.false)
+    (unanswered a.all.now.span a.all.now.need a.all.now.marks.now a.all.now.values.now a.value s.known s.s s.invariant.0 c.starts-test.false)
 
 pub returns-after-starts-clause-holds : goal.returns-after-starts-clause-holds
 returns-after-starts-clause-holds c = rw c.starts.invariant.1 tt
@@ -50,36 +50,36 @@ pub returns-then-eq-clause-admitted : goal.returns-then-eq-clause-admitted
 returns-then-eq-clause-admitted c =
     let a = c.args in
     let s = c.starts in
-    answered a.span a.need a.marks.now a.values.now a.value s.known s.s c.starts-test.true s.invariant.0
+    answered a.all.now.span a.all.now.need a.all.now.marks.now a.all.now.values.now a.value s.known s.s c.starts-test.true s.invariant.0
     c.tries.ensures
     c.if-tries.true
-    (known_enough a.span a.need a.marks.now a.values.now a.value s.known s.s c.starts-test.true s.invariant.0 c.tries.ensures
+    (known_enough a.all.now.span a.all.now.need a.all.now.marks.now a.all.now.values.now a.value s.known s.s c.starts-test.true s.invariant.0 c.tries.ensures
     (search rules))
 
-pub returns-then-need-count-clause-admitted : goal.returns-then-need-count-clause-admitted
-returns-then-need-count-clause-admitted c =
+pub returns-then-all-count-clause-admitted : goal.returns-then-all-count-clause-admitted
+returns-then-all-count-clause-admitted c =
     let a = c.args in
     let s = c.starts in
     let i = c.readings in
-    answered a.span a.need a.marks.now a.values.now a.value s.known s.s c.starts-test.true s.invariant.0
+    answered a.all.now.span a.all.now.need a.all.now.marks.now a.all.now.values.now a.value s.known s.s c.starts-test.true s.invariant.0
     c.tries.ensures
     c.if-tries.true
-    (count-enough a.span a.need a.marks.now a.values.now s.s i.count i.t i.invariant.0
+    (count-enough a.all.now.span a.all.now.need a.all.now.marks.now a.all.now.values.now s.s i.count i.t i.invariant.0
     c.readings-test.true
     c.counted-count.result
     c.counted-count.ensures
-    c.if-need-count.true)
+    c.if-all-count.true)
 
-pub returns-then-need-count-clause-holds : goal.returns-then-need-count-clause-holds
-returns-then-need-count-clause-holds c =
+pub returns-then-all-count-clause-holds : goal.returns-then-all-count-clause-holds
+returns-then-all-count-clause-holds c =
     let a = c.args in
     let s = c.starts in
     let i = c.readings in
-    answered-holds a.span a.need a.marks.now a.values.now a.value s.known s.s c.starts-test.true s.invariant.0
+    answered-holds a.all.now.span a.all.now.need a.all.now.marks.now a.all.now.values.now a.value s.known s.s c.starts-test.true s.invariant.0
     c.tries.ensures
     c.if-tries.true
-    (count-enough a.span a.need a.marks.now a.values.now s.s i.count i.t i.invariant.0
+    (count-enough a.all.now.span a.all.now.need a.all.now.marks.now a.all.now.values.now s.s i.count i.t i.invariant.0
     c.readings-test.true
     c.counted-count.result
     c.counted-count.ensures
-    c.if-need-count.true)
+    c.if-all-count.true)

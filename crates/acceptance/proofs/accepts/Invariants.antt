@@ -6,10 +6,10 @@ use Rattle.acceptance.proofs.Spans.{Tried, Counted}
 use Rattle.acceptance.proofs.accepts.Given as goal
 
 abbrev pub invariant-readings : goal.invariant-readings
-invariant-readings l = Counted l.span l.need l.marks l.values l.s l.count l.t × (l.found ≡ None)
+invariant-readings l = Counted l.all.span l.all.need l.all.marks.now l.all.values.now l.s l.count l.t × (l.found ≡ None)
 
 abbrev pub decreases-readings : goal.decreases-readings
-decreases-readings l = length l.marks - l.t
+decreases-readings l = length l.all.marks.now - l.t
 
 abbrev pub invariant-starts : goal.invariant-starts
-invariant-starts l = Tried l.span l.need l.marks l.values l.value l.known l.s × (l.found ≡ None)
+invariant-starts l = Tried l.all.span l.all.need l.all.marks.now l.all.values.now l.value l.known l.s × (l.found ≡ None)

@@ -11,10 +11,10 @@ overflow_add-result c =
     let a = c.args in
     omega (
       arith,
-      c.requires.values_len.1,
-      counted-few a.span a.marks.now a.values.now a.start a.found a.t c.requires.counting.0 c.requires.counting.1,
-      count-le (held_at a.start a.span a.marks.now a.values.now)
-          (places (length a.marks.now) (length a.values.now)),
+      a.all.now.few,
+      counted-few a.all.now.span a.all.now.marks.now a.all.now.values.now a.start a.found a.t c.requires.0 c.requires.1,
+      count-le (held_at a.start a.all.now.span a.all.now.marks.now a.all.now.values.now)
+          (places (length a.all.now.marks.now) (length a.all.now.values.now)),
       c.held_of_all.ensures,
     )
 
@@ -22,23 +22,23 @@ pub one_more-requires : goal.one_more-requires
 one_more-requires c =
     let a = c.args in
     let few =
-    counted-few a.span a.marks.now a.values.now a.start a.found a.t c.requires.counting.0 c.requires.counting.1 in
-    (c.requires.values_len.0, c.requires.counting.1, omega (arith, few, c.requires.values_len.1))
+    counted-few a.all.now.span a.all.now.marks.now a.all.now.values.now a.start a.found a.t c.requires.0 c.requires.1 in
+    (c.requires.1, omega (arith, few, a.all.now.few))
 
-pub returns-then-marks-ge-WIDE : goal.returns-then-marks-ge-WIDE
-returns-then-marks-ge-WIDE c =
+pub returns-then-all-ge-WIDE : goal.returns-then-all-ge-WIDE
+returns-then-all-ge-WIDE c =
     let a = c.args in
-    counted-all a.span a.marks.now a.values.now a.start a.found a.t c.requires.counting.0 c.requires.counting.1
-    c.requires.values_len.0
-    c.requires.values_len.1
-    c.if-marks-ge-WIDE.true
+    counted-all a.all.now.span a.all.now.marks.now a.all.now.values.now a.start a.found a.t c.requires.0 c.requires.1
+    a.all.now.even
+    a.all.now.few
+    c.if-all-ge-WIDE.true
     c.held_of_all.result
     c.held_of_all.ensures
 
-pub returns-else-marks-ge-WIDE : goal.returns-else-marks-ge-WIDE
-returns-else-marks-ge-WIDE c =
+pub returns-else-all-ge-WIDE : goal.returns-else-all-ge-WIDE
+returns-else-all-ge-WIDE c =
     let a = c.args in
-    counted-one a.span a.marks.now a.values.now a.start a.found a.t c.requires.counting.0 c.requires.counting.1
-    c.if-marks-ge-WIDE.false
+    counted-one a.all.now.span a.all.now.marks.now a.all.now.values.now a.start a.found a.t c.requires.0 c.requires.1
+    c.if-all-ge-WIDE.false
     c.one_more.result
     c.one_more.ensures

@@ -10,27 +10,27 @@ returns-then-is_some-clause-accepted c =
     let a = c.args in
     sym c.if-is_some.ensures
     ∙ sym
-    ((joined-accepted a.span a.need a.marks.now a.values.now a.earlier a.r c.requires.present c.requires.begins).1
+    ((joined-accepted a.all.now.span a.all.now.need a.all.now.marks.now a.all.now.values.now a.earlier a.r c.requires.present c.requires.begins).1
     (ap is_some (sym c.spanned_from-joined.ensures) ∙ sym c.if-is_some.ensures))
 
 pub returns-then-is_some-clause-holds : goal.returns-then-is_some-clause-holds
 returns-then-is_some-clause-holds c =
     let a = c.args in
     rw c.spanned_from-joined.ensures
-    (joined-accepted a.span a.need a.marks.now a.values.now a.earlier a.r c.requires.present c.requires.begins).0
+    (joined-accepted a.all.now.span a.all.now.need a.all.now.marks.now a.all.now.values.now a.earlier a.r c.requires.present c.requires.begins).0
 
 pub too_few-requires : goal.too_few-requires
 too_few-requires c =
     let a = c.args in
-    let below = count-le (accepted_in a.span a.need a.marks.now a.values.now) a.r in (
-      omega (arith, c.requires.alike.0.1, c.requires.alike.1, c.requires.before, below),
-      omega (arith, c.requires.alike.0.1),
+    let below = count-le (accepted_in a.all.now.span a.all.now.need a.all.now.marks.now a.all.now.values.now) a.r in (
+      omega (arith, a.all.now.few, c.requires.room.1, c.requires.before, below),
+      omega (arith, a.all.now.few),
     )
 
 pub returns-then-too_few-clause-accepted : goal.returns-then-too_few-clause-accepted
 returns-then-too_few-clause-accepted c =
     let a = c.args in
-    decided_too_few a.span a.need a.marks.now a.values.now a.r a.before c.requires.alike.1 c.requires.before
+    decided_too_few a.all.now.span a.all.now.need a.all.now.marks.now a.all.now.values.now a.r a.before c.requires.room.1 c.requires.before
     c.too_few.ensures
     c.if-too_few.true
 
@@ -40,7 +40,7 @@ returns-in_err-s-clause-accepted c =
     rw c.from_residual.ensures
     (c.in_err-s.ensures.admitted
     ∙ sym
-    (accepted-admitted a.span a.need a.marks.now a.values.now a.r
+    (accepted-admitted a.all.now.span a.all.now.need a.all.now.marks.now a.all.now.values.now a.r
     c.requires.present))
 
 pub returns-clause-accepted : goal.returns-clause-accepted
@@ -48,5 +48,5 @@ returns-clause-accepted c =
     let a = c.args in
     c.in_ok-s.ensures.admitted
     ∙ sym
-    (accepted-admitted a.span a.need a.marks.now a.values.now a.r
+    (accepted-admitted a.all.now.span a.all.now.need a.all.now.marks.now a.all.now.values.now a.r
     c.requires.present)

@@ -7,7 +7,7 @@ pub returns-then-present : goal.returns-then-present
 returns-then-present c =
     let a = c.args in
     ap (λ (h : ℕ). a.found + h)
-    (counts-present a.start a.span a.marks.now a.values.now a.t c.present.ensures
+    (counts-present a.start a.all.now.span a.all.now.marks.now a.all.now.values.now a.t c.present.ensures
     c.if-present.true
     c.reached.result
     c.reached.ensures)
@@ -17,5 +17,5 @@ returns-else-present c =
     let a = c.args in
     omega (
       arith,
-      counts-missing a.start a.span a.marks.now a.values.now a.t c.present.ensures c.if-present.false,
+      counts-missing a.start a.all.now.span a.all.now.marks.now a.all.now.values.now a.t c.present.ensures c.if-present.false,
     )

@@ -14,33 +14,42 @@ room-here trace room settings long o large =
     let few = playable-few trace (playable trace room o.head) in
     omega (arith, ap (λ (d : Settings). d.n) o.settings, large)
 
-pub slice_bounds-play_checked-end : goal.slice_bounds-play_checked-end
-slice_bounds-play_checked-end c =
+pub slice_bounds-play_from_start-end : goal.slice_bounds-play_from_start-end
+slice_bounds-play_from_start-end c =
     let a = c.args in
     room-here a.trace.now a.room c.in_ok-settings.settings (length a.held.now)
     (traced a.trace.now a.room c.in_ok-settings.settings (sym c.in_ok-settings.ensures))
     (large a.trace.now a.most a.room (length a.held.now) c.in_ok-refuse_if.ensures)
 
-pub slice_bounds-play_checked-end-2 : goal.slice_bounds-play_checked-end-2
-slice_bounds-play_checked-end-2 c =
+pub slice_bounds-play_from_start-end-2 : goal.slice_bounds-play_from_start-end-2
+slice_bounds-play_from_start-end-2 c =
     let a = c.args in
     sym (length-take-le c.in_ok-settings.settings.n a.held.now
     (room-here a.trace.now a.room c.in_ok-settings.settings (length a.held.now)
     (traced a.trace.now a.room c.in_ok-settings.settings (sym c.in_ok-settings.ensures))
     (large a.trace.now a.most a.room (length a.held.now) c.in_ok-refuse_if.ensures)))
 
-pub play_checked-requires : goal.play_checked-requires
-play_checked-requires c =
+pub invariant_of-run : goal.invariant_of-run
+invariant_of-run c =
     let a = c.args in
-    let o = traced a.trace.now a.room c.in_ok-settings.settings (sym c.in_ok-settings.ensures) in (
-      playable a.trace.now a.room o.head,
-      sym o.settings,
-      length-take-le c.in_ok-settings.settings.n a.held.now
-          (room-here a.trace.now a.room c.in_ok-settings.settings (length a.held.now) o (large a.trace.now a.most a.room (length a.held.now) c.in_ok-refuse_if.ensures)),
-    )
+    let o = traced a.trace.now a.room c.in_ok-settings.settings (sym c.in_ok-settings.ensures) in
+    record {
+      bytes = λ j. (c.type_inv.trace j).fits;
+      playable = playable a.trace.now a.room o.head;
+      sized = sym o.settings;
+      counted = c.byte_at.ensures;
+    }
+
+pub play_from_start-requires : goal.play_from_start-requires
+play_from_start-requires c =
+    let a = c.args in
+    let o = traced a.trace.now a.room c.in_ok-settings.settings (sym c.in_ok-settings.ensures) in
+    length-take-le c.in_ok-settings.settings.n a.held.now
+    (room-here a.trace.now a.room c.in_ok-settings.settings (length a.held.now) o
+    (large a.trace.now a.most a.room (length a.held.now) c.in_ok-refuse_if.ensures))
 
 pub returns-clause-result_value : goal.returns-clause-result_value
 returns-clause-result_value c =
     let a = c.args in
     run_granted a.trace.now a.most a.room (length a.held.now) c.in_ok-refuse_if.ensures c.in_ok-settings.settings
-    c.in_ok-settings.ensures c.in_ok-play_checked.ensures.stops
+    c.in_ok-settings.ensures c.in_ok-play_from_start.ensures.stops

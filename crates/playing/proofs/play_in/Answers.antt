@@ -25,29 +25,29 @@ readings-are trace n rounds k readings all e =
 pub overflow_cast-result : goal.overflow_cast-result
 overflow_cast-result c =
     let a = c.args in
-    let room = roles-room a.trace.now (λ j. (c.type_inv.trace j).fits) c.requires.playable.0 a.k
-    (omega (arith, c.requires.rounds_value.0, c.requires.rounds_value.1)) a.settings c.requires.playable.1
+    let room = roles-room a.run.trace.now c.args.run.bytes c.args.run.playable a.k
+    (omega (arith, c.args.run.counted, c.requires.early)) a.settings c.requires.planned
     c.roles-roles.result.now c.marks-sent.result.now c.readings-readings.result.now
     c.roles-roles.ensures c.marks-sent.ensures
-    (readings-are a.trace.now a.settings.n a.rounds a.k _ c.requires.rounds_value.0 c.readings-readings.ensures) in
+    (readings-are a.run.trace.now a.settings.n a.run.rounds a.k _ c.args.run.counted c.readings-readings.ensures) in
     let small =
-    few a.trace.now (λ j. (c.type_inv.trace j).fits) c.requires.playable.0 a.k
-    (omega (arith, c.requires.rounds_value.0, c.requires.rounds_value.1)) a.settings c.requires.playable.1 in
+    few a.run.trace.now c.args.run.bytes c.args.run.playable a.k
+    (omega (arith, c.args.run.counted, c.requires.early)) a.settings c.requires.planned in
     omega (arith, room, small, c.in-Some.ensures.one)
 
 pub returns-in-Some : goal.returns-in-Some
 returns-in-Some c =
     let a = c.args in
-    let room = roles-room a.trace.now (λ j. (c.type_inv.trace j).fits) c.requires.playable.0 a.k
-    (omega (arith, c.requires.rounds_value.0, c.requires.rounds_value.1)) a.settings c.requires.playable.1
+    let room = roles-room a.run.trace.now c.args.run.bytes c.args.run.playable a.k
+    (omega (arith, c.args.run.counted, c.requires.early)) a.settings c.requires.planned
     c.roles-roles.result.now c.marks-sent.result.now c.readings-readings.result.now
     c.roles-roles.ensures c.marks-sent.ensures
-    (readings-are a.trace.now a.settings.n a.rounds a.k _ c.requires.rounds_value.0 c.readings-readings.ensures) in
-    round-stops a.trace.now (λ j. (c.type_inv.trace j).fits) c.requires.playable.0 a.k
-    (omega (arith, c.requires.rounds_value.0, c.requires.rounds_value.1)) a.settings c.requires.playable.1
+    (readings-are a.run.trace.now a.settings.n a.run.rounds a.k _ c.args.run.counted c.readings-readings.ensures) in
+    round-stops a.run.trace.now c.args.run.bytes c.args.run.playable a.k
+    (omega (arith, c.args.run.counted, c.requires.early)) a.settings c.requires.planned
     c.roles-roles.result.now c.marks-sent.result.now c.readings-readings.result.now
     c.roles-roles.ensures c.marks-sent.ensures
-    (readings-are a.trace.now a.settings.n a.rounds a.k _ c.requires.rounds_value.0 c.readings-readings.ensures)
+    (readings-are a.run.trace.now a.settings.n a.run.rounds a.k _ c.args.run.counted c.readings-readings.ensures)
     a.held.now
     a.next.now
     c.requires.next_len.1
@@ -63,16 +63,16 @@ pub take_over-requires : goal.take_over-requires
 take_over-requires c =
     let a = c.args in
     let r = c.settle_round-refused in
-    let room = roles-room a.trace.now (λ j. (c.type_inv.trace j).fits) c.requires.playable.0 a.k
-    (omega (arith, c.requires.rounds_value.0, c.requires.rounds_value.1)) a.settings c.requires.playable.1
+    let room = roles-room a.run.trace.now c.args.run.bytes c.args.run.playable a.k
+    (omega (arith, c.args.run.counted, c.requires.early)) a.settings c.requires.planned
     c.roles-roles.result.now c.marks-sent.result.now c.readings-readings.result.now
     c.roles-roles.ensures c.marks-sent.ensures
-    (readings-are a.trace.now a.settings.n a.rounds a.k _ c.requires.rounds_value.0 c.readings-readings.ensures) in
-    let long = next-long a.trace.now (λ j. (c.type_inv.trace j).fits) c.requires.playable.0 a.k
-    (omega (arith, c.requires.rounds_value.0, c.requires.rounds_value.1)) a.settings c.requires.playable.1
+    (readings-are a.run.trace.now a.settings.n a.run.rounds a.k _ c.args.run.counted c.readings-readings.ensures) in
+    let long = next-long a.run.trace.now c.args.run.bytes c.args.run.playable a.k
+    (omega (arith, c.args.run.counted, c.requires.early)) a.settings c.requires.planned
     c.roles-roles.result.now c.marks-sent.result.now c.readings-readings.result.now
     c.roles-roles.ensures c.marks-sent.ensures
-    (readings-are a.trace.now a.settings.n a.rounds a.k _ c.requires.rounds_value.0 c.readings-readings.ensures)
+    (readings-are a.run.trace.now a.settings.n a.run.rounds a.k _ c.args.run.counted c.readings-readings.ensures)
     a.held.now
     a.next.now
     c.requires.next_len.1
@@ -88,16 +88,16 @@ pub returns : goal.returns
 returns c =
     let a = c.args in
     let r = c.settle_round-refused in
-    let room = roles-room a.trace.now (λ j. (c.type_inv.trace j).fits) c.requires.playable.0 a.k
-    (omega (arith, c.requires.rounds_value.0, c.requires.rounds_value.1)) a.settings c.requires.playable.1
+    let room = roles-room a.run.trace.now c.args.run.bytes c.args.run.playable a.k
+    (omega (arith, c.args.run.counted, c.requires.early)) a.settings c.requires.planned
     c.roles-roles.result.now c.marks-sent.result.now c.readings-readings.result.now
     c.roles-roles.ensures c.marks-sent.ensures
-    (readings-are a.trace.now a.settings.n a.rounds a.k _ c.requires.rounds_value.0 c.readings-readings.ensures) in
-    round-passes a.trace.now (λ j. (c.type_inv.trace j).fits) c.requires.playable.0 a.k
-    (omega (arith, c.requires.rounds_value.0, c.requires.rounds_value.1)) a.settings c.requires.playable.1
+    (readings-are a.run.trace.now a.settings.n a.run.rounds a.k _ c.args.run.counted c.readings-readings.ensures) in
+    round-passes a.run.trace.now c.args.run.bytes c.args.run.playable a.k
+    (omega (arith, c.args.run.counted, c.requires.early)) a.settings c.requires.planned
     c.roles-roles.result.now c.marks-sent.result.now c.readings-readings.result.now
     c.roles-roles.ensures c.marks-sent.ensures
-    (readings-are a.trace.now a.settings.n a.rounds a.k _ c.requires.rounds_value.0 c.readings-readings.ensures)
+    (readings-are a.run.trace.now a.settings.n a.run.rounds a.k _ c.args.run.counted c.readings-readings.ensures)
     a.held.now
     a.next.now
     c.requires.next_len.1

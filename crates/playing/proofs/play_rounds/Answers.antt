@@ -12,37 +12,35 @@ use Rattle.playing.proofs.play_rounds.Goals as goal
 pub rounds-init : goal.rounds-init
 rounds-init c =
     let a = c.args in
-    going_first a.trace.now a.most a.settings a.held.now c.requires.playable.1 c.requires.held_to
+    going_first a.run.trace.now a.most a.run.settings a.held.now c.args.run.sized c.requires.held_to
 
-pub play_round-requires-clause-rounds_value : goal.play_round-requires-clause-rounds_value
-play_round-requires-clause-rounds_value c =
+pub play_round-requires-clause-early : goal.play_round-requires-clause-early
+play_round-requires-clause-early c =
     let a = c.args in
-    let asked = c.requires.rounds_value in
     let early = c.rounds-test.true in
-    let soon : c.rounds.k < rounds_at a.trace.now = omega (arith, early, asked.0, asked.1) in
+    let soon : c.rounds.k < rounds_at a.run.trace.now = omega (arith, early, c.requires.most_rounds.0, a.run.counted) in
     let own = ap (λ (p : Plan). p.settings) c.rounds.invariant.planned in
     let same =
-    cabinets a.trace.now (λ j. (c.type_inv.trace j).fits) c.requires.playable.0 c.rounds.k soon
+    cabinets a.run.trace.now c.args.run.bytes c.args.run.playable c.rounds.k soon
     c.rounds.plan.settings own in
     let long =
-    c.rounds.invariant.long ∙ asked.2 ∙ ap (λ (d : Settings). d.n) c.requires.playable.1 ∙ sym same in
-    (asked.0, omega (arith, early, asked.1), long)
+    c.rounds.invariant.long ∙ c.requires.most_rounds.1 ∙ ap (λ (d : Settings). d.n) c.args.run.sized ∙ sym same in
+    (omega (arith, early, c.requires.most_rounds.0), long)
 
 pub play_round-requires-clause-n_le_max_cabinets : goal.play_round-requires-clause-n_le_max_cabinets
 play_round-requires-clause-n_le_max_cabinets c =
     let a = c.args in
-    let asked = c.requires.rounds_value in
     let early = c.rounds-test.true in
-    let soon : c.rounds.k < rounds_at a.trace.now = omega (arith, early, asked.0, asked.1) in
+    let soon : c.rounds.k < rounds_at a.run.trace.now = omega (arith, early, c.requires.most_rounds.0, a.run.counted) in
     let own = ap (λ (p : Plan). p.settings) c.rounds.invariant.planned in
     let small =
-    few a.trace.now (λ j. (c.type_inv.trace j).fits) c.requires.playable.0 c.rounds.k soon
+    few a.run.trace.now c.args.run.bytes c.args.run.playable c.rounds.k soon
     c.rounds.plan.settings own in
     (small, c.rounds.invariant.holds)
 
 pub returns-in-Some : goal.returns-in-Some
 returns-in-Some c =
-    stops-here c.args.trace.now c.rounds.k c.in-Some.p c.args.most c.play_round.new.held c.in-Some.ensures
+    stops-here c.args.run.trace.now c.rounds.k c.in-Some.p c.args.most c.play_round.new.held c.in-Some.ensures
     c.rounds.invariant.before
     c.rounds-test.true
     _
@@ -51,7 +49,7 @@ returns-in-Some c =
 pub rounds-preserved : goal.rounds-preserved
 rounds-preserved c =
     let a = c.args in
-    going_next a.trace.now a.most (length a.held.now) (plan_of c.rounds.plan) (plan_of c.stepped-plan.result)
+    going_next a.run.trace.now a.most (length a.held.now) (plan_of c.rounds.plan) (plan_of c.stepped-plan.result)
     c.rounds.k
     c.rounds.held
     c.play_round.new.held
@@ -64,7 +62,7 @@ rounds-preserved c =
 pub returns : goal.returns
 returns c =
     let a = c.args in
-    played-all a.trace.now c.rounds.k a.most c.rounds.held
+    played-all a.run.trace.now c.rounds.k a.most c.rounds.held
     c.rounds.invariant.before
     c.rounds.invariant.holds
     c.rounds.invariant.up_to

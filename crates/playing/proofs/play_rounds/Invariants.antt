@@ -5,4 +5,4 @@ use Rattle.playing.proofs.Rounds.{Going}
 use Rattle.playing.proofs.play_rounds.Given as goal
 
 abbrev pub invariant-rounds : goal.invariant-rounds
-invariant-rounds l = Going l.trace l.most (length l.initial.held) (plan_of l.plan) l.k l.held
+invariant-rounds l = Going l.run.trace.now l.most (length l.initial.held) (plan_of l.plan) l.k l.held

@@ -31,14 +31,14 @@ candidates-preserved c =
           rw (w.low-is, w.high-is)
           (narrow_high marks values a.h r.low r.high r.t r.invariant room
           (rw w.rank-ranks.ensures.below_value at w.if-h-ranks.true)
-          w.previous-high.result
-          w.previous-high.ensures)
+          w.saturating_sub-high.result
+          w.saturating_sub-high.ensures)
       | then-open+else-h-ranks+then-ranks-h w ↦
           rw (w.low-is, w.high-is)
           (narrow-low marks values a.h r.low r.high r.t r.invariant room
           (rw w.rank-ranks.ensures.up_to_value at w.if-ranks-h.true)
-          w.next-low.result
-          w.next-low.ensures)
+          w.saturating_add-low.result
+          w.saturating_add-low.ensures)
       | else-open w ↦
           rw (w.low-is, w.high-is)
           (narrow-skip marks values a.h r.low r.high r.t r.invariant room c.open.ensures w.if-open.false)

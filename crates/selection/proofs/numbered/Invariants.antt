@@ -1,10 +1,6 @@
--- The readings passed do not fit, nor does any number outside the range; the measure is the readings left.
-use Rattle.std.proofs.Common.{length, ◌-◌}
+-- The readings passed do not fit, nor does any number outside the range.
 use Rattle.selection.proofs.Narrowing.{Narrowed}
 use Rattle.selection.proofs.numbered.Given as goal
 
 abbrev pub invariant-candidates : goal.invariant-candidates
 invariant-candidates l = Narrowed l.marks l.values l.h l.low l.high l.t
-
-abbrev pub decreases-candidates : goal.decreases-candidates
-decreases-candidates l = length l.marks - l.t

@@ -1,5 +1,6 @@
 -- A present reading counts, is added, and may be the lowest or the highest; a missing one leaves all as it is.
-use Rattle.std.proofs.Common.{length, get_or, arith, eq-eqb, ne_eqb, rules, tests}
+use Rattle.std.proofs.Common.{◌+◌, ◌%◌, refl, length, get_or, arith, eq-eqb, ne_eqb, rules, tests}
+use Rattle.arithmetic.specs.Words.{two_to32}
 use Rattle.loop_laws.proofs.Loops.{count_small}
 use Rattle.held.specs.Held.{present_in}
 use Rattle.summaries.proofs.Gathering.{gather_none, gather_present, gather_missing, gather_all}
@@ -26,8 +27,8 @@ readings-preserved c =
           rw (w.count-is, w.total-is, w.low-is, w.high-is)
           (gather_present marks values r.count r.total r.low r.high r.t r.invariant room
           (eq-eqb mark 1 w.if-marks-t-eq-PRESENT.true)
-          w.wrapping_add_u32-total.result w.lower-low.result w.higher-high.result
-          w.wrapping_add_u32-total.ensures.value w.lower-low.ensures w.higher-high.ensures)
+          ((r.total + get_or values r.t 0) % two_to32) w.min-low.result w.max-high.result
+          refl w.min-low.ensures w.max-high.ensures)
       | else-marks-t-eq-PRESENT w ↦
           rw (w.count-is, w.total-is, w.low-is, w.high-is)
           (gather_missing marks values r.count r.total r.low r.high r.t r.invariant room

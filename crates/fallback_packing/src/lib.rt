@@ -22,6 +22,7 @@ pub struct Falling {
 }
 
 // A sheet with these settings settled the round.
+#[tactic(auto, using(crate::proofs::Sizes::few_entries))]
 fn pack_sheet(settings: Settings, settled: Settlement) -> Falling
     ensures { result
         ≡ falling_by settings settled.size (source_number (source_of settled.source)) }
@@ -36,11 +37,7 @@ fn pack_sheet(settings: Settings, settled: Settlement) -> Falling
 }
 
 // Which of the two sheets settled the round, and where its readings are.
-pub fn pack_fallen(
-    crusaders: &[u8],
-    direct: &[u8],
-    fell: Result<Settlement, Refusal>,
-) -> Falling
+pub fn pack_fallen(crusaders: &[u8], direct: &[u8], fell: Result<Settlement, Refusal>) -> Falling
     ensures { result ≡ falling_of (pair_settled_of fell) crusaders.now direct.now }
 {
     match fell {

@@ -10,6 +10,7 @@ use model::{HEADER_SIZE, Settings};
 use refusals::Refusal;
 
 // The part of a sheet that holds the readings of so many entries, as far as the sheet goes.
+#[tactic(auto, using(crate::proofs::Sizes::few_entries))]
 fn part_of(sheet: &[u8], settings: Settings) -> &[u8]
     ensures { result.now ≡ take (readings_length settings) (drop (readings_start settings) sheet.now) }
 {
@@ -20,6 +21,7 @@ fn part_of(sheet: &[u8], settings: Settings) -> &[u8]
 }
 
 // The part that holds a sheet's readings.
+#[tactic(auto, unfolding(sheet_pairs::specs::Fallback::readings_part))]
 fn readings_part(sheet: &[u8]) -> &[u8]
     ensures { result.now ≡ readings_part sheet.now }
 {
@@ -44,6 +46,7 @@ pub fn shown<'a>(
 }
 
 // Settles the round by one of the two sheets into the lent buffer, and shows the readings of that sheet.
+#[tactic(auto, using(sheet_pairs::proofs::Results::shown_is))]
 pub fn settle_shown<'a>(crusaders: &'a [u8], direct: &'a [u8], answer: &mut [u8]) -> &'a [u8]
     ensures result_value { result.now
         ≡ (fallback crusaders.now direct.now answer.old).shown }

@@ -20,7 +20,7 @@ use Rattle.round_laws.specs.Naturals.{rank_nat, kept_nat, ranked_nat, kept-total
 use Rattle.held.specs.Held.{value_at, kept_mark}
 use Rattle.ranks.specs.Ranks.{rank_at, ranks_of}
 use Rattle.dropping.specs.Dropping.{trimmed_sum}
-use Rattle.dropping.proofs.Loops.{Striking, strike_none, strike_one, Summing, summing_none, summing_one, sum_fits}
+use Rattle.dropping.proofs.Loops.{Striking, strike_none, strike_one, Summing, summing_none, summing_one}
 use Rattle.rank_trimming.specs.Trimming.{between, Ranked}
 
 -- ---- the loop, r of n passed
@@ -58,14 +58,6 @@ module _ {ranks numbers marks₀ : List ℕ} {m : ℕ} where
           sums_ends =
               summing_one k.sums_ends here (ap₂ (λ (i j : ℕ). i + j) ez.0 ev.0) (omega (arith, ez.1, ev.1));
         }
-
-    -- both sums fit
-    pub sum-small : (y : ℕ) → length marks₀ ≤ max_cabinets → y < two_to32 → sum + y < 18446744073709551616
-    sum-small y few hy = sum_fits k.sums here few (omega arith) (omega arith)
-
-    pub ends-small :
-        (z v : ℕ) → length marks₀ ≤ max_cabinets → z < two_to32 → v < two_to32 → ends + (z + v) < 18446744073709551616
-    ends-small z v few hz hv = sum_fits k.sums_ends here few (omega arith) (omega arith)
 
 -- ---- the sums, of n numbers
 

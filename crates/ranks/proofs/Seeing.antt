@@ -13,10 +13,9 @@ use lib.ListN.{length, get_or, set, replicate, length-set}
 use lib.Seq.{get_or-set_same, get_or-set_other}
 use Rattle.std.specs.Prelude.{Option, Some, IsSome}
 use Rattle.arithmetic.specs.Counting.{bit, count}
-use Rattle.arithmetic.specs.Writing.{table, overwrite}
 use Rattle.arithmetic.proofs.Bools.{both_ways, iff_eq, and_false}
 use Rattle.arithmetic.proofs.Counting.{count_ext, count-both}
-use Rattle.loop_laws.proofs.Loops.{count_next, Storing, storing_none, storing_long, storing_next, storing_all}
+use Rattle.loop_laws.proofs.Loops.{count_next, Storing, storing_none, storing_next}
 use Rattle.model.specs.Ensemble.{max_cabinets}
 use Rattle.round_laws.specs.Naturals.{rank_nat}
 use Rattle.value_laws.proofs.Order.{none_pass, count-more, rank-small}
@@ -195,9 +194,6 @@ ranking_none values ranks₀ seen few room s =
     record { few = few; has = s; stores = storing_none (rank_at values) (length values) ranks₀ room }
 
 module _ {values ranks₀ seen ranks : List ℕ} {r : ℕ} (k : Ranking values ranks₀ seen ranks r) where
-  pub ranks_long : length ranks ≡ length ranks₀
-  ranks_long = storing_long (rank_at values) (length values) ranks₀ ranks r k.stores
-
   module _ (here : r < length values) {b : ℕ} (counts : Some b ≡ below_of values (value_at values r)) where
     counted : b ≡ below_at values r
     counted = below-some values (value_at values r) k.few counts
@@ -216,6 +212,3 @@ module _ {values ranks₀ seen ranks : List ℕ} {r : ℕ} (k : Ranking values r
               storing_next (rank_at values) (length values) ranks₀ ranks r k.stores here (b + get_or seen b 0)
               found.1;
         }
-
-  pub all-ranked : length values ≤ r → ranks ≡ overwrite (table (rank_at values) (length values)) ranks₀
-  all-ranked = storing_all (rank_at values) (length values) ranks₀ ranks r k.stores

@@ -20,7 +20,7 @@ use Rattle.held.specs.Held.{value_at, kept_mark}
 use Rattle.thresholds.specs.declared.Thresholds.{Thresholds}
 use Rattle.thresholds.specs.Thresholds.{Split, SplitsBoth, misfit}
 use Rattle.dropping.specs.Dropping.{unfit_for, trimmed_sum, dropped_sum, dropped_marks}
-use Rattle.dropping.proofs.Dropped.{fits-few, some_left, sum-some, marks-some, marks-left}
+use Rattle.dropping.proofs.Dropped.{some_left, sum-some, marks-some, marks-left}
 use Rattle.threshold_trimming.specs.declared.Left.{Left}
 use Rattle.threshold_trimming.specs.Trimming.{EndOf, least_from, greatest_to, left_at, between_total}
 use Rattle.threshold_trimming.proofs.Splitting.{before-rank, least-ranked, greatest-ranked}
@@ -107,9 +107,6 @@ module _ (m : ℕ) (marks numbers : List ℕ) (t : Thresholds) (even : length ma
 
   pub dropped-fits : t.low.ties * t.low.at ≤ between + t.high.ties * t.high.at
   dropped-fits = omega (arith, all-sums)
-
-  pub kept-few : t.high.ties ≤ max_cabinets
-  kept-few = omega (arith, to.exact, fits-few m marks numbers fit)
 
   pub by_all :
       (rule : ℕ) → eqb rule trimmed_midpoint ≡ false

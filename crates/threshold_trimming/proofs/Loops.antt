@@ -91,8 +91,3 @@ module _ {x : ℕ → ℕ} {low high n : ℕ} where
           low_fits = fa;
           high_fits = fb;
         }
-
-    pub all-ends : n ≤ r → least + most ≡ least_from x low n + greatest_to x high n
-    all-ends ended =
-        let all : r ≡ n = omega arith in
-        rw (← all) (ap₂ (λ (i j : ℕ). i + j) so_far.lowest so_far.highest)

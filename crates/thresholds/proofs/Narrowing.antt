@@ -5,16 +5,15 @@
 -- Assumes nothing.
 use mathlib.Core.Bool.{Bool, true, false, not, cond, ◌&&◌}
 use mathlib.Core.List.{List}
-use mathlib.Core.Logic.{◌⊎◌, inl, inr, ⊎_elim}
+use mathlib.Core.Logic.{◌⊎◌, inr, ⊎_elim}
 use mathlib.Core.Path.{◌≡◌, refl, sym, ap, ◌∙◌}
 use Prim.Native.Nat.{ℕ, zero, suc, ◌+◌, ◌*◌, ◌-◌, ◌/◌, min, max, ◌≤◌, ◌<◌}
-use native.Mathlib.Nat.{mul-le-mul}
 use native.Mathlib.Omega.{arith}
-use borrow.Author.Count.{below_none, below_more}
-use borrow.Author.Tests.{lt-ltb, le-ltb, le-leb, ltb-true, ltb-false, leb-true, leb-false, eqb-true}
+use borrow.Author.Count.{below_more}
+use borrow.Author.Tests.{lt-ltb, le-ltb, le-leb, ltb-true, ltb-false, leb-true, leb-false}
 use lib.Dec.{ltb, leb, eqb}
 use lib.ListN.{length}
-use Rattle.arithmetic.proofs.Bools.{both_ways, clash, and_intro, and_left, or_left, or_right, iff_eq}
+use Rattle.arithmetic.proofs.Bools.{both_ways, and_left, or_left, or_right, iff_eq}
 use Rattle.arithmetic.proofs.Counting.{initial, last, count_ext, count-le, count-not}
 use Rattle.std.specs.Prelude.{Some}
 use Rattle.arithmetic.specs.Counting.{bit, count}
@@ -24,7 +23,7 @@ use Rattle.held.specs.Held.{value_at}
 use Rattle.ranks.specs.Ranks.{below_number, below_of}
 use Rattle.ranks.proofs.Seeing.{below-some}
 use Rattle.thresholds.specs.declared.Range.{Range}
-use Rattle.thresholds.specs.Thresholds.{up_to_number, Taken, Bounds, Splits, misfit, max_unit, guessed}
+use Rattle.thresholds.specs.Thresholds.{up_to_number, Taken, Bounds, misfit, guessed}
 
 -- where all fail, none is counted
 pub none-counted : (p : ℕ → Bool) (n : ℕ) → ((i : ℕ) → i < n → p i ≡ false) → count p n ≡ 0
@@ -48,16 +47,6 @@ module _ (values : List ℕ) where
     pub high_from : (high ≡ 0) ⊎ Taken values high
 
 module _ {values : List ℕ} where
-  pub bound_none : Bounding values (two_to32 - 1) 0 0
-  bound_none =
-      record {
-        up_to = omega arith;
-        least = below_none (λ (j : ℕ). two_to32 - 1 ≤ value_at values j);
-        greatest = below_none (λ (j : ℕ). value_at values j ≤ 0);
-        low_from = inl refl;
-        high_from = inl refl;
-      }
-
   module _ {low high t : ℕ} (so_far : Bounding values low high t) where
     pub bound_next :
         {x y : ℕ} → t < length values → x ≡ min low (value_at values t) → y ≡ max high (value_at values t)
@@ -84,19 +73,6 @@ module _ {values : List ℕ} where
 
         kept_high : leb high (value_at values t) ≡ false → y ≡ high
         kept_high p = omega (arith, e, leb-false high (value_at values t) p)
-
-    pub bound_all :
-        value_at values 0 < two_to32 → 0 < length values → length values ≤ t
-        → Bounds values (record { low = low; high = high })
-    bound_all small some ended =
-        record {
-          least = λ j l. so_far.least j (omega arith);
-          greatest = λ j l. so_far.greatest j (omega arith);
-          low_taken =
-              ⊎_elim (λ e. (0, some, omega (arith, so_far.least 0 (omega arith)))) (λ taken. taken) so_far.low_from;
-          high_taken =
-              ⊎_elim (λ e. (0, some, omega (arith, so_far.greatest 0 (omega arith)))) (λ taken. taken) so_far.high_from;
-        }
 
 module _ (values : List ℕ) where
   pub bounds-ordered : (r : Range) → Bounds values r → r.low ≤ r.high
@@ -144,9 +120,6 @@ module _ {values : List ℕ} {k : ℕ} {r : Range} {below within : ℕ} (so_far 
   pub within-most : within ≤ length values
   within-most = omega (arith, so_far.reached, count-le (λ t. leb (value_at values t) r.high) (length values))
 
-  pub within-least : k ≤ length values → k ≤ within
-  within-least l = omega (arith, so_far.top)
-
   module _ (few : length values ≤ max_cabinets) {mid number : ℕ} (inside : Inside r mid)
       (counts : Some number ≡ below_of values mid) where
     -- not too many are below the number
@@ -172,34 +145,7 @@ module _ {values : List ℕ} {k : ℕ} {r : Range} {below within : ℕ} (so_far 
           top = omega arith;
         }
 
-  -- the range is one number, or as many are below it as are asked for
-  pub narrowing_done :
-      (ltb r.low r.high && not (eqb below k)) ≡ false → Splits values k (record { at = r.low; ties = k - below })
-  narrowing_done ended =
-      record {
-        exact = omega (arith, so_far.counted, so_far.most);
-        tied = λ some. rw (met some) (omega (arith, so_far.top, so_far.reached));
-      }
-    where
-      closed : ltb r.low r.high ≡ true → k ≤ below
-      closed t =
-          ⊎_elim (λ e. omega (arith, eqb-true below k e))
-          (λ f. clash (and_intro t (ap not f)) ended)
-          (both_ways (eqb below k))
-
-      met : 0 < k - below → r.low ≡ r.high
-      met some =
-          ⊎_elim (λ t. absurd (omega (arith, closed t)))
-          (λ f. omega (arith, ltb-false r.low r.high f, so_far.ordered))
-          (both_ways (ltb r.low r.high))
-
 -- ---- where to look next
-
--- a step fits 32 bits
-pub step_small :
-    (unit left right : ℕ) → unit ≤ max_unit → left + right ≤ max_cabinets → unit * min left right ≤ max_unit * 32
-step_small unit left right a b =
-    let fewer : min left right ≤ 32 = omega arith in mul-le-mul a fewer
 
 -- it is above the start of the range, and no higher than its end
 pub guessed-within : (r : Range) (unit left right : ℕ) → r.low < r.high → Inside r (guessed r unit left right)

@@ -1,9 +1,7 @@
 -- Each number is below or not, so the count is at most the numbers passed.
-use Rattle.std.proofs.Common.{sym, ap, ◌∙◌, arith, ltb, length}
-use Rattle.std.specs.Prelude.{Some}
-use Rattle.loop_laws.proofs.Loops.{count_none, count-one, count_small, count-all, flag_small}
+use Rattle.std.proofs.Common.{arith, ltb, length}
+use Rattle.loop_laws.proofs.Loops.{count_none, count-one, count_small, flag_small}
 use Rattle.held.specs.Held.{value_at}
-use Rattle.ranks.proofs.Seeing.{below_of_lem}
 use Rattle.ranks.proofs.count_below.Goals as goal
 
 pub values-init : goal.values-init
@@ -26,9 +24,3 @@ pub values-preserved : goal.values-preserved
 values-preserved c =
     let a = c.args in
     count-one (λ i. ltb (value_at a.values.now i) a.value) (length a.values.now) c.values.invariant c.values-test.true
-
-pub returns : goal.returns
-returns c =
-    let a = c.args in
-    ap Some (count-all (λ i. ltb (value_at a.values.now i) a.value) (length a.values.now) c.values.invariant c.values-test.false)
-    ∙ sym (below_of_lem a.values.now a.value (omega arith))

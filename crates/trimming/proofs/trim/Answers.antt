@@ -1,6 +1,6 @@
 -- The test says whether the lists fit; then the readings are trimmed, with room for few or for all.
 use Rattle.std.proofs.Common.{length, refl, sym, ◌∙◌, arith}
-use Rattle.dropping.proofs.Dropped.{fits-few, some_left}
+use Rattle.dropping.proofs.Dropped.{fits-few}
 use Rattle.trimming.proofs.Values.{Summed, trimmed-none, marks-none, trimmed-some, marks-some}
 use Rattle.trimming.proofs.trim.Goals as goal
 use Rattle.trimming.proofs.trim.Goals.{Joined-n-le-FEW, then-n-le-FEW, else-n-le-FEW}
@@ -26,16 +26,6 @@ summed c =
           let t = w.trim_fitting-sum-else-n-le-FEW.ensures in
           rw (w.sum-is, w.marks-is) (record { mean = t.mean; bound = t.sum_bound; struck = t.marks_after })
     ]
-
-pub settle_value-value-requires : goal.settle_value-value-requires
-settle_value-value-requires c =
-    let a = c.args in
-    let fit = sym c.if-unfit.ensures in
-    let s = summed (goal.at.settle_value-value-requires c).Joined-n-le-FEW in (
-      omega (arith, some_left a.m a.marks.now a.values.now fit),
-      omega (arith, fits-few a.m a.marks.now a.values.now fit),
-      s.bound,
-    )
 
 pub returns : goal.returns
 returns c =

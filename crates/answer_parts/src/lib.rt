@@ -9,14 +9,14 @@ ghost use Rattle.arithmetic.specs.Words.{two_to31};
 ghost use Rattle.answer_parts.specs.Parts.{roomy, headed};
 
 use held::PRESENT;
-use model::{ANSWER_HEADER_SIZE, MAX_CABINETS};
+use model::{ANSWER_HEADER_SIZE, MOST};
 
 // Whether there are at most 64 marks, as many values, and room for the answer sheet.
 #[tactic(auto, unfolding(crate::specs::Parts::roomy))]
 pub fn has_room(n: usize, values: usize, room: usize) -> bool
     ensures { result ≡ roomy n values room }
 {
-    n <= MAX_CABINETS as usize && values == n && ANSWER_HEADER_SIZE + 5 * n <= room
+    n <= MOST && values == n && ANSWER_HEADER_SIZE + 5 * n <= room
 }
 
 // The count of a settled round, and its estimate and new value, both moved up by 2^31.

@@ -6,11 +6,8 @@ ghost use Rattle.arithmetic.specs.Counting.{count};
 ghost use Rattle.model.specs.Ensemble.{max_cabinets};
 ghost use Rattle.copies.specs.Copies.{holds_copy, copies_in};
 
-use model::MAX_CABINETS;
+use model::MOST;
 use words::Entries;
-
-// The most copies.
-const MOST: usize = MAX_CABINETS as usize;
 
 // Whether a copy is present and holds a value.
 pub fn holds(mark: u8, value: u32, bits: u32) -> bool

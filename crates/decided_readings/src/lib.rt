@@ -10,7 +10,7 @@ ghost use Rattle.decisions.specs.Rows.{decision_of};
 ghost use Rattle.decided_readings.specs.Rows.{row_reading, rows_taken};
 
 use held::{MISSING, PRESENT};
-use model::MAX_CABINETS;
+use model::MOST;
 
 // The mark that what a row decides is held with.
 fn decided_mark(decided: Option<u32>) -> u8
@@ -31,7 +31,7 @@ fn decided_value(decided: Option<u32>) -> u32
 fn takes(n: usize, sent: usize, copies: usize, marks: usize, values: usize) -> usize
     ensures { result ≡ rows_taken n sent copies marks values }
 {
-    if (MAX_CABINETS as usize) < n {
+    if MOST < n {
         return 0;
     }
     let pairs = n * n;

@@ -8,11 +8,8 @@ ghost use Rattle.model.specs.Ensemble.{max_cabinets};
 ghost use Rattle.copies.specs.Copies.{copies_in};
 ghost use Rattle.decisions.specs.Rows.{Elected, decision_of, row_decision};
 
-use model::MAX_CABINETS;
+use model::MOST;
 use words::Entries;
-
-// The most copies.
-const MOST: usize = MAX_CABINETS as usize;
 
 // A row of at most 64 copies, with four bytes for each, of which need are more than half.
 #[derive(Clone, Copy)]

@@ -9,7 +9,7 @@ ghost use Rattle.held_laws.specs.Stored.{Stored};
 ghost use Rattle.hearing.specs.Heard.{heard_from, audible, marks_heard, values_heard};
 
 use held::PRESENT;
-use model::MAX_CABINETS;
+use model::MOST;
 use speaking::Held;
 use words::Entries;
 
@@ -46,7 +46,7 @@ pub fn round_of<'a>(
         × (round.sent.now ≡ sent.now) × (round.readings.now ≡ readings.now)) }
 {
     let n = roles.len();
-    if (MAX_CABINETS as usize) < n {
+    if MOST < n {
         return None;
     }
     let pairs = n * n;

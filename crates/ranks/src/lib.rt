@@ -8,10 +8,7 @@ ghost use Rattle.arithmetic.specs.Writing.{table, overwrite};
 ghost use Rattle.model.specs.Ensemble.{max_cabinets};
 ghost use Rattle.ranks.specs.Ranks.{below_of, rank_at, ranks_of, Seen};
 
-use model::MAX_CABINETS;
-
-// The most numbers.
-const MOST: usize = MAX_CABINETS as usize;
+use model::MOST;
 
 // How many of at most 64 numbers are below a number; none where there are more.
 #[tactic(auto, unfolding(crate::specs::Ranks::below_of))]

@@ -7,10 +7,7 @@ ghost use Rattle.std.specs.Prelude.{◌≡◌, ◌+◌, ◌≤◌, ◌<◌, leng
 ghost use Rattle.model.specs.Ensemble.{max_cabinets};
 ghost use Rattle.thresholds.specs.Thresholds.{Bounds, Splits, misfit, Found, max_unit, guessed};
 
-use model::MAX_CABINETS;
-
-// The most numbers.
-const MOST: usize = MAX_CABINETS as usize;
+use model::MOST;
 
 // Into so many parts numbers that lie evenly are taken to part their range.
 const UNITS: u32 = 64;

@@ -193,6 +193,7 @@ pub fn accept(marks: &[u8], values: &[u32], span: u32, need: u32, accepted: &mut
         span,
         need,
     };
+    // Stays: a fixed array, lent as far as it is used, since the project has no heap (a).
     let mut known = [Known::Uncounted; 64];
     accept_each(&all, &mut known, accepted)
 }

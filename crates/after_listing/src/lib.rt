@@ -39,6 +39,7 @@ pub fn line(trace: &[u8], k: u8, text: &mut [u8]) -> usize
     if trace_rounds::is_past(words::byte_at(trace, HEADER_SIZE), k) {
         return 0;
     }
+    // Stays: a fixed array, lent as far as it is used, since the project has no heap (a).
     let mut values = [0u8; 256];
     line_in(trace, k, &mut values, text)
 }

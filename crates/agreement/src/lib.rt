@@ -44,6 +44,7 @@ pub fn agree(marks: &mut [u8], values: &[u32], span: u32, need: u32, kind: u8) -
     ensures marks_after { marks.new ≡ agreed_marks span need marks.old values.now }
     ensures count_le_max_cabinets { result.count ≤ max_cabinets }
 {
+    // Stays: a fixed array, lent as far as it is used, since the project has no heap (a).
     let mut accepted = [false; 64];
     let count = acceptance::accept(&*marks, values, span, need, &mut accepted);
     if count == 0 {

@@ -9,7 +9,7 @@ ghost use Rattle.answer_checks.specs.Checks.{answer_checks, cabinet_checks};
 use refusals::{Reason, Refusal};
 
 // Whether the bytes are an answer sheet: 1 to 64 cabinets, 10 + 5N bytes.
-#[tactic(auto, unfolding(crate::specs::Checks::answer_checks, model::specs::Refusals::first_of, model::specs::Refusals::bad_cabinets, model::specs::Refusals::bad_length))]
+#[tactic(auto, using(crate::proofs::Turns::in_turn))]
 pub fn check(answer: &[u8]) -> Result<(), Refusal>
     ensures { check_of result ≡ first_of (answer_checks answer.now) }
 {
@@ -20,7 +20,7 @@ pub fn check(answer: &[u8]) -> Result<(), Refusal>
 }
 
 // Whether they are one that has the cabinet.
-#[tactic(auto, unfolding(crate::specs::Checks::cabinet_checks, crate::specs::Checks::answer_checks, model::specs::Refusals::first_of, model::specs::Refusals::no_room))]
+#[tactic(auto, using(crate::proofs::Turns::turns))]
 pub fn check_cabinet(answer: &[u8], cabinet: u32) -> Result<(), Refusal>
     ensures { check_of result ≡ first_of (cabinet_checks answer.now cabinet) }
 {

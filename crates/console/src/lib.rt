@@ -55,6 +55,7 @@ pub fn argument<'a>(env: &impl Env, at: usize, buffer: &'a mut [u8]) -> Result<&
 pub fn is_word(env: &impl Env, at: usize, word: &str) -> bool
     ensures { IsTrue result → length word.now ≤ 4096 }
 {
+    // Stays: a fixed array, lent as far as it is used, since the project has no heap (a).
     let mut buffer = [0u8; 4096];
     argument(env, at, &mut buffer).is_ok_and(|given| given == word.as_bytes())
 }

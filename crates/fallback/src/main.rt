@@ -66,6 +66,7 @@ fn read_file(rt: HostRuntime, name: &str, sheet: &mut [u8]) -> io::Result<usize>
 fn read_sheet(rt: HostRuntime, argument: usize, sheet: &mut [u8]) -> Option<usize>
     ensures { IfSome result (λ size. size ≤ length sheet.new) }
 {
+    // Stays: a fixed array, lent as far as it is used, since the project has no heap (a).
     let mut buffer = [0u8; 4096];
     let given = console::argument(&rt, argument, &mut buffer).unwrap_or(b"");
     let Ok(name) = str::from_utf8(given) else {
@@ -83,6 +84,7 @@ fn read_sheet(rt: HostRuntime, argument: usize, sheet: &mut [u8]) -> Option<usiz
 
 // Settles the round by one of the two sheets; writes which, and the text of its answer.
 fn answer(out: &mut impl Write, crusaders: &[u8], direct: &[u8]) -> io::Result<()> {
+    // Stays: a fixed array, lent as far as it is used, since the project has no heap (a).
     let mut answer = [0u8; 330];
     let mut text = [0u8; ROUND_CAPACITY];
     let end = match falling_back::fall_back(crusaders, direct, &mut answer) {
@@ -100,6 +102,7 @@ fn answer(out: &mut impl Write, crusaders: &[u8], direct: &[u8]) -> io::Result<(
 
 // Reads both sheets and answers them.
 fn settle_files(rt: HostRuntime) -> io::Result<()> {
+    // Stays: a fixed array, lent as far as it is used, since the project has no heap (a).
     let mut crusaders = [0; MAX_INPUT];
     let mut direct = [0; MAX_INPUT];
     let Some(first) = read_sheet(rt, 1, &mut crusaders) else {

@@ -13,7 +13,8 @@ use refusals::Refusal;
 // What the call hands over: the answer sheet's length or a refusal, the sheet that settled the round (1 crusaders, 2
 // direct), and where its readings start in it and how many bytes they have.
 #[repr(C)]
-#[derive(Drop)]
+// Stays: `source` is a number (a): C's struct tohiranga_fallback has it.
+#[derive(Clone, Copy)]
 pub struct Falling {
     pub answer: u64,
     pub source: u32,

@@ -30,6 +30,7 @@ fn show_part<'a>(
 ) -> io::Result<()> {
     let named = fallback_packing::pack_fallen(crusaders, direct, settled);
     let part = shown_readings::shown(crusaders, direct, settled);
+    // Stays: a fixed array, lent as far as it is used, since the project has no heap (a).
     let mut again = [0u8; 330];
     let once_more = shown_readings::settle_shown(crusaders, direct, &mut again);
     write!(
@@ -72,6 +73,7 @@ fn show<'a>(
 
 // A vector of `fall` has the length of the buffer, the length of the crusaders sheet, and then both sheets.
 fn fall_back(out: &mut impl Write, vector: &[u8]) -> io::Result<()> {
+    // Stays: a fixed array, lent as far as it is used, since the project has no heap (a).
     let mut buffer = [165u8; 340];
     let room = (words::word_at(vector, 1) % 341) as usize;
     let size = words::word_at(vector, 5) as usize;

@@ -44,3 +44,6 @@ module _ (δ c r : ℕ) where
     pub bounds_granted : none ≡ refuse_if (ltb (greatest_by δ c r) (least_by c r)) no_interval_number
         → granted bounds ≡ interval δ c r
     bounds_granted e = by_bounds e
+
+-- what each way out says
+pub ruleset ways = (outside_refused, none_refused, bounds_granted)

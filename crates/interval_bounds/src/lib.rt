@@ -69,7 +69,7 @@ fn greatest(window: u64, precision: u64, drift: u64) -> u64
 }
 
 // The least and the greatest interval between rounds for a window, a precision and a drift in parts per million.
-#[tactic(auto, using(crate::proofs::Outcomes::outside_refused, crate::proofs::Outcomes::none_refused, crate::proofs::Outcomes::bounds_granted))]
+#[tactic(auto, using(crate::proofs::Outcomes::ways))]
 pub fn interval_for(window: u32, precision: u32, drift: u32) -> Result<Interval, Refusal>
     ensures { scheduled_of result ≡ interval window precision drift }
 {

@@ -10,7 +10,7 @@ use refusals::Refusal;
 
 // What the call hands over: 0 or a refusal, and the least and the greatest interval.
 #[repr(C)]
-#[derive(Drop)]
+#[derive(Clone, Copy)]
 pub struct Scheduling {
     pub answer: u64,
     pub least: u64,

@@ -31,6 +31,7 @@ pub fn listing(input: &[u8], text: &mut [u8]) -> usize
     if text.len() < ROUND_CAPACITY {
         return 0;
     }
+    // Stays: a fixed array, lent as far as it is used, since the project has no heap (a).
     let mut answer = [0u8; 330];
     listing_in(input, &mut answer, text)
 }

@@ -32,6 +32,7 @@ pub const ANSWER_HEADER_SIZE: usize = 10;
 pub const TRACE_HEADER_SIZE: usize = 9;
 
 // The rules.
+// Stays: numbers (a), as the bytes of document 01's sheets and C's struct Settings have them, which may hold any byte.
 pub const FCA: u8 = 0;
 
 pub const CCA: u8 = 1;
@@ -41,6 +42,7 @@ pub const TRIMMED_MIDPOINT: u8 = 2;
 pub const TRIMMED_MEAN: u8 = 3;
 
 // The estimators.
+// Stays: numbers (a), as the rules.
 pub const AVERAGE: u8 = 0;
 
 pub const MEDIAN: u8 = 1;
@@ -48,6 +50,7 @@ pub const MEDIAN: u8 = 1;
 pub const MIDPOINT: u8 = 2;
 
 // The role of a sound cabinet in a trace; any other is a faulty one's.
+// Stays: a number (a), as the bytes of document 02's trace have it.
 pub const SOUND: u8 = 1;
 
 // What a round sheet's sizes say. Nothing is presumed checked: any bytes may stand here.

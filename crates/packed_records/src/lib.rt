@@ -13,7 +13,7 @@ use refusals::Refusal;
 
 // What the reader hands over: the number of entries, and the settings.
 #[repr(C)]
-#[derive(Drop)]
+#[derive(Clone, Copy)]
 pub struct Opening {
     pub answer: u64,
     pub settings: Settings,
@@ -21,7 +21,7 @@ pub struct Opening {
 
 // What the planner and a step hand over: the rounds done, and the plan.
 #[repr(C)]
-#[derive(Drop)]
+#[derive(Clone, Copy)]
 pub struct Planning {
     pub answer: u64,
     pub plan: Plan,

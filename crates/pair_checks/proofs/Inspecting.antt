@@ -41,3 +41,6 @@ module _ (a b : List ℕ) (room : ℕ) where
           ← granted-same (first_of (sheet_checks a)) (settings_at a) x (sym gx),
           ← granted-same (first_of (sheet_checks b)) (settings_at b) y (sym gy),
         )
+
+-- what each way out says
+pub ruleset ways = (crusaders_refused, direct_refused, both_granted)

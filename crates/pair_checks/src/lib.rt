@@ -31,7 +31,7 @@ fn check_both(first: Settings, second: Settings, room: usize) -> Result<(), Refu
 }
 
 // Checks 1 to 6 of the CCA sheet and then of the FCA sheet, 19, and 7 of an answer buffer of this length.
-#[tactic(auto, using(crate::proofs::Inspecting::crusaders_refused, crate::proofs::Inspecting::direct_refused, crate::proofs::Inspecting::both_granted))]
+#[tactic(auto, using(crate::proofs::Inspecting::ways))]
 pub fn check_pair(crusaders: &[u8], direct: &[u8], room: usize) -> Result<(), Refusal>
     ensures { check_of result ≡ first_of (pair_checks crusaders.now direct.now room) }
 {

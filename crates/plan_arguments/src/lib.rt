@@ -77,6 +77,7 @@ struct Reader<'a, E, W> {
 impl<E: Env, W: Write> Reader<'_, E, W> {
     // What was given; of an argument that is longer than the buffer the first bytes.
     fn show_given(&mut self, at: usize) -> io::Result<()> {
+        // Stays: a fixed array, lent as far as it is used, since the project has no heap (a).
         let mut given = [0u8; 60];
         match self.env.arg(at, &mut given) {
             Ok(size) => self.errors.write_all(&given[..size]),
@@ -105,6 +106,7 @@ impl<E: Env, W: Write> Reader<'_, E, W> {
     ) -> Option<T>
         requires { F.IsAlwaysCallable parse }
     {
+        // Stays: a fixed array, lent as far as it is used, since the project has no heap (a).
         let mut buffer = [0u8; 4096];
         let value = console::argument(self.env, at, &mut buffer)
             .ok()

@@ -22,7 +22,7 @@ fn bad_step(accuracy: u32, rounds: u32) -> bool
 }
 
 // Checks 2 to 5, and then 11.
-#[tactic(auto, unfolding(model::specs::Refusals::planning_checks, model::specs::Refusals::planner_checks, model::specs::Refusals::first_of, model::specs::Refusals::bad_plan))]
+#[tactic(auto, using(crate::proofs::Turns::in_turn))]
 fn check_all(settings: Settings, fails: bool) -> Result<(), Refusal>
     ensures { check_of result ≡ first_of (planning_checks settings fails) }
 {
@@ -41,7 +41,8 @@ pub fn check_start(settings: Settings, accuracy: u32, rounds: u32) -> Result<(),
 // The checks of a step from a plan.
 #[tactic(auto, unfolding(model::specs::Refusals::step_checks))]
 pub fn check_step(settings: Settings, accuracy: u32, rounds: u32) -> Result<(), Refusal>
-    ensures { check_of result ≡ first_of (step_checks (record { settings = settings; accuracy = accuracy; rounds = rounds })) }
+    ensures { check_of result
+        ≡ first_of (step_checks (record { settings = settings; accuracy = accuracy; rounds = rounds })) }
 {
     check_all(settings, bad_step(accuracy, rounds))
 }

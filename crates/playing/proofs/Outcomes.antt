@@ -97,3 +97,6 @@ pub held_whole :
 held_whole s k part rest long holds r l sound =
     holds r l sound
     ∙ ap (λ (x : ℕ). present (down two_to31 x)) (sym (get_or-append part rest 0 r (rw long l)))
+
+-- what each way out says
+pub ruleset ways = (short_refused, trace_refused, run_refused)

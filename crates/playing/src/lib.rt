@@ -93,6 +93,7 @@ fn play_round(run: Recording, settings: Settings, k: u8, held: &mut [u32]) -> Op
     ensures { RoundPlayed run.entry.trace.now k (stopped_of result) held.new }
 {
     let n = settings.n as usize;
+    // Stays: a fixed array, lent as far as it is used, since the project has no heap (a).
     let mut next = [0u32; MOST];
     play_in(run, settings, k, &mut next[..n], held)
 }
@@ -129,7 +130,7 @@ fn play_from_start(run: Recording, most: u8, held: &mut [u32]) -> Result<(), Ref
 // Plays the first rounds of a trace, at most as many as it has, for a buffer of this length: its settings, or the first
 // refusal. Where it is granted, the lent list, which has room for 64 cabinets, has what sound cabinets hold after them.
 // A shorter list is refused as a short buffer is.
-#[tactic(auto, using(crate::proofs::Outcomes::short_refused, crate::proofs::Outcomes::trace_refused, crate::proofs::Outcomes::run_refused))]
+#[tactic(auto, using(crate::proofs::Outcomes::ways))]
 pub fn play(trace: &[u8], room: usize, most: u8, held: &mut [u32]) -> Result<Settings, Refusal>
     ensures result_value { verdict_of result ≡ played_given trace.now most room (length held.old) }
     ensures held_to { verdict_of result ≡ granted (settings_at trace.now)

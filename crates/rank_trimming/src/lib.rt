@@ -49,6 +49,7 @@ pub fn drop_ends(marks: &mut [u8], numbers: &[u32], m: u8, rule: u8) -> Option<u
     if dropping::unfit(n, numbers.len(), m) {
         return None;
     }
+    // Stays: a fixed array, lent as far as it is used, since the project has no heap (a).
     let mut places = [0u8; 64];
     let ranks = &mut places[..n];
     ranks::rank(numbers, &mut *ranks);

@@ -54,6 +54,7 @@ pub fn rank(values: &[u32], ranks: &mut [u8])
     if misfit(values.len(), ranks.len()) {
         return;
     }
+    // Stays: a fixed array, lent as far as it is used, since the project has no heap (a).
     let mut seen = [0u8; 64];
     rank_each(values, &mut seen, ranks);
 }

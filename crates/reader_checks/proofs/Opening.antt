@@ -93,3 +93,6 @@ module _ (s : List ℕ) (m r : ℕ) where
 
       spacious : room c ≡ none
       spacious = next-none-left (room c) (first_of (entry_checks s)) (sym (after-sizes c sizes) ∙ checks)
+
+-- what each way out says
+pub ruleset ways = (sizes_refused, room_refused, entries_refused, all_granted)

@@ -24,7 +24,7 @@ fn check_room(settings: Settings, marks: usize, readings: usize) -> Result<(), R
 }
 
 // Checks 1 to 9 of the reader, lent arrays of these lengths.
-#[tactic(auto, using(crate::proofs::Opening::sizes_refused, crate::proofs::Opening::room_refused, crate::proofs::Opening::entries_refused, crate::proofs::Opening::all_granted))]
+#[tactic(auto, using(crate::proofs::Opening::ways))]
 pub fn check(sheet: &[u8], marks: usize, readings: usize) -> Result<Settings, Refusal>
     ensures { verdict_of result
         ≡ verdict (first_of (read_checks sheet.now marks readings)) (settings_at sheet.now) }

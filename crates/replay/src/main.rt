@@ -57,6 +57,7 @@ fn write_lines(out: &mut impl Write, trace: &[u8], text: &mut [u8]) -> io::Resul
 fn replay_input(rt: HostRuntime, each_round: bool) -> Result<(), Failure> {
     let mut input = input_buffer();
     // A line of the values after a round needs fewer bytes.
+    // Stays: a fixed array, lent as far as it is used, since the project has no heap (a).
     let mut text = [0; FINAL_CAPACITY];
     let mut out = rt.stdout();
     let size = standard_input::read_input(

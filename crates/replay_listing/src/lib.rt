@@ -30,6 +30,7 @@ pub fn listing(trace: &[u8], text: &mut [u8]) -> usize
     if text.len() < FINAL_CAPACITY {
         return 0;
     }
+    // Stays: a fixed array, lent as far as it is used, since the project has no heap (a).
     let mut values = [0u8; 256];
     listing_in(trace, &mut values, text)
 }

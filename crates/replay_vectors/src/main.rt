@@ -25,6 +25,7 @@ fn answer(out: &mut impl Write, vector: &[u8]) -> io::Result<()> {
     let Some(trace) = vector.get(5..) else {
         return Ok(());
     };
+    // Stays: a fixed array, lent as far as it is used, since the project has no heap (a).
     let mut buffer = [165u8; 270];
     let room = (words::word_at(vector, 1) % 271) as usize;
     show(out, trace, &mut buffer[..room])

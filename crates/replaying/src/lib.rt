@@ -31,6 +31,7 @@ pub fn replay_to(trace: &[u8], most: u8, values: &mut [u8]) -> Result<usize, Ref
     ensures { replaying_of result values.new
         ≡ replay_to trace.now (min most (rounds_at trace.now)) values.old }
 {
+    // Stays: a fixed array, lent as far as it is used, since the project has no heap (a).
     let mut held = [0u32; MOST];
     replay_in(trace, most, &mut held, values)
 }

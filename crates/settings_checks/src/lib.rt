@@ -54,7 +54,7 @@ pub fn bad_spread(rule: u8, spread: u32) -> bool
 }
 
 // Checks 2 to 5 of a sheet's settings.
-#[tactic(auto, unfolding(model::specs::Refusals::settings_checks, model::specs::Refusals::first_of, model::specs::Refusals::bad_cabinets, model::specs::Refusals::bad_faults, model::specs::Refusals::bad_method, model::specs::Refusals::bad_window))]
+#[tactic(auto, using(crate::proofs::Turns::in_turn))]
 pub fn screen(settings: Settings) -> Result<(), Refusal>
     ensures { check_of result ≡ first_of (settings_checks settings) }
 {

@@ -21,6 +21,7 @@ const AWAITED: &str =
 
 // Reads a sheet and writes its listing.
 fn settle_input(rt: HostRuntime) -> Result<(), Failure> {
+    // Stays: a fixed array, lent as far as it is used, since the project has no heap (a).
     let mut input = [0; MAX_INPUT];
     let mut text = [0; ROUND_CAPACITY];
     let size = standard_input::read_input(

@@ -42,6 +42,7 @@ fn settle_spread(out: &mut impl Write, vector: &[u8], buffer: &mut [u8]) -> io::
 
 // The calls are `settle` and `with`.
 fn answer(out: &mut impl Write, vector: &[u8]) -> io::Result<()> {
+    // Stays: a fixed array, lent as far as it is used, since the project has no heap (a).
     let mut buffer = [165u8; 340];
     let room = (words::word_at(vector, 1) % 341) as usize;
     match words::byte_at(vector, 0) {

@@ -122,6 +122,7 @@ fn settle_valid(sheet: &[u8], settings: Settings, span: u32, answer: &mut [u8]) 
         ≡ settle_spread sheet.now (spread_of settings span) answer.old }
 {
     let n = settings.n as usize;
+    // Stays: a fixed array, lent as far as it is used, since the project has no heap (a).
     let mut marks = [0u8; 64];
     let mut values = [0u32; 64];
     settle_in(

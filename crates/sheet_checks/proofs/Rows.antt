@@ -46,3 +46,6 @@ module _ (s : List ℕ) where
 
     pub entries_granted : none ≡ entries_checked → granted c ≡ verdict (first_of (row_checks s)) (settings_at s)
     entries_granted e = rest e
+
+-- what each way out says
+pub ruleset ways = (size_refused, entries_refused, entries_granted)

@@ -11,7 +11,7 @@ use model::{HEADER_SIZE, Settings};
 use refusals::{Reason, Refusal};
 
 // Checks 1 to 5, 16 and 6, for a caller that gives a spread.
-#[tactic(auto, unfolding(model::specs::Refusals::spread_checks, model::specs::Refusals::settings_checks, model::specs::Refusals::first_of, model::specs::Refusals::too_short, model::specs::Refusals::bad_cabinets, model::specs::Refusals::bad_faults, model::specs::Refusals::bad_method, model::specs::Refusals::bad_window, model::specs::Refusals::bad_spread, model::specs::Refusals::bad_length))]
+#[tactic(auto, using(crate::proofs::Turns::in_turn))]
 pub fn inspect_spread(sheet: &[u8], spread: u32) -> Result<Settings, Refusal>
     ensures { verdict_of result
         ≡ verdict (first_of (spread_checks sheet.now spread)) (settings_at sheet.now) }
@@ -35,7 +35,7 @@ pub fn inspect(sheet: &[u8]) -> Result<Settings, Refusal>
 }
 
 // Checks 1 to 6, 8 and 9.
-#[tactic(auto, using(crate::proofs::Rows::size_refused, crate::proofs::Rows::entries_refused, crate::proofs::Rows::entries_granted))]
+#[tactic(auto, using(crate::proofs::Rows::ways))]
 pub fn validate(sheet: &[u8]) -> Result<Settings, Refusal>
     ensures { verdict_of result
         ≡ verdict (first_of (row_checks sheet.now)) (settings_at sheet.now) }

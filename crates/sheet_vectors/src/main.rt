@@ -24,6 +24,7 @@ fn read(out: &mut impl Write, vector: &[u8]) -> io::Result<()> {
     let Some(sheet) = vector.get(9..) else {
         return Ok(());
     };
+    // Stays: a fixed array, lent as far as it is used, since the project has no heap (a).
     let mut marks = [7u8; 64];
     let mut readings = [7i32; 64];
     let room = (words::word_at(vector, 1) % 65) as usize;
@@ -67,6 +68,7 @@ fn write(out: &mut impl Write, vector: &[u8]) -> io::Result<()> {
     else {
         return Ok(());
     };
+    // Stays: a fixed array, lent as far as it is used, since the project has no heap (a).
     let mut readings = [0i32; 64];
     let mut buffer = [7u8; 340];
     let places = (words::word_at(vector, 17) % 65) as usize;

@@ -110,6 +110,7 @@ pub fn settle_round(
     if !((cabinets == n) & planned & (next.len() == n)) {
         return None;
     }
+    // Stays: a fixed array, lent as far as it is used, since the project has no heap (a).
     let mut marks = [0u8; 64];
     let mut values = [0u32; 64];
     settle_each(settings, round, &mut marks[..n], &mut values[..n], next)

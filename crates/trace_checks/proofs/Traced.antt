@@ -106,3 +106,6 @@ module _ (s : List ℕ) (room : ℕ) where
 
       both : or_next (first_of (head_checks s room)) (first_of body) ≡ none
       both = sym trace_checks_lem ∙ none-refuses
+
+-- what each way out says
+pub ruleset ways = (head_refused, entries_refused, entries_granted)

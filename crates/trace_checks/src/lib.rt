@@ -27,7 +27,7 @@ fn check_entries(trace: &[u8], n: u8, rounds: u8) -> Result<(), Refusal>
 }
 
 // A trace's settings, or the first refusal of checks 1 to 5, 13, 7, 8, 9 and 14, for a buffer of this length.
-#[tactic(auto, using(crate::proofs::Traced::head_refused, crate::proofs::Traced::entries_refused, crate::proofs::Traced::entries_granted))]
+#[tactic(auto, using(crate::proofs::Traced::ways))]
 pub fn screen(trace: &[u8], room: usize) -> Result<Settings, Refusal>
     ensures { verdict_of result
         ≡ verdict (first_of (trace_checks trace.now room)) (settings_at trace.now) }

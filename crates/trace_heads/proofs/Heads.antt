@@ -9,9 +9,10 @@ use borrow.Author.Tests.{ltb-false, eqb-true, not-false}
 use lib.Dec.{ltb, eqb}
 use lib.ListN.{length}
 use Rattle.arithmetic.proofs.Bools.{or_left, or_right}
-use Rattle.model.specs.RoundSheet.{fca, settings_at}
+use Rattle.model.specs.RoundSheet.{fca, header_size, settings_at}
 use Rattle.model.specs.Planner.{max_rounds}
 use Rattle.model.specs.Refusals.{Check, or_next, first_of, too_short, settings_checks, no_room, bad_trace_number, no_room_number}
+use Rattle.model.specs.Refusals.{refuse_if, too_short_number}
 use Rattle.refusal_laws.proofs.Checks.{first_append, next-none, next-none-left, next-none-right, when_none}
 use Rattle.refusal_laws.proofs.Limits.{Limits, limits}
 use Rattle.trace.specs.Trace.{rounds_at, trace_length}
@@ -79,3 +80,18 @@ module _ (s : List ℕ) (room : ℕ) where
 
       shape : (other || late) ≡ false
       shape = when_none (other || late) bad_trace_number (next-none-left (bad_trace s) roomed rest)
+
+-- 1 to 5, 13 and 7, one after the other
+pub in_turn :
+    (s : List ℕ) (room : ℕ)
+    → first_of (head_checks s room)
+    ≡ or_next (refuse_if (ltb (length s) header_size) too_short_number)
+    (or_next (first_of (settings_checks (settings_at s)))
+    (or_next
+    (refuse_if
+    (not (eqb (settings_at s).rule fca)
+    || (ltb max_rounds (rounds_at s) || not (eqb (length s) (trace_length (settings_at s).n (rounds_at s)))))
+    bad_trace_number)
+    (refuse_if (ltb room (4 * (settings_at s).n)) no_room_number)))
+unfolding too_short bad_trace no_room
+in_turn s room = head-checks s room

@@ -24,7 +24,7 @@ fn bad_trace(settings: Settings, rounds: u8, length: usize) -> bool
 }
 
 // Checks 1 to 5, 13 and 7, for a buffer of this length. A trace without a byte of rounds reads 0 there.
-#[tactic(auto, unfolding(crate::specs::Heads::head_checks, trace::specs::Replay::bad_trace, model::specs::Refusals::settings_checks, model::specs::Refusals::first_of, model::specs::Refusals::too_short, model::specs::Refusals::bad_cabinets, model::specs::Refusals::bad_faults, model::specs::Refusals::bad_method, model::specs::Refusals::bad_window, model::specs::Refusals::no_room))]
+#[tactic(auto, using(crate::proofs::Heads::in_turn))]
 pub fn inspect(trace: &[u8], room: usize) -> Result<Settings, Refusal>
     ensures { verdict_of result
         ≡ verdict (first_of (head_checks trace.now room)) (settings_at trace.now) }

@@ -93,6 +93,7 @@ fn trim_fitting<const N: usize>(marks: &mut [u8], values: &[u32], m: u8, rule: u
         ≡ table (mark_at m marks.old values.now) (length marks.old) }
 {
     let n = marks.len();
+    // Stays: a fixed array, lent as far as it is used, since the project has no heap (a).
     let mut places = [0u32; N];
     let numbers = &mut places[..n];
     fill(&*marks, values, &mut *numbers);

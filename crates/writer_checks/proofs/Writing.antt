@@ -1,6 +1,7 @@
 -- The writer's checks in their order, by the lengths and by what is found in the entries; and what it means that those
 -- of the lengths pass.
 -- Assumes nothing.
+use Rattle.std.proofs.Common.{not, eqb, ltb}
 use mathlib.Core.List.{List, [], ◌∷◌, ◌++◌, append_assoc}
 use mathlib.Core.Option.{none, some}
 use mathlib.Core.Path.{◌≡◌, refl, sym, ap, ap₂, ◌∙◌}
@@ -9,6 +10,7 @@ use native.Mathlib.Omega.{arith}
 use lib.IntN.{ℤ}
 use lib.ListN.{length}
 use Rattle.model.specs.declared.Settings.{Settings}
+use Rattle.model.specs.Refusals.{refuse_if, bad_length_number, no_room_number}
 use Rattle.model.specs.Refusals.{Refusal}
 use Rattle.model.specs.RoundSheet.{header_size, byte, bits_in, entry_count, sheet_length}
 use Rattle.model.specs.Refusals.{Check, or_next, first_of, settings_checks, array_checks, write_checks}
@@ -134,3 +136,14 @@ module _ (c : Settings) (marks : List ℕ) (readings : List ℤ) (room : ℕ) wh
       let also = w.readings_long in
       let enough = w.enough in
       omega arith
+
+-- checks 2 to 7, one after the other
+pub lengths_in_turn :
+    (c : Settings) (m r room : ℕ)
+    → first_of (length_checks c m r room)
+    ≡ or_next (first_of (settings_checks c))
+    (or_next (refuse_if (not (eqb m (entry_count c))) bad_length_number)
+    (or_next (refuse_if (not (eqb r (entry_count c))) bad_length_number)
+    (refuse_if (ltb room (sheet_length c)) no_room_number)))
+unfolding bad_length no_room
+lengths_in_turn c m r room = length-checks c m r room

@@ -35,8 +35,13 @@ fn check_missing(marks: &[u8], readings: &[i32]) -> Result<(), Refusal>
 }
 
 // Checks 2 to 7, of arrays and a buffer of these lengths.
-#[tactic(auto, unfolding(crate::specs::Lengths::length_checks, model::specs::Refusals::settings_checks, model::specs::Refusals::first_of, model::specs::Refusals::bad_length, model::specs::Refusals::no_room))]
-fn check_lengths(settings: Settings, marks: usize, readings: usize, room: usize) -> Result<(), Refusal>
+#[tactic(auto, using(crate::proofs::Writing::lengths_in_turn))]
+fn check_lengths(
+    settings: Settings,
+    marks: usize,
+    readings: usize,
+    room: usize,
+) -> Result<(), Refusal>
     ensures { check_of result ≡ first_of (length_checks settings marks readings room) }
 {
     let entries = sheet_sizes::entry_count(settings);

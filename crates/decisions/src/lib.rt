@@ -36,7 +36,8 @@ impl Row<'_> {
     // What the count of the copies of the value of copy t tells: the decision, or nothing.
     fn try_copy(&self, t: usize) -> Option<Option<u32>>
         requires { t < length self.now.copies.marks.now }
-        ensures { IfSome result (λ d. decision_of d ≡ row_decision self.now.need self.now.copies.marks.now self.now.copies.bytes.now) }
+        ensures { IfSome result
+            (λ d. decision_of d ≡ row_decision self.now.need self.now.copies.marks.now self.now.copies.bytes.now) }
     {
         let value = self.copies.bits(t);
         let copies = self.count(value);
@@ -51,7 +52,8 @@ impl Row<'_> {
 
     // Tries the first copies until one tells.
     fn try_copies(&self) -> Option<Option<u32>>
-        ensures { IfSome result (λ d. decision_of d ≡ row_decision self.now.need self.now.copies.marks.now self.now.copies.bytes.now) }
+        ensures { IfSome result
+            (λ d. decision_of d ≡ row_decision self.now.need self.now.copies.marks.now self.now.copies.bytes.now) }
     {
         (0..self.copies.marks.len().min(TRIES)).find_map(|t| self.try_copy(t))
     }

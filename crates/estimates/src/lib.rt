@@ -12,7 +12,7 @@ use summaries::Summary;
 
 // The count of the present readings, their estimate and the new value; all 0 where none is present, two lie farther
 // apart than twice the widest span, there are more than 64, or there are not as many numbers as marks.
-// Stays: a count of 0 in place of an Option (a): the accepted count of a round is 0 too where none is (`agreed_of`, byte 1 of the answer sheet).
+// Stays: a count of 0 in place of an Option (a): so has a round where none is accepted (`agreed_of`, and the sheet's byte 1).
 #[derive(Clone, Copy)]
 pub struct Estimated {
     pub estimate: u32,

@@ -65,8 +65,12 @@ pub fn round_of<'a>(
 // What receiver p hears of sender r.
 fn hear_one(round: Recorded, r: usize, p: usize) -> Held
     requires { (r < length round.roles.now) × (p < length round.roles.now) }
-    ensures mark { result.mark ≡ held_mark (heard_from round.entry.roles.now round.entry.held.now round.entry.sent.now round.entry.readings.now p r) }
-    ensures value { result.value ≡ held_value (heard_from round.entry.roles.now round.entry.held.now round.entry.sent.now round.entry.readings.now p r) }
+    ensures mark { result.mark
+        ≡ held_mark
+        (heard_from round.entry.roles.now round.entry.held.now round.entry.sent.now round.entry.readings.now p r) }
+    ensures value { result.value
+        ≡ held_value
+        (heard_from round.entry.roles.now round.entry.held.now round.entry.sent.now round.entry.readings.now p r) }
 {
     if speaking::is_sound(round.roles[r]) {
         return Held {
@@ -87,7 +91,9 @@ fn hear_each(round: Recorded, p: usize, marks: &mut [u8], values: &mut [u32])
     requires p_in_bounds { p < length round.roles.now }
     requires roles_in_bounds { (length round.roles.now ≤ length marks.old)
         × (length round.roles.now ≤ length values.old) }
-    ensures { Stored (heard_from round.entry.roles.now round.entry.held.now round.entry.sent.now round.entry.readings.now p) (length round.entry.roles.now) marks.old values.old marks.new values.new }
+    ensures { Stored
+        (heard_from round.entry.roles.now round.entry.held.now round.entry.sent.now round.entry.readings.now p)
+        (length round.entry.roles.now) marks.old values.old marks.new values.new }
 {
     'senders: for r in 0..round.roles.len() {
         let said = hear_one(round, r, p);

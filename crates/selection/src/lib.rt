@@ -42,7 +42,7 @@ fn open(mark: u8, low: u32, v: u32, high: u32) -> bool
 
 // The present reading numbered h from below, counting from 1, or the reading 0 where there is none. A number that is
 // too low or too high rules out all beyond it.
-// Stays: the reading 0 in place of no reading (d): so have the definitions (`numbered_nat`), and the one caller asks for one that is there.
+// Stays: the reading 0 in place of none (d): so have the definitions (`numbered_nat`), and its caller asks for one there is.
 pub fn numbered(marks: &[u8], values: &[u32], h: u32) -> u32
     ensures { result ≡ numbered_of marks.now values.now h }
 {

@@ -103,7 +103,7 @@ sabotage "required: all edits of a crate deleted" "rm -r crates/settling/must-fa
 sabotage "required: one edit deleted" "rm \$(ls crates/settling/must-fail/*.edit | head -n 1)" "$required" "edits settling"
 sabotage "required: a program deleted with its line" "rm -r crates/planner_vectors && sed -i '/^planner_vectors:/d' crates.txt" "$required" "gone: program planner_vectors"
 sabotage "required: a case deleted with its files" "rm examples/case-07.*" "$required" "gone: case case-07"
-sabotage "promises: an edit of a public promise deleted" "rm crates/hearing/must-fail/all_hear_as_cabinet_0.edit" tests/check_promises "hearing::fits has 1 of 2"
+sabotage "promises: an edit of a public promise deleted" "rm crates/hearing/must-fail/all_hear_as_cabinet_0.edit" tests/check_promises "hearing::hear has 1 of 2"
 sabotage "required: vectors deleted" "sed -i '10,20d' crates/sheet_vectors/stdout" "$required" "lines sheet_vectors"
 sabotage "required: tests of outside/ deleted" "rm outside/hostile/tests/limits.rs" "$required" "outside-tests"
 sabotage "required: the list deleted" "rm tests/REQUIRED" "$required" "REQUIRED is gone"

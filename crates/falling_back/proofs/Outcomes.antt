@@ -1,7 +1,7 @@
 -- What falling back gives, by what its calls gave, on plain values: the checks of the pair refuse; the crusaders sheet
 -- settles; or it is refused, and what trying the direct sheet gave stands.
 -- Assumes nothing.
-use Rattle.std.proofs.Common.{Bool, true, false, not, cond, List, ◌≡◌, refl, sym, ap, ◌∙◌, ℕ, length, Result, Ok, Err}
+use Rattle.std.proofs.Common.{Bool, true, false, not, cond, List, ◌≡◌, refl, sym, ap, ◌∙◌, ℕ, length, Ok, Err}
 use Rattle.std.proofs.Math.Option.{none, some}
 use Rattle.std.proofs.lemmas.Bool.{eqb-true, eqb-false, not-true, not-false}
 use lib.Dec.{eqb}
@@ -13,7 +13,7 @@ use Rattle.refusals.specs.declared.Refusal as code
 use Rattle.refusals.specs.declared.Reason.{Reason}
 use Rattle.refusals.specs.declared.Reason.TheVariants.{TooShort, BadCabinets, BadFaults, BadMethod, BadWindow, BadLength, NoRoom, BadMark, BadMissing, TooManyFaults, BadPlan, TargetMissed, BadTrace, BadRoles, RunStopped, BadSpread, BadInterval, NoInterval, BadPair}
 use Rattle.refusals.specs.contracts.Reason.{the_type}
-use Rattle.refusals.specs.Answers.{number_of, refusal_of, verdict_of, outcome_of}
+use Rattle.refusals.specs.Answers.{number_of, refusal_of, outcome_of}
 use Rattle.sheet_pairs.specs.Fallback.{crusaders, pair_checks, Settlement, fallback}
 use Rattle.sheet_pairs.specs.Results.{Kept}
 use Rattle.sheet_pairs.proofs.Results.{fallback-results, refused-buffer}
@@ -47,23 +47,29 @@ number-ten NoInterval = refl
 number-ten BadPair = refl
 
 module _ (r : code.Refusal) (b answer : List ℕ) where
-  abbrev Tried : Verdict Settlement → List ℕ → Type 0
-  Tried v buffer = (v ≡ tried_verdict (refusal_of r) b answer) × (buffer ≡ tried_buffer (refusal_of r) b answer)
+  module _ (other : true ≡ not (too_many r.reason)) where
+    abbrev is_other : eqb (number_of r.reason) too_many_faults_number ≡ false
+    is_other = number-ten r.reason ∙ not-true (too_many r.reason) (sym other)
 
-  pub other-stands : not (too_many r.reason) ≡ true → Tried (refused (refusal_of r)) answer
-  unfolding tried_verdict tried_buffer
-  other-stands other =
-      let e = number-ten r.reason ∙ not-true (too_many r.reason) other in
-      (rw e, rw e)
+    pub other_verdict : refused (refusal_of r) ≡ tried_verdict (refusal_of r) b answer
+    unfolding tried_verdict
+    other_verdict = rw is_other
 
-  -- what settling the direct sheet gave, and the buffer as it left it
-  pub direct-tried :
-      not (too_many r.reason) ≡ false → (said : Result ℕ code.Refusal) (left : List ℕ) → outcome_of said left ≡ settle b answer
-      → Tried (settled_direct (verdict_of said)) left
-  unfolding tried_verdict tried_buffer
-  direct-tried ten said left e =
-      let is_ten = number-ten r.reason ∙ not-false (too_many r.reason) ten in
-      (rw (is_ten, ← e), rw (is_ten, ← e))
+    pub other_buffer : answer ≡ tried_buffer (refusal_of r) b answer
+    unfolding tried_buffer
+    other_buffer = rw is_other
+
+  module _ (ten : false ≡ not (too_many r.reason)) where
+    abbrev is_ten : eqb (number_of r.reason) too_many_faults_number ≡ true
+    is_ten = number-ten r.reason ∙ not-false (too_many r.reason) (sym ten)
+
+    pub ten_verdict : tried_verdict (refusal_of r) b answer ≡ settled_direct (settle b answer).verdict
+    unfolding tried_verdict
+    ten_verdict = rw is_ten
+
+    pub ten_buffer : tried_buffer (refusal_of r) b answer ≡ (settle b answer).buffer
+    unfolding tried_buffer
+    ten_buffer = rw is_ten
 
 -- ---- falling back
 
@@ -100,20 +106,20 @@ module _ (a b answer : List ℕ) where
       unfolding tried_verdict tried_buffer
       after = go (eqb r.number too_many_faults_number) refl
         where
-          direct :
+          after_ten :
               r.number ≡ too_many_faults_number → (v : Verdict ℕ) → (settle b answer).verdict ≡ v
               → Fell (settled_direct v) (settle b answer).buffer
-          direct ten (granted size) q =
+          after_ten ten (granted size) q =
               let h = (fallback-results a b answer).falls-back (sym pass) r refuses ten size q in
               (sym h.verdict, sym h.buffer)
-          direct ten (refused x) q =
+          after_ten ten (refused x) q =
               let h = (fallback-results a b answer).refuses (sym pass) r refuses ten x q in
               (sym h.verdict, refused-buffer b answer x q ∙ sym h.buffer)
 
           go :
               (i : Bool) → eqb r.number too_many_faults_number ≡ i
               → Fell (cond i (settled_direct (settle b answer).verdict) (refused r)) (cond i (settle b answer).buffer answer)
-          go true q = direct (eqb-true r.number too_many_faults_number q) (settle b answer).verdict refl
+          go true q = after_ten (eqb-true r.number too_many_faults_number q) (settle b answer).verdict refl
           go false q =
               kept r ((fallback-results a b answer).stands (sym pass) r refuses (eqb-false r.number too_many_faults_number q))
 

@@ -116,7 +116,12 @@ fn settle_in(
 }
 
 // The same, with places of its own.
-fn settle_valid(sheet: &[u8], settings: Settings, span: u32, answer: &mut [u8]) -> Result<(), Refusal>
+fn settle_valid(
+    sheet: &[u8],
+    settings: Settings,
+    span: u32,
+    answer: &mut [u8],
+) -> Result<(), Refusal>
     requires { Ready sheet.now settings (spread_of settings span) answer.old × (settings.window ≤ span) }
     ensures { settling_by result (answer_length settings.n) answer.new
         ≡ settle_spread sheet.now (spread_of settings span) answer.old }

@@ -24,7 +24,12 @@ fn put_entries(marks: &[u8], readings: &[i32], buffer: &mut [u8])
 // The writer: fills the buffer with the sheet that the settings, marks and readings make, and gives back the sheet's
 // length, or the first refusal of checks 2 to 9, which fills nothing.
 #[tactic(auto, using(crate::proofs::Filling::writer_refuses))]
-pub fn write(settings: Settings, marks: &[u8], readings: &[i32], buffer: &mut [u8]) -> Result<usize, Refusal>
+pub fn write(
+    settings: Settings,
+    marks: &[u8],
+    readings: &[i32],
+    buffer: &mut [u8],
+) -> Result<usize, Refusal>
     ensures { outcome_of result buffer.new
         ≡ write settings marks.now readings.now buffer.old }
 {

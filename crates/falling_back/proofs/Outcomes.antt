@@ -71,6 +71,9 @@ module _ (r : code.Refusal) (b answer : List ℕ) where
     unfolding tried_buffer
     ten_buffer = rw is_ten
 
+-- what each way out says
+pub ruleset trying = (other_verdict, other_buffer, ten_verdict, ten_buffer)
+
 -- ---- falling back
 
 module _ (a b answer : List ℕ) where

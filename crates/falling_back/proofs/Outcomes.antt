@@ -71,8 +71,8 @@ module _ (r : code.Refusal) (b answer : List ℕ) where
     unfolding tried_buffer
     ten_buffer = rw is_ten
 
--- what each way out says
-pub ruleset trying = (other_verdict, other_buffer, ten_verdict, ten_buffer)
+-- what each way out of trying the direct sheet says
+pub ruleset tried_ways = (other_verdict, other_buffer, ten_verdict, ten_buffer)
 
 -- ---- falling back
 

@@ -25,7 +25,7 @@ pub struct Settlement {
 }
 
 // After a refusal of the crusaders sheet: under 10 the direct sheet is settled, any other stands.
-#[tactic(auto, using(crate::proofs::Outcomes::trying))]
+#[tactic(auto, using(crate::proofs::Outcomes::tried_ways))]
 fn try_direct(refusal: Refusal, direct: &[u8], answer: &mut [u8]) -> Result<Settlement, Refusal>
     ensures result_value { pair_settled_of result ≡ tried_verdict (refusal_of refusal) direct.now answer.old }
     ensures answer_after { answer.new ≡ tried_buffer (refusal_of refusal) direct.now answer.old }

@@ -26,7 +26,7 @@ use Rattle.trace.specs.Replay.{replay}
 use Rattle.trace_heads.specs.Heads.{head_checks}
 use Rattle.trace_heads.proofs.Heads.{Headed, headed}
 use Rattle.trace_checks.specs.Bodies.{roles_of, body_of}
-use Rattle.trace_checks.proofs.Traced.{shaped, trace_checks_lem}
+use Rattle.trace_checks.proofs.Traced.{entries_shaped, trace_checks_lem}
 use Rattle.call_laws.specs.Statements.{ReplayBelow}
 use Rattle.refusal_laws.proofs.Tables.{InTable, Sound, none-sound, next-sound, says-sound, plain_sound, array_sound}
 use Rattle.call_laws.proofs.Sound.{size-tells}
@@ -58,7 +58,8 @@ module _ (s : List ℕ) (room : ℕ) where
   body-sound : first_of (head_checks s room) ≡ none → Sound 15 (first_of (body_of s (settings_at s).n (rounds_at s)))
   unfolding body_of
   body-sound passes =
-      let few = (shaped s room passes (settings_at s) (rounds_at s) refl refl).few in
+      let opened = ap (λ (x : Check). verdict x (settings_at s)) (sym passes) in
+      let few = (entries_shaped s room (settings_at s) opened (rounds_at s) refl).few in
       let entries =
       array_checks (traced_mark s (settings_at s).n) (traced_bits s (settings_at s).n (rounds_at s))
       (trace_entries (settings_at s).n (rounds_at s)) in

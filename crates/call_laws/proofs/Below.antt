@@ -16,7 +16,8 @@ use Rattle.model.specs.Ensemble.{max_cabinets}
 use Rattle.model.specs.RoundSheet.{fca, settings_at}
 use Rattle.model.specs.Planner.{max_rounds}
 use Rattle.model.specs.Refusals.{refusal, first_of, bad_trace_number, bad_roles_number, run_stopped_number}
-use Rattle.model.specs.Refusals.{array_checks}
+use Rattle.model.specs.Refusals.{Check, array_checks}
+use Rattle.model.specs.Calls.{verdict}
 use Rattle.refusal_laws.proofs.Checks.{first_snoc, next-none-left}
 use Rattle.refusal_laws.proofs.Numbers.{Says, says_if, plain_append, check_more, plain_one, each, short-says, room_says}
 use Rattle.refusal_laws.proofs.Numbers.{plain_settings}

@@ -8,7 +8,7 @@ use falling_back::Settlement;
 use refusals::Refusal;
 use std::io;
 use std::io::Write;
-use vectors::{Answer, Spaced};
+use vectors::{Answer, Answers, Spaced};
 
 // Whether the bytes of a sheet from a place on, so many of them, are these.
 fn is_part(sheet: &[u8], start: u32, length: u32, part: &[u8]) -> bool {
@@ -87,10 +87,14 @@ fn fall_back(out: &mut impl Write, vector: &[u8]) -> io::Result<()> {
     show(out, crusaders, direct, settled, &buffer[..room])
 }
 
-fn answer(out: &mut impl Write, vector: &[u8]) -> io::Result<()> {
-    match words::byte_at(vector, 0) {
-        b'f' => fall_back(out, vector),
-        _ => Ok(()),
+struct Program;
+
+impl Answers for Program {
+    fn answer<W: Write>(&self, out: &mut W, vector: &[u8]) -> io::Result<()> {
+        match words::byte_at(vector, 0) {
+            b'f' => fall_back(out, vector),
+            _ => Ok(()),
+        }
     }
 }
 
@@ -99,6 +103,6 @@ fn main(rt: HostRuntime) {
         &mut rt.stdin(),
         &mut rt.stdout(),
         &mut [0; 65_536],
-        |out, vector| answer(out, vector),
+        &Program,
     );
 }

@@ -8,6 +8,7 @@ use planner::Plan;
 use refusals::Refusal;
 use std::io;
 use std::io::Write;
+use vectors::Answers;
 
 fn show(out: &mut impl Write, answer: Result<Plan, Refusal>) -> io::Result<()> {
     match answer {
@@ -49,31 +50,30 @@ fn show_interval(out: &mut impl Write, vector: &[u8]) -> io::Result<()> {
     }
 }
 
-// The calls are `plan`, `step`, `target` and `interval`.
-fn answer(out: &mut impl Write, vector: &[u8]) -> io::Result<()> {
-    let settings = vectors::settings(vector);
-    let accuracy = words::word_at(vector, 9);
-    let last = words::word_at(vector, 13);
-    let plan = Plan {
-        settings,
-        accuracy,
-        rounds: last,
-    };
-    match words::byte_at(vector, 0) {
-        b'i' => show_interval(out, vector)?,
-        b'p' => show(out, planner::plan_for(settings, accuracy, last))?,
-        b's' => show(out, plan.step())?,
-        b't' => show_target(out, settings, accuracy, last)?,
-        _ => return Ok(()),
+struct Program;
+
+impl Answers for Program {
+    // The calls are `plan`, `step`, `target` and `interval`.
+    fn answer<W: Write>(&self, out: &mut W, vector: &[u8]) -> io::Result<()> {
+        let settings = vectors::settings(vector);
+        let accuracy = words::word_at(vector, 9);
+        let last = words::word_at(vector, 13);
+        let plan = Plan {
+            settings,
+            accuracy,
+            rounds: last,
+        };
+        match words::byte_at(vector, 0) {
+            b'i' => show_interval(out, vector)?,
+            b'p' => show(out, planner::plan_for(settings, accuracy, last))?,
+            b's' => show(out, plan.step())?,
+            b't' => show_target(out, settings, accuracy, last)?,
+            _ => return Ok(()),
+        }
+        writeln!(out)
     }
-    writeln!(out)
 }
 
 fn main(rt: HostRuntime) {
-    let _ = vectors::answer_lines(
-        &mut rt.stdin(),
-        &mut rt.stdout(),
-        &mut [0; 4096],
-        |out, vector| answer(out, vector),
-    );
+    let _ = vectors::answer_lines(&mut rt.stdin(), &mut rt.stdout(), &mut [0; 4096], &Program);
 }

@@ -4,7 +4,7 @@
 
 use std::io;
 use std::io::Write;
-use vectors::{Spaced, Ticks};
+use vectors::{Answers, Spaced, Ticks};
 
 fn show(out: &mut impl Write, trace: &[u8], buffer: &mut [u8]) -> io::Result<()> {
     match replaying::replay(trace, &mut *buffer) {
@@ -20,15 +20,19 @@ fn show(out: &mut impl Write, trace: &[u8], buffer: &mut [u8]) -> io::Result<()>
     }
 }
 
-// A vector has the length of the buffer, and then the trace.
-fn answer(out: &mut impl Write, vector: &[u8]) -> io::Result<()> {
-    let Some(trace) = vector.get(5..) else {
-        return Ok(());
-    };
-    // Stays: a fixed array, lent as far as it is used, since the project has no heap (a).
-    let mut buffer = [165u8; 270];
-    let room = (words::word_at(vector, 1) % 271) as usize;
-    show(out, trace, &mut buffer[..room])
+struct Program;
+
+impl Answers for Program {
+    // A vector has the length of the buffer, and then the trace.
+    fn answer<W: Write>(&self, out: &mut W, vector: &[u8]) -> io::Result<()> {
+        let Some(trace) = vector.get(5..) else {
+            return Ok(());
+        };
+        // Stays: a fixed array, lent as far as it is used, since the project has no heap (a).
+        let mut buffer = [165u8; 270];
+        let room = (words::word_at(vector, 1) % 271) as usize;
+        show(out, trace, &mut buffer[..room])
+    }
 }
 
 fn main(rt: HostRuntime) {
@@ -36,6 +40,6 @@ fn main(rt: HostRuntime) {
         &mut rt.stdin(),
         &mut rt.stdout(),
         &mut [0; 65_536],
-        |out, vector| answer(out, vector),
+        &Program,
     );
 }

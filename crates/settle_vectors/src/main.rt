@@ -6,7 +6,7 @@
 use refusals::Refusal;
 use std::io;
 use std::io::Write;
-use vectors::{Answer, Spaced};
+use vectors::{Answer, Answers, Spaced};
 
 fn show(out: &mut impl Write, settled: Result<usize, Refusal>, buffer: &[u8]) -> io::Result<()> {
     match settled {
@@ -40,15 +40,19 @@ fn settle_spread(out: &mut impl Write, vector: &[u8], buffer: &mut [u8]) -> io::
     show(out, settled, buffer)
 }
 
-// The calls are `settle` and `with`.
-fn answer(out: &mut impl Write, vector: &[u8]) -> io::Result<()> {
-    // Stays: a fixed array, lent as far as it is used, since the project has no heap (a).
-    let mut buffer = [165u8; 340];
-    let room = (words::word_at(vector, 1) % 341) as usize;
-    match words::byte_at(vector, 0) {
-        b's' => settle(out, vector, &mut buffer[..room]),
-        b'w' => settle_spread(out, vector, &mut buffer[..room]),
-        _ => Ok(()),
+struct Program;
+
+impl Answers for Program {
+    // The calls are `settle` and `with`.
+    fn answer<W: Write>(&self, out: &mut W, vector: &[u8]) -> io::Result<()> {
+        // Stays: a fixed array, lent as far as it is used, since the project has no heap (a).
+        let mut buffer = [165u8; 340];
+        let room = (words::word_at(vector, 1) % 341) as usize;
+        match words::byte_at(vector, 0) {
+            b's' => settle(out, vector, &mut buffer[..room]),
+            b'w' => settle_spread(out, vector, &mut buffer[..room]),
+            _ => Ok(()),
+        }
     }
 }
 
@@ -57,6 +61,6 @@ fn main(rt: HostRuntime) {
         &mut rt.stdin(),
         &mut rt.stdout(),
         &mut [0; 65_536],
-        |out, vector| answer(out, vector),
+        &Program,
     );
 }

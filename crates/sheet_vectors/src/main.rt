@@ -7,7 +7,7 @@ use refusals::Refusal;
 use std::io;
 use std::io::Write;
 use tick::Tick;
-use vectors::Spaced;
+use vectors::{Answers, Spaced};
 
 fn show_opened(out: &mut impl Write, opened: Result<Settings, Refusal>) -> io::Result<()> {
     match opened {
@@ -84,21 +84,20 @@ fn write(out: &mut impl Write, vector: &[u8]) -> io::Result<()> {
     writeln!(out, "; bytes{}", Spaced(&buffer[..room]))
 }
 
-// The calls are `read`, `show` and `write`.
-fn answer(out: &mut impl Write, vector: &[u8]) -> io::Result<()> {
-    match words::byte_at(vector, 0) {
-        b'r' => read(out, vector),
-        b's' => show_row(out, vector),
-        b'w' => write(out, vector),
-        _ => Ok(()),
+struct Program;
+
+impl Answers for Program {
+    // The calls are `read`, `show` and `write`.
+    fn answer<W: Write>(&self, out: &mut W, vector: &[u8]) -> io::Result<()> {
+        match words::byte_at(vector, 0) {
+            b'r' => read(out, vector),
+            b's' => show_row(out, vector),
+            b'w' => write(out, vector),
+            _ => Ok(()),
+        }
     }
 }
 
 fn main(rt: HostRuntime) {
-    let _ = vectors::answer_lines(
-        &mut rt.stdin(),
-        &mut rt.stdout(),
-        &mut [0; 4096],
-        |out, vector| answer(out, vector),
-    );
+    let _ = vectors::answer_lines(&mut rt.stdin(), &mut rt.stdout(), &mut [0; 4096], &Program);
 }

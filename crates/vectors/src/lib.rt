@@ -171,18 +171,21 @@ pub fn next(input: &mut impl Read, out: &mut impl Write, vector: &mut [u8]) -> i
     Ok(word.take(vector, b' ').size)
 }
 
+// A program of vectors, by what it answers to one.
+pub trait Answers {
+    fn answer<W: Write>(&self, out: &mut W, vector: &[u8]) -> io::Result<()>;
+}
+
 // Reads and prints each line, of which there are at most a thousand, and answers its vector.
-pub fn answer_lines<R: Read, W: Write, F: Fn(&mut W, &[u8]) -> io::Result<()>>(
+pub fn answer_lines<R: Read, W: Write, A: Answers>(
     input: &mut R,
     out: &mut W,
     vector: &mut [u8],
-    answer: F,
-) -> io::Result<()>
-    requires { F.IsAlwaysCallable answer }
-{
+    program: &A,
+) -> io::Result<()> {
     'lines: for _ in 0..1000u32 {
         let size = next(input, out, vector)?;
-        answer(out, &vector[..size])?;
+        program.answer(out, &vector[..size])?;
     }
     Ok(())
 }

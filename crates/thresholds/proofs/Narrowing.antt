@@ -10,10 +10,10 @@ use mathlib.Core.Path.{◌≡◌, refl, sym, ap, ◌∙◌}
 use Prim.Native.Nat.{ℕ, zero, suc, ◌+◌, ◌*◌, ◌-◌, ◌/◌, min, max, ◌≤◌, ◌<◌}
 use native.Mathlib.Omega.{arith}
 use borrow.Author.Count.{below_more}
-use borrow.Author.Tests.{lt-ltb, le-ltb, le-leb, ltb-true, ltb-false, leb-true, leb-false}
+use borrow.Author.Tests.{lt-ltb, le-ltb, le-leb, ltb-true, ltb-false, leb-true, leb-false, eqb-true}
 use lib.Dec.{ltb, leb, eqb}
 use lib.ListN.{length}
-use Rattle.arithmetic.proofs.Bools.{both_ways, and_left, or_left, or_right, iff_eq}
+use Rattle.arithmetic.proofs.Bools.{both_ways, clash, and_intro, and_left, or_left, or_right, iff_eq}
 use Rattle.arithmetic.proofs.Counting.{initial, last, count_ext, count-le, count-not}
 use Rattle.std.specs.Prelude.{Some}
 use Rattle.arithmetic.specs.Counting.{bit, count}
@@ -23,7 +23,7 @@ use Rattle.held.specs.Held.{value_at}
 use Rattle.ranks.specs.Ranks.{below_number, below_of}
 use Rattle.ranks.proofs.Seeing.{below-some}
 use Rattle.thresholds.specs.declared.Range.{Range}
-use Rattle.thresholds.specs.Thresholds.{up_to_number, Taken, Bounds, misfit, guessed}
+use Rattle.thresholds.specs.Thresholds.{up_to_number, Taken, Bounds, Splits, misfit, guessed}
 
 -- where all fail, none is counted
 pub none-counted : (p : ℕ → Bool) (n : ℕ) → ((i : ℕ) → i < n → p i ≡ false) → count p n ≡ 0
@@ -144,6 +144,27 @@ module _ {values : List ℕ} {k : ℕ} {r : Range} {below within : ℕ} (so_far 
           reached = below-some values mid few counts ∙ sym (up-to-before values mid (omega arith));
           top = omega arith;
         }
+
+  -- the range is one number, or as many are below it as are asked for
+  pub narrowing_done :
+      (ltb r.low r.high && not (eqb below k)) ≡ false → Splits values k (record { at = r.low; ties = k - below })
+  narrowing_done ended =
+      record {
+        exact = omega (arith, so_far.counted, so_far.most);
+        tied = λ some. rw (met some) (omega (arith, so_far.top, so_far.reached));
+      }
+    where
+      closed : ltb r.low r.high ≡ true → k ≤ below
+      closed t =
+          ⊎_elim (λ e. omega (arith, eqb-true below k e))
+          (λ f. clash (and_intro t (ap not f)) ended)
+          (both_ways (eqb below k))
+
+      met : 0 < k - below → r.low ≡ r.high
+      met some =
+          ⊎_elim (λ t. absurd (omega (arith, closed t)))
+          (λ f. omega (arith, ltb-false r.low r.high f, so_far.ordered))
+          (both_ways (ltb r.low r.high))
 
 -- ---- where to look next
 

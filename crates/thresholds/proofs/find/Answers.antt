@@ -1,7 +1,7 @@
 -- The range begins as that of all numbers; what is looked at lies in it, and by the count it is one end or the other.
 use Rattle.std.proofs.Common.{◌<◌, sym, ◌∙◌, arith}
 use Rattle.ranks.proofs.Seeing.{below-is_some}
-use Rattle.thresholds.proofs.Narrowing.{Inside, narrowing_start, within-most, narrowing_up, narrowing_down}
+use Rattle.thresholds.proofs.Narrowing.{Inside, narrowing_start, within-most, narrowing_up, narrowing_down, narrowing_done}
 use Rattle.thresholds.proofs.Narrowing.{guessed-within, still-wide}
 use Rattle.thresholds.proofs.find.Goals as goal
 use Rattle.thresholds.proofs.find.Goals.{In-narrowing, After-guess-mid}
@@ -51,3 +51,6 @@ narrowing-preserved c =
     (inside (goal.at.narrowing-preserved c).After-guess-mid)
     (sym c.unwrap-count.ensures ∙ c.count_below.ensures)
     c.if-count-k.false
+
+pub returns : goal.returns
+returns c = narrowing_done c.narrowing.invariant c.narrowing-test.false

@@ -1,106 +1,68 @@
--- One more digit, by the cases of the code; and where no number of 32 bits is left, more digits give none either.
+-- One more digit: where the test does not stop, the number is of 32 bits and the character a digit, so nothing wraps.
 -- Assumes nothing.
-use Rattle.std.proofs.Common.{◌≡◌, ℕ, zero, suc, ◌+◌, ◌*◌, ◌-◌, ◌≤◌, ◌<◌, List, length, get_or, Option, Some, None, SomeIff, inl, inr, Bool, true, false, cond, refl, sym, ap, ◌∙◌, arith, add-one}
-use native.Mathlib.Nat.{zero-add, suc-add}
-use borrow.Author.Tests.{lt-leb, lt-ltb, le-ltb, le-leb, ltb-true, ltb-false, ne_eqb}
-use lib.Dec.{eqb, ltb}
-use Rattle.std.specs.Char.{IsAsciiDigit, IsNotAsciiDigit}
+use mathlib.Core.Bool.{Bool, true, false, cond, ◌||◌}
+use mathlib.Core.List.{List}
+use mathlib.Core.Path.{◌≡◌, refl, ap, ◌∙◌}
+use Prim.Native.Nat.{ℕ, ◌+◌, ◌*◌, ◌-◌, ◌≤◌, ◌<◌, zero-le}
+use native.Mathlib.Numerals.{add-one}
+use native.Mathlib.Omega.{arith}
+use borrow.Author.Tests.{leb-false, ltb-false, ne_eqb}
+use lib.Dec.{leb, ltb}
+use lib.ListN.{length, get_or}
+use Rattle.arithmetic.proofs.Bools.{or_left, or_right}
 use Rattle.arithmetic.specs.Words.{two_to32}
-use Rattle.number_parser.specs.Numerals.{grown, leading, numeral, number_of}
+use Rattle.number_parser.specs.Numerals.{grown, leading, numeral}
 
-module _ (value digit : ℕ) (small : value < two_to32) where
-  pub none_other : IsNotAsciiDigit digit → None ≡ number_of (grown value digit)
-  unfolding grown number_of
-  none_other (inl below) = rw (lt-leb two_to32 value small, lt-ltb digit 48 below) refl
-  none_other (inr above) =
-      rw (lt-leb two_to32 value small, le-ltb digit 48 (omega arith), lt-ltb 57 digit above) refl
+abbrev pub stop : ℕ → ℕ → Bool
+stop value digit = leb two_to32 value || (ltb digit 48 || ltb 57 digit)
 
-  module _ (is : IsAsciiDigit digit) where
-    pub none_past : two_to32 ≤ 10 * value + (digit - 48) → None ≡ number_of (grown value digit)
-    unfolding grown number_of
-    none_past h =
-        rw (lt-leb two_to32 value small, le-ltb digit 48 is.0, le-ltb 57 digit is.1)
-        (rw (le-ltb (10 * value + (digit - 48)) two_to32 h) refl)
+pub record Digit (value digit : ℕ) : Type 0 where
+  pub small : value < two_to32
+  pub least : 48 ≤ digit
+  pub most : digit ≤ 57
 
-    one_more : 10 * value + (digit - 48) < two_to32 → Some (10 * value + (digit - 48)) ≡ number_of (grown value digit)
-    unfolding grown number_of
-    one_more h =
-        let fits = lt-ltb (10 * value + (digit - 48)) two_to32 h in
-        rw (lt-leb two_to32 value small, le-ltb digit 48 is.0, le-ltb 57 digit is.1, fits) (rw fits refl)
+module _ (value digit : ℕ) where
+  pub goes_on : stop value digit ≡ false → Digit value digit
+  goes_on e =
+      let d = or_right (leb two_to32 value) (ltb digit 48 || ltb 57 digit) e in
+      record {
+        small = leb-false two_to32 value (or_left (leb two_to32 value) (ltb digit 48 || ltb 57 digit) e);
+        least = ltb-false digit 48 (or_left (ltb digit 48) (ltb 57 digit) d);
+        most = ltb-false 57 digit (or_right (ltb digit 48) (ltb 57 digit) d);
+      }
 
-    pub grown-next : (tens : ℕ) → tens ≡ value * 10 → (r : Option ℕ) → SomeIff r (tens + (digit - 48) < two_to32) (tens + (digit - 48))
-        → r ≡ number_of (grown value digit)
-    grown-next tens e None h = none_past (omega arith)
-    grown-next tens e (Some x) h = let f : x ≡ 10 * value + (digit - 48) = omega (arith, h.1) in rw f (one_more (omega (arith, h.0)))
+  pub grown-stops : stop value digit ≡ true → two_to32 ≡ grown value digit
+  unfolding grown
+  grown-stops e = rw e refl
 
--- ---- a number of 32 bits, or none
+  pub grown-next : stop value digit ≡ false → cond (ltb (10 * value + (digit - 48)) two_to32) (10 * value + (digit - 48)) two_to32 ≡ grown value digit
+  unfolding grown
+  grown-next e = rw e refl
 
-of_some : (v x : ℕ) → Some x ≡ number_of v → (x ≡ v) × (x < two_to32)
-unfolding number_of
-of_some v x = go (ltb v two_to32) refl
-  where
-    go : (small : Bool) → ltb v two_to32 ≡ small → Some x ≡ cond small (Some v) None → (x ≡ v) × (x < two_to32)
-    go true t e = let same : x ≡ v = cc in (same, rw same (ltb-true v two_to32 t))
-    go false f e = cc
-
-of_none : (v : ℕ) → None ≡ number_of v → two_to32 ≤ v
-unfolding number_of
-of_none v = go (ltb v two_to32) refl
-  where
-    go : (small : Bool) → ltb v two_to32 ≡ small → None ≡ cond small (Some v) None → two_to32 ≤ v
-    go true t e = cc
-    go false f e = ltb-false v two_to32 f
-
-large-none : (v : ℕ) → two_to32 ≤ v → None ≡ number_of v
-unfolding number_of
-large-none v h = rw (le-ltb v two_to32 h) refl
-
-small-some : (v : ℕ) → v < two_to32 → Some v ≡ number_of v
-unfolding number_of
-small-some v h = rw (lt-ltb v two_to32 h) refl
-
--- ---- all digits of a text
+-- the number of the first i characters
+pub record Leads (text : List ℕ) (value i : ℕ) : Type 0 where
+  pub up_to : i ≤ length text
+  pub exact : value ≡ leading text i
 
 module _ (text : List ℕ) where
-  -- no digits more make a number of one that is none
-  stays-large : (i : ℕ) → two_to32 ≤ leading text i → (d : ℕ) → two_to32 ≤ leading text (d + i)
-  unfolding leading grown
-  stays-large i h zero = rw (zero-add i) h
-  stays-large i h (suc d) =
-      rw (suc-add d i) (rw (le-leb two_to32 (leading text (d + i)) (stays-large i h d)) (omega arith))
-
-  pub numeral-none : true ≡ eqb (length text) 0 → None ≡ number_of (numeral text)
-  unfolding numeral
-  numeral-none e = rw (sym e) (large-none two_to32 (omega arith))
-
-  -- the number of the first i characters
-  pub record Leads (value i : ℕ) : Type 0 where
-    pub exact : value ≡ leading text i
-    pub small : value < two_to32
-
-  pub leads_none : Leads 0 0
+  pub leads_none : Leads text 0 0
   unfolding leading
-  leads_none = record { exact = refl; small = omega arith }
+  leads_none = record { up_to = zero-le; exact = refl }
 
-  module _ {value i : ℕ} (so_far : Leads value i) where
-    pub leads_on : {next : ℕ} → Some next ≡ number_of (grown value (get_or text i 0)) → Leads next (i + 1)
-    unfolding leading
-    leads_on {next} e =
-        let number = of_some _ next e in
-        record {
-          exact = rw (add-one i) (number.0 ∙ ap (λ (v : ℕ). grown v (get_or text i 0)) so_far.exact);
-          small = number.1;
-        }
+  pub leads_on : {value i next : ℕ} → Leads text value i → i < length text → next ≡ grown value (get_or text i 0) → Leads text next (i + 1)
+  unfolding leading
+  leads_on {i = i} so_far l e =
+      record {
+        up_to = omega arith;
+        exact = rw (add-one i) (e ∙ ap (λ (v : ℕ). grown v (get_or text i 0)) so_far.exact);
+      }
 
-    pub numeral-stops : i < length text → None ≡ number_of (grown value (get_or text i 0)) → None ≡ number_of (numeral text)
-    unfolding numeral leading
-    numeral-stops l e =
-        let here : two_to32 ≤ leading text (suc i) = rw so_far.exact at (of_none _ e) in
-        let far : two_to32 ≤ leading text (length text - suc i + suc i) = stays-large (suc i) here (length text - suc i) in
-        let whole : length text - suc i + suc i ≡ length text = omega arith in
-        rw (ne_eqb (length text) 0 (λ z. omega arith)) (large-none (leading text (length text)) (rw whole at far))
+  pub numeral-none : length text ≡ 0 → two_to32 ≡ numeral text
+  unfolding numeral
+  numeral-none e = rw e refl
 
-    pub numeral-all : false ≡ eqb (length text) 0 → i ≡ length text → Some value ≡ number_of (numeral text)
-    unfolding numeral
-    numeral-all some e =
-        rw (sym some, ← e, ← so_far.exact) (small-some value so_far.small)
+  pub numeral-all : {value i : ℕ} → (length text ≡ 0 → ⊥) → Leads text value i → length text ≤ i → value ≡ numeral text
+  unfolding numeral
+  numeral-all {i = i} some so_far l =
+      let e : i ≡ length text = omega (arith, so_far.up_to) in
+      rw (ne_eqb (length text) 0 some) (so_far.exact ∙ ap (leading text) e)

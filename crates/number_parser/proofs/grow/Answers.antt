@@ -1,6 +1,6 @@
 -- By the kind of the character, and whether the number stays in 32 bits.
 use Rattle.std.proofs.Common.{arith}
-use Rattle.number_parser.proofs.Digits.{none_other, none_past, grown-next}
+use Rattle.number_parser.proofs.Numbers.{none_other, none_past, grown-some}
 use Rattle.number_parser.proofs.grow.Goals as goal
 
 pub returns-then-not-is_ascii_digit : goal.returns-then-not-is_ascii_digit
@@ -16,4 +16,4 @@ pub returns : goal.returns
 returns c =
     let a = c.args in
     let digit = c.if-not-is_ascii_digit.ensures.cases in
-    grown-next a.value a.digit (omega arith) digit c.in_ok-checked_mul.field-0 c.in_ok-checked_mul.ensures.1 c.checked_add.result c.checked_add.ensures
+    grown-some a.value a.digit (omega arith) digit c.in_ok-checked_mul.field-0 c.in_ok-checked_mul.ensures.1 c.checked_add.result c.checked_add.ensures

@@ -1,6 +1,6 @@
--- The value is the number of the characters passed.
-use Rattle.number_parser.proofs.Digits.{Leads}
+-- The value is the number of the characters passed, one of 32 bits.
+use Rattle.number_parser.proofs.Numbers.{Number}
 use Rattle.number_parser.proofs.number_in.Given as goal
 
 abbrev pub invariant-digits : goal.invariant-digits
-invariant-digits l = Leads l.text l.value l.digit-index
+invariant-digits l = Number l.text l.value l.digit-index

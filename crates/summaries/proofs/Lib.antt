@@ -1,2 +1,3 @@
+pub mod Wrapping
 pub mod Gathering
 pub mod Fits

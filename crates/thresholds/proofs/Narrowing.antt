@@ -8,6 +8,7 @@ use mathlib.Core.List.{List}
 use mathlib.Core.Logic.{◌⊎◌, inr, ⊎_elim}
 use mathlib.Core.Path.{◌≡◌, refl, sym, ap, ◌∙◌}
 use Prim.Native.Nat.{ℕ, zero, suc, ◌+◌, ◌*◌, ◌-◌, ◌/◌, min, max, ◌≤◌, ◌<◌}
+use native.Mathlib.Nat.{mul-le-mul}
 use native.Mathlib.Omega.{arith}
 use borrow.Author.Count.{below_more}
 use borrow.Author.Tests.{lt-ltb, le-ltb, le-leb, ltb-true, ltb-false, leb-true, leb-false, eqb-true}
@@ -23,7 +24,7 @@ use Rattle.held.specs.Held.{value_at}
 use Rattle.ranks.specs.Ranks.{below_number, below_of}
 use Rattle.ranks.proofs.Seeing.{below-some}
 use Rattle.thresholds.specs.declared.Range.{Range}
-use Rattle.thresholds.specs.Thresholds.{up_to_number, Taken, Bounds, Splits, misfit, guessed}
+use Rattle.thresholds.specs.Thresholds.{up_to_number, Taken, Bounds, Splits, misfit, max_unit, guessed}
 
 -- where all fail, none is counted
 pub none-counted : (p : ℕ → Bool) (n : ℕ) → ((i : ℕ) → i < n → p i ≡ false) → count p n ≡ 0
@@ -120,6 +121,9 @@ module _ {values : List ℕ} {k : ℕ} {r : Range} {below within : ℕ} (so_far 
   pub within-most : within ≤ length values
   within-most = omega (arith, so_far.reached, count-le (λ t. leb (value_at values t) r.high) (length values))
 
+  pub within-least : k ≤ length values → k ≤ within
+  within-least l = omega (arith, so_far.top)
+
   module _ (few : length values ≤ max_cabinets) {mid number : ℕ} (inside : Inside r mid)
       (counts : Some number ≡ below_of values mid) where
     -- not too many are below the number
@@ -167,6 +171,12 @@ module _ {values : List ℕ} {k : ℕ} {r : Range} {below within : ℕ} (so_far 
           (both_ways (ltb r.low r.high))
 
 -- ---- where to look next
+
+-- a step fits 32 bits
+pub step_small :
+    (unit left right : ℕ) → unit ≤ max_unit → left + right ≤ max_cabinets → unit * min left right ≤ max_unit * 32
+step_small unit left right a b =
+    let fewer : min left right ≤ 32 = omega arith in mul-le-mul a fewer
 
 -- it is above the start of the range, and no higher than its end
 pub guessed-within : (r : Range) (unit left right : ℕ) → r.low < r.high → Inside r (guessed r unit left right)

@@ -3,8 +3,8 @@
 use mathlib.Core.Bool.{Bool, true, false, not}
 use mathlib.Core.Logic.{⊎_elim}
 use mathlib.Core.Path.{◌≡◌, refl}
-use Prim.Native.Nat.{ℕ, ◌+◌, ◌*◌, ◌/◌, ◌%◌}
-use native.Mathlib.Nat.{pos_of_ne-zero}
+use Prim.Native.Nat.{ℕ, ◌+◌, ◌*◌, ◌/◌, ◌%◌, ◌≤◌, ◌<◌}
+use native.Mathlib.Nat.{div-add-mod, mul-le-mul, one-mul, le_refl, pos_of_ne-zero}
 use native.Mathlib.Omega.{arith}
 use borrow.Author.Tests.{ltb-true, ltb-false, eqb-true, eqb-false, eq-eqb, ne_eqb}
 use lib.Dec.{ltb, eqb}
@@ -30,6 +30,20 @@ odd-sum a b = go (eqb (a % 2) (b % 2)) refl
         (λ j. let i = ltb-false (b % 2) (a % 2) j in absurd (eqb-false (a % 2) (b % 2) e (omega arith)))
         (both_ways (ltb (b % 2) (a % 2))))
         (both_ways (ltb (a % 2) (b % 2)))
+
+module _ (n s whole : ℕ) (some : 0 < n) where
+  -- what is added up is at most the sum: where it is rounded up, something is left
+  pub rounded-small : s / n + bit (rounds-up n (s % n) whole) ≤ s
+  rounded-small = go (rounds-up n (s % n) whole) refl
+    where
+      at_least : s / n ≤ n * (s / n)
+      at_least = omega (arith, one-mul (s / n), mul-le-mul {n₂ = n} {m₂ = s / n} some (le_refl (s / n)))
+
+      go : (b : Bool) → rounds-up n (s % n) whole ≡ b → s / n + bit b ≤ s
+      go true e =
+          let h = ltb-true n (2 * (s % n) + whole % 2) e in
+          omega (arith, div-add-mod s n, at_least)
+      go false e = omega (arith, div-add-mod s n, at_least)
 
 module _ (n s : ℕ) where
   pub floor_none : n ≡ 0 → 0 ≡ floor_mean n s

@@ -9,11 +9,14 @@ use borrow.Author.Tests.{ltb-false, le-ltb}
 use lib.Dec.{ltb}
 use lib.ListN.{length}
 use Rattle.arithmetic.specs.Writing.{table, overwrite}
-use Rattle.arithmetic.proofs.Bools.{or_false, or_right}
+use Rattle.arithmetic.proofs.Bools.{or_false, or_left, or_right}
 use Rattle.model.specs.RoundSheet.{reading_bytes}
 use Rattle.value_writer.specs.Values.{shown_of, unfit, size_put, values_put}
 
 module _ (cabinets held room : ℕ) where
+  pub fit-held : unfit cabinets held room ≡ false → cabinets ≤ held
+  fit-held h = ltb-false held cabinets (or_left (ltb held cabinets) (ltb (room / 4) cabinets) h)
+
   pub fit-room : unfit cabinets held room ≡ false → 4 * cabinets ≤ room
   fit-room h =
       let quarter = ltb-false (room / 4) cabinets (or_right (ltb held cabinets) (ltb (room / 4) cabinets) h) in

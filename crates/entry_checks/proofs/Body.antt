@@ -36,6 +36,10 @@ word-drop s k i = word_ext (drop k s) s i (k + i) (λ b h. get_or-drop k s (i + 
 abbrev pub readings_part : List ℕ → ℕ → List ℕ
 readings_part s E = take (length s - (header_size + E)) (drop (header_size + E) s)
 
+-- checks 8 and 9 of both parts
+abbrev pub parts_checks : List ℕ → ℕ → Check
+parts_checks s E = or_next (marks_in (marks_part s E)) (missing_in (marks_part s E) (readings_part s E))
+
 -- ---- checks 8 and 9 of the parts are those of the sheet's entries
 
 module _ (s : List ℕ) (E : ℕ) (long : length s ≡ header_size + 5 * E) where
@@ -121,9 +125,7 @@ module _ (s : List ℕ) (c : Settings) where
 
     -- what is found in the parts says which refuses
     pub body-parts :
-        (E : ℕ) → E ≡ entry_count c → E ≤ most_entries → {x : Check}
-        → x ≡ or_next (marks_in (marks_part s E)) (missing_in (marks_part s E) (readings_part s E))
-        → x ≡ body_checks
+        (E : ℕ) → E ≡ entry_count c → E ≤ most_entries → {x : Check} → x ≡ parts_checks s E → x ≡ body_checks
     body-parts E same few e =
         let sized : length s ≡ header_size + 5 * E = long ∙ ap (λ (k : ℕ). header_size + 5 * k) (sym same) in
         e

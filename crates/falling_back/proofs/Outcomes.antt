@@ -4,6 +4,8 @@
 use Rattle.std.proofs.Common.{Bool, true, false, not, cond, List, ◌≡◌, refl, sym, ap, ◌∙◌, ℕ, length, Ok, Err}
 use Rattle.std.proofs.Math.Option.{none, some}
 use Rattle.std.proofs.lemmas.Bool.{eqb-true, eqb-false, not-true, not-false}
+use borrow.Author.Tests.{ne_eqb}
+use native.Mathlib.Omega.{arith}
 use lib.Dec.{eqb}
 use denote.Enum.Bare.{sameb}
 use Rattle.model.specs.Refusals.{Refusal}
@@ -11,7 +13,7 @@ use Rattle.model.specs.Refusals.{first_of, too_many_faults_number}
 use Rattle.model.specs.Calls.{Verdict, granted, refused, Outcome, settle}
 use Rattle.refusals.specs.declared.Refusal as code
 use Rattle.refusals.specs.declared.Reason.{Reason}
-use Rattle.refusals.specs.declared.Reason.TheVariants.{TooShort, BadCabinets, BadFaults, BadMethod, BadWindow, BadLength, NoRoom, BadMark, BadMissing, TooManyFaults, BadPlan, TargetMissed, BadTrace, BadRoles, RunStopped, BadSpread, BadInterval, NoInterval, BadPair}
+use Rattle.refusals.specs.declared.Reason.TheVariants.{TooShort, BadCabinets, BadFaults, BadMethod, BadWindow, BadLength, NoRoom, BadMark, BadMissing, TooManyFaults, BadPlan, TargetMissed, BadTrace, BadRoles, RunStopped, BadSpread, BadInterval, NoInterval, BadPair, Other}
 use Rattle.refusals.specs.contracts.Reason.{the_type}
 use Rattle.refusals.specs.Answers.{number_of, refusal_of, outcome_of}
 use Rattle.sheet_pairs.specs.Fallback.{crusaders, pair_checks, Settlement, fallback}
@@ -45,6 +47,10 @@ number-ten BadSpread = refl
 number-ten BadInterval = refl
 number-ten NoInterval = refl
 number-ten BadPair = refl
+number-ten (Other u) =
+    ne_eqb u.number too_many_faults_number λ same.
+    let far = u.none (omega (arith, same)) in
+    omega (arith, same, far)
 
 module _ (r : code.Refusal) (b answer : List ℕ) where
   module _ (other : true ≡ not (too_many r.reason)) where

@@ -5,6 +5,7 @@ use mathlib.Core.List.{List}
 use mathlib.Core.Option.{none, some}
 use mathlib.Core.Path.{◌≡◌, refl, sym, ap, ap₂, ◌∙◌}
 use Prim.Native.Nat.{ℕ, ◌≤◌}
+use native.Mathlib.Omega.{arith}
 use Rattle.model.specs.declared.Settings.{Settings}
 use Rattle.model.specs.Refusals.{Refusal}
 use Rattle.model.specs.RoundSheet.{settings_at, entry_count}
@@ -15,7 +16,8 @@ use Rattle.sheet_laws.proofs.Checks.{room-passed}
 use Rattle.sheet_laws.proofs.Outcomes.{granted-none, granted-same, refused-some}
 use Rattle.sheet_laws.proofs.Orders.{read-checks}
 use Rattle.sheet_laws.proofs.Inspection.{Inspected, inspected}
-use Rattle.entry_checks.proofs.Body.{body_checks, body-entries}
+use Rattle.sheet_sizes.specs.Bounds.{most_entries}
+use Rattle.entry_checks.proofs.Body.{parts_checks, body-parts, body-entries}
 
 next_assoc : (a b c : Check) → or_next a (or_next b c) ≡ or_next (or_next a b) c
 next_assoc none b c = refl
@@ -47,21 +49,28 @@ module _ (s : List ℕ) (m r : ℕ) where
         → refused x ≡ verdict (first_of (read_checks s m r)) (settings_at s)
     room_refused x h = rw (after-sizes c i, sym h)
 
-    module _ (pass : none ≡ or_next (no_room m (entry_count c)) (no_room r (entry_count c))) where
-      decide : {x : Check} → x ≡ body_checks s c → verdict x c ≡ verdict (first_of (read_checks s m r)) (settings_at s)
+    module _ (E : ℕ) (entries : E ≡ entry_count c) (pass : none ≡ room c) where
+      few : E ≤ most_entries
+      few = omega (arith, entries, i.few)
+
+      decide :
+          {x : Check} → x ≡ parts_checks s E
+          → verdict x c ≡ verdict (first_of (read_checks s m r)) (settings_at s)
       decide h =
           ap₂ verdict
-          (h
+          (body-parts s c i.long E entries few h
           ∙ body-entries s c i
           ∙ sym (after-sizes c i ∙ ap (λ (x : Check). or_next x (first_of (entry_checks s))) (sym pass)))
           (sym i.settings)
 
       pub entries_refused :
-          (x : Refusal) → some x ≡ body_checks s c
+          (x : Refusal) → some x ≡ parts_checks s E
           → refused x ≡ verdict (first_of (read_checks s m r)) (settings_at s)
       entries_refused x h = decide h
 
-      pub all_granted : none ≡ body_checks s c → granted c ≡ verdict (first_of (read_checks s m r)) (settings_at s)
+      pub all_granted :
+          none ≡ parts_checks s E
+          → granted c ≡ verdict (first_of (read_checks s m r)) (settings_at s)
       all_granted h = decide h
 
   -- what it means that checks 1 to 9 grant settings

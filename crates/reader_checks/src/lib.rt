@@ -7,7 +7,7 @@ ghost use Rattle.model.specs.Refusals.{or_next, first_of, no_room, read_checks};
 ghost use Rattle.model.specs.Calls.{verdict};
 ghost use Rattle.refusals.specs.Answers.{check_of, verdict_of};
 
-use model::Settings;
+use model::{HEADER_SIZE, Settings};
 use refusals::{Reason, Refusal};
 
 // Check 7 of lent arrays of these lengths.
@@ -31,6 +31,7 @@ pub fn check(sheet: &[u8], marks: usize, readings: usize) -> Result<Settings, Re
 {
     let settings = sheet_checks::inspect(sheet)?;
     check_room(settings, marks, readings)?;
-    entry_checks::check_entries(sheet, settings)?;
+    let body = HEADER_SIZE + sheet_sizes::entry_count(settings);
+    entry_checks::check_parts(&sheet[HEADER_SIZE..body], &sheet[body..])?;
     Ok(settings)
 }

@@ -15,7 +15,7 @@ use Rattle.model.specs.Calls.{Verdict, granted, refused, Outcome}
 use Rattle.refusals.specs.declared.Refusal as code
 use Rattle.refusals.specs.declared.Reason.{Reason}
 use Rattle.refusals.specs.declared.UnknownNumber.{UnknownNumber}
-use Rattle.refusals.specs.declared.Reason.TheVariants.{TooShort, BadCabinets, BadFaults, BadMethod, BadWindow, BadLength, NoRoom, BadMark, BadMissing, TooManyFaults, BadPlan, TargetMissed, BadTrace, BadRoles, RunStopped, BadSpread, BadInterval, NoInterval, BadPair}
+use Rattle.refusals.specs.declared.Reason.TheVariants.{TooShort, BadCabinets, BadFaults, BadMethod, BadWindow, BadLength, NoRoom, BadMark, BadMissing, TooManyFaults, BadPlan, TargetMissed, BadTrace, BadRoles, RunStopped, BadSpread, BadInterval, NoInterval, BadPair, Other}
 
 abbrev pub number_of : Reason → ℕ
 number_of TooShort = too_short_number
@@ -37,6 +37,7 @@ number_of BadSpread = bad_spread_number
 number_of BadInterval = bad_interval_number
 number_of NoInterval = no_interval_number
 number_of BadPair = bad_pair_number
+number_of (Other u) = u.number
 
 -- the reason that has a number; from 1 to 19 there is one
 abbrev pub Numbers : ℕ → Result Reason UnknownNumber → Type 0

@@ -5,28 +5,34 @@ ghost use Rattle.std.specs.Prelude.{◌≡◌};
 ghost use Rattle.model.specs.Refusals.{refusal, refuse_if};
 ghost use Rattle.refusals.specs.Answers.{number_of, refusal_of, check_of, Numbers};
 
-// Why a call refuses, with the number that document 01, or a request of document 02, gives it.
+mod unlisted;
+
+pub use unlisted::Unlisted;
+
+// Why a call refuses: what document 01, or a request of document 02, numbers 1 to 19 in this order, or another number, which
+// no call of this library gives.
 #[derive(Clone, Copy, PartialEq, Eq)]
 pub enum Reason {
-    TooShort = 1,
-    BadCabinets = 2,
-    BadFaults = 3,
-    BadMethod = 4,
-    BadWindow = 5,
-    BadLength = 6,
-    NoRoom = 7,
-    BadMark = 8,
-    BadMissing = 9,
-    TooManyFaults = 10,
-    BadPlan = 11,
-    TargetMissed = 12,
-    BadTrace = 13,
-    BadRoles = 14,
-    RunStopped = 15,
-    BadSpread = 16,
-    BadInterval = 17,
-    NoInterval = 18,
-    BadPair = 19,
+    TooShort,
+    BadCabinets,
+    BadFaults,
+    BadMethod,
+    BadWindow,
+    BadLength,
+    NoRoom,
+    BadMark,
+    BadMissing,
+    TooManyFaults,
+    BadPlan,
+    TargetMissed,
+    BadTrace,
+    BadRoles,
+    RunStopped,
+    BadSpread,
+    BadInterval,
+    NoInterval,
+    BadPair,
+    Other(Unlisted),
 }
 
 // A refusal: its reason, and the lowest entry at fault for 8 and 9, where a run stopped for 15, else 0.
@@ -37,6 +43,44 @@ pub struct Refusal {
 }
 
 impl Reason {
+    // The reason that has a number, whichever it is.
+    pub fn numbered(number: u8) -> Reason
+        ensures { number_of result ≡ number }
+    {
+        match Reason::try_from(number) {
+            Ok(reason) => reason,
+            Err(_) => Reason::Other(Unlisted { number }),
+        }
+    }
+
+    // The number of document 01's check.
+    pub fn number(self) -> u8
+        ensures { result ≡ number_of self }
+    {
+        match self {
+            Reason::TooShort => 1,
+            Reason::BadCabinets => 2,
+            Reason::BadFaults => 3,
+            Reason::BadMethod => 4,
+            Reason::BadWindow => 5,
+            Reason::BadLength => 6,
+            Reason::NoRoom => 7,
+            Reason::BadMark => 8,
+            Reason::BadMissing => 9,
+            Reason::TooManyFaults => 10,
+            Reason::BadPlan => 11,
+            Reason::TargetMissed => 12,
+            Reason::BadTrace => 13,
+            Reason::BadRoles => 14,
+            Reason::RunStopped => 15,
+            Reason::BadSpread => 16,
+            Reason::BadInterval => 17,
+            Reason::NoInterval => 18,
+            Reason::BadPair => 19,
+            Reason::Other(unlisted) => unlisted.number,
+        }
+    }
+
     // The refusal for this reason at the lowest entry at fault.
     pub fn at(self, place: u32) -> Refusal
         ensures { refusal_of result ≡ refusal (number_of self) place }
@@ -62,7 +106,7 @@ impl Refusal {
     pub fn number(self) -> u8
         ensures { result ≡ (refusal_of self).number }
     {
-        self.reason as u8
+        self.reason.number()
     }
 }
 

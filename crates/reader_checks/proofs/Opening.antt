@@ -10,7 +10,7 @@ use Rattle.model.specs.declared.Settings.{Settings}
 use Rattle.model.specs.Refusals.{Refusal}
 use Rattle.model.specs.RoundSheet.{settings_at, entry_count}
 use Rattle.model.specs.Refusals.{Check, or_next, first_of, sheet_checks, entry_checks, read_checks, no_room}
-use Rattle.model.specs.Calls.{Verdict, granted, refused, verdict}
+use Rattle.model.specs.Calls.{granted, refused, verdict}
 use Rattle.refusal_laws.proofs.Checks.{next-none-left, next-none-right}
 use Rattle.sheet_laws.proofs.Checks.{room-passed}
 use Rattle.sheet_laws.proofs.Outcomes.{granted-none, granted-same, refused-some}

@@ -4,7 +4,7 @@
 
 ghost use Rattle.std.specs.Prelude.{IfOk, IfSome, length, ◌≤◌};
 
-use console::{Failure, Program};
+use console::{Failure, Onward, Program};
 use falling_back::Source;
 use input_sizes::MAX_INPUT;
 use std::fs::File;
@@ -70,13 +70,17 @@ fn read_sheet(rt: HostRuntime, argument: usize, sheet: &mut [u8]) -> Option<usiz
     let mut buffer = [0u8; 4096];
     let given = console::argument(&rt, argument, &mut buffer).unwrap_or(b"");
     let Ok(name) = str::from_utf8(given) else {
-        let _ = fail(&mut rt.stderr(), given, b"a name in UTF-8 is wanted");
+        let _ = fail(
+            &mut Onward::new(rt.stderr()),
+            given,
+            b"a name in UTF-8 is wanted",
+        );
         return None;
     };
     match read_file(rt, name, sheet) {
         Ok(size) => Some(size),
         Err(error) => {
-            let _ = fail_with(&mut rt.stderr(), given, error);
+            let _ = fail_with(&mut Onward::new(rt.stderr()), given, error);
             None
         }
     }
@@ -101,7 +105,7 @@ fn answer(out: &mut impl Write, crusaders: &[u8], direct: &[u8]) -> io::Result<(
 }
 
 // Reads both sheets and answers them.
-fn settle_files(rt: HostRuntime) -> io::Result<()> {
+fn settle_files(rt: HostRuntime, out: &mut impl Write) -> io::Result<()> {
     // Stays: a fixed array, lent as far as it is used, since the project has no heap (a).
     let mut crusaders = [0; MAX_INPUT];
     let mut direct = [0; MAX_INPUT];
@@ -111,13 +115,13 @@ fn settle_files(rt: HostRuntime) -> io::Result<()> {
     let Some(second) = read_sheet(rt, 2, &mut direct) else {
         return Ok(());
     };
-    answer(&mut rt.stdout(), &crusaders[..first], &direct[..second])
+    answer(out, &crusaders[..first], &direct[..second])
 }
 
-fn respond(rt: HostRuntime) -> io::Result<()> {
+fn respond<W: Write>(rt: HostRuntime, out: &mut W) -> io::Result<()> {
     match console::argument_count(&rt) {
-        2 => FALLBACK.explain(&rt, &mut rt.stdout(), &mut rt.stderr()),
-        3 => settle_files(rt),
+        2 => FALLBACK.explain(&rt, out, &mut rt.stderr()),
+        3 => settle_files(rt, out),
         _ => {
             let _ = FALLBACK.say(&mut rt.stderr(), FALLBACK.wanted);
             Ok(())
@@ -126,6 +130,7 @@ fn respond(rt: HostRuntime) -> io::Result<()> {
 }
 
 fn main(rt: HostRuntime) {
-    let ended = respond(rt).map_err(Failure::from);
-    let _ = FALLBACK.close(&mut rt.stderr(), ended);
+    let mut out = Onward::new(rt.stdout());
+    let ended = respond(rt, &mut out).map_err(Failure::from);
+    let _ = FALLBACK.close(&mut rt.stderr(), ended.and(out.ended()));
 }

@@ -35,8 +35,9 @@ fn show_part<'a>(
     let once_more = shown_readings::settle_shown(crusaders, direct, &mut again);
     write!(
         out,
-        " {}; shown {} {}",
-        named.source, named.start, named.length
+        "{}; shown{}",
+        Spaced(&[named.source]),
+        Spaced(&[named.start, named.length])
     )?;
     let by_crusaders = named.source == 1 && is_part(crusaders, named.start, named.length, part);
     let by_direct = named.source == 2 && is_part(direct, named.start, named.length, part);
@@ -58,12 +59,12 @@ fn show<'a>(
     match settled {
         Ok(Settlement { size, .. }) => {
             let (sheet, behind) = buffer.split_at(size.min(buffer.len()));
-            write!(out, "  granted {size}")?;
+            write!(out, "  granted{}", Spaced(&[size]))?;
             show_part(out, crusaders, direct, settled)?;
             writeln!(out, "{}; behind{}", Answer(sheet), Spaced(behind))
         }
         Err(refusal) => {
-            vectors::refused(out, refusal)?;
+            vectors::show_refused(out, refusal)?;
             let part = shown_readings::shown(crusaders, direct, settled);
             say_unless(out, part.is_empty(), ", and bytes are shown")?;
             writeln!(out, "; behind{}", Spaced(buffer))
@@ -99,7 +100,7 @@ impl Answers for Program {
 }
 
 fn main(rt: HostRuntime) {
-    let _ = vectors::answer_lines(
+    vectors::answer_lines(
         &mut rt.stdin(),
         &mut rt.stdout(),
         &mut [0; 65_536],

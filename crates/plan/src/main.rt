@@ -2,7 +2,7 @@
 // may be between rounds.
 #![tactic(auto)]
 
-use console::Failure;
+use console::{Failure, Onward};
 use limits::{Limits, Wider};
 use model::Settings;
 use plan_arguments::{Aim, Request, Spacing};
@@ -41,8 +41,8 @@ fn show_rounds(
 
 fn show_wider(out: &mut impl Write, wider: Wider) -> io::Result<()> {
     writeln!(out, "after the first round, of those that do not refuse:")?;
-    plan_text::show_apart(out, "  by documents 01 and 02", wider.gap, wider.error)?;
-    plan_text::show_apart(out, "\n  to the tick", wider.widest, wider.farthest)?;
+    plan_text::show_apart(out, b"  by documents 01 and 02", wider.gap, wider.error)?;
+    plan_text::show_apart(out, b"\n  to the tick", wider.widest, wider.farthest)?;
     if wider.reached {
         write!(out, "; both can be reached")?;
     }
@@ -129,7 +129,7 @@ fn respond<E: Env, O: Write, W: Write>(env: &E, out: &mut O, errors: &mut W) -> 
     match console::argument_count(env) {
         0 | 1 => PLAN.show_usage(out),
         2 => PLAN.explain(env, out, errors),
-        5 if console::is_word(env, 1, "interval") => by_interval(env, out, errors),
+        5 if console::is_word(env, 1, b"interval") => by_interval(env, out, errors),
         9 => by_request(env, out, errors, false),
         10 => by_request(env, out, errors, true),
         _ => {
@@ -140,7 +140,8 @@ fn respond<E: Env, O: Write, W: Write>(env: &E, out: &mut O, errors: &mut W) -> 
 }
 
 fn main(rt: HostRuntime) {
-    let mut errors = rt.stderr();
-    let ended = respond(&rt, &mut rt.stdout(), &mut errors).map_err(Failure::from);
-    let _ = PLAN.close(&mut errors, ended);
+    let mut out = Onward::new(rt.stdout());
+    let mut errors = Onward::new(rt.stderr());
+    let ended = respond(&rt, &mut out, &mut errors).map_err(Failure::from);
+    let _ = PLAN.close(&mut errors, ended.and(out.ended()));
 }

@@ -74,17 +74,17 @@ pub fn show_no_interval(
     )
 }
 
-// A number of ticks, and in brackets the seconds that they are, with these billionths.
+// A number of ticks behind a name, and in brackets the seconds that they are, with these billionths.
 fn show_seconds(out: &mut impl Write, name: &str, ticks: u64, billionths: u64) -> io::Result<()> {
-    write!(out, "{name} {ticks} ticks ({}.", seconds::whole(ticks))?;
+    write!(out, "{name}{ticks} ticks ({}.", seconds::whole(ticks))?;
     out.write_all(&seconds::decimals(billionths))?;
     writeln!(out, " seconds)")
 }
 
 // The least and the greatest interval: seconds between those shown lie between both.
 pub fn show_interval(out: &mut impl Write, least: u64, greatest: u64) -> io::Result<()> {
-    show_seconds(out, "least", least, seconds::billionths_up(least))?;
-    show_seconds(out, "greatest", greatest, seconds::billionths(greatest))
+    show_seconds(out, "least ", least, seconds::billionths_up(least))?;
+    show_seconds(out, "greatest ", greatest, seconds::billionths(greatest))
 }
 
 // The line of a plan: the rounds done, the window, the accuracy, and in brackets the microseconds that these are.
@@ -94,15 +94,10 @@ pub fn show_line(out: &mut impl Write, rounds: u32, window: u32, accuracy: u32) 
 }
 
 // How far two cabinets are apart, and each from true time, at most.
-pub fn show_apart(out: &mut impl Write, name: &str, gap: u32, error: u32) -> io::Result<()> {
-    let apart = microseconds(gap);
-    let off = microseconds(error);
-    write!(
-        out,
-        "{name} two are at most {gap} ticks ({apart} microseconds) apart, "
-    )?;
-    write!(
-        out,
-        "each within {error} ticks ({off} microseconds) of true time"
-    )
+pub fn show_apart(out: &mut impl Write, name: &[u8], gap: u32, error: u32) -> io::Result<()> {
+    out.write_all(name)?;
+    write!(out, " two are at most {gap} ticks")?;
+    write!(out, " ({}", microseconds(gap))?;
+    write!(out, " microseconds) apart, each within {error} ticks")?;
+    write!(out, " ({} microseconds) of true time", microseconds(error))
 }

@@ -8,16 +8,16 @@ use planner::Plan;
 use refusals::Refusal;
 use std::io;
 use std::io::Write;
-use vectors::Answers;
+use vectors::{Answers, Spaced};
 
 fn show(out: &mut impl Write, answer: Result<Plan, Refusal>) -> io::Result<()> {
     match answer {
         Ok(plan) => write!(
             out,
-            "  granted {} {} {}",
-            plan.settings.window, plan.accuracy, plan.rounds
+            "  granted{}",
+            Spaced(&[plan.settings.window, plan.accuracy, plan.rounds])
         ),
-        Err(refusal) => vectors::refused(out, refusal),
+        Err(refusal) => vectors::show_refused(out, refusal),
     }
 }
 
@@ -35,7 +35,7 @@ fn show_target(
     match planner::rounds_for(settings, accuracy, target) {
         Ok(rounds) if fits(settings, accuracy, rounds, target) => { write!(out, "  granted") }
         Ok(_) => Ok(()),
-        Err(refusal) => vectors::refused(out, refusal),
+        Err(refusal) => vectors::show_refused(out, refusal),
     }
 }
 
@@ -45,8 +45,12 @@ fn show_interval(out: &mut impl Write, vector: &[u8]) -> io::Result<()> {
     let precision = words::word_at(vector, 5);
     let drift = words::word_at(vector, 9);
     match interval_bounds::interval_for(window, precision, drift) {
-        Ok(interval) => { write!(out, "  granted {} {}", interval.least, interval.greatest) }
-        Err(refusal) => vectors::refused(out, refusal),
+        Ok(interval) => write!(
+            out,
+            "  granted{}",
+            Spaced(&[interval.least, interval.greatest])
+        ),
+        Err(refusal) => vectors::show_refused(out, refusal),
     }
 }
 
@@ -75,5 +79,5 @@ impl Answers for Program {
 }
 
 fn main(rt: HostRuntime) {
-    let _ = vectors::answer_lines(&mut rt.stdin(), &mut rt.stdout(), &mut [0; 4096], &Program);
+    vectors::answer_lines(&mut rt.stdin(), &mut rt.stdout(), &mut [0; 4096], &Program);
 }

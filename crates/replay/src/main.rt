@@ -5,7 +5,7 @@
 ghost use Rattle.std.specs.Prelude.{◌≡◌, length};
 ghost use Rattle.trace.specs.ReplayText.{max_trace_input};
 
-use console::{Failure, Program};
+use console::{Failure, Onward, Program};
 use model::MAX_ROUNDS;
 use replay_text::FINAL_CAPACITY;
 use std::io;
@@ -59,7 +59,7 @@ fn replay_input(rt: HostRuntime, each_round: bool) -> Result<(), Failure> {
     // A line of the values after a round needs fewer bytes.
     // Stays: a fixed array, lent as far as it is used, since the project has no heap (a).
     let mut text = [0; FINAL_CAPACITY];
-    let mut out = rt.stdout();
+    let mut out = Onward::new(rt.stdout());
     let size = standard_input::read_input(
         &mut rt.stdin(),
         &mut input,
@@ -71,7 +71,7 @@ fn replay_input(rt: HostRuntime, each_round: bool) -> Result<(), Failure> {
         write_lines(&mut out, &input[..size], &mut text)?;
     }
     write_listing(&mut out, &input[..size], &mut text)?;
-    Ok(())
+    out.ended()
 }
 
 fn respond(rt: HostRuntime) -> Result<(), Failure> {
@@ -79,14 +79,15 @@ fn respond(rt: HostRuntime) -> Result<(), Failure> {
     if count < 2 {
         return replay_input(rt, false);
     }
-    if count == 2 && console::is_word(&rt, 1, "--rounds") {
+    if count == 2 && console::is_word(&rt, 1, b"--rounds") {
         return replay_input(rt, true);
     }
     if count == 2 {
-        REPLAY.explain(&rt, &mut rt.stdout(), &mut rt.stderr())?;
-    } else {
-        let _ = REPLAY.say(&mut rt.stderr(), REPLAY.wanted);
+        let mut out = Onward::new(rt.stdout());
+        REPLAY.explain(&rt, &mut out, &mut rt.stderr())?;
+        return out.ended();
     }
+    let _ = REPLAY.say(&mut rt.stderr(), REPLAY.wanted);
     Ok(())
 }
 

@@ -10,11 +10,11 @@ fn show(out: &mut impl Write, trace: &[u8], buffer: &mut [u8]) -> io::Result<()>
     match replaying::replay(trace, &mut *buffer) {
         Ok(size) => {
             let (values, behind) = buffer.split_at(size.min(buffer.len()));
-            write!(out, "  granted {size}; values{}", Ticks(values))?;
+            write!(out, "  granted{}; values{}", Spaced(&[size]), Ticks(values))?;
             writeln!(out, "; behind{}", Spaced(behind))
         }
         Err(refusal) => {
-            vectors::refused(out, refusal)?;
+            vectors::show_refused(out, refusal)?;
             writeln!(out, "; behind{}", Spaced(&*buffer))
         }
     }
@@ -36,7 +36,7 @@ impl Answers for Program {
 }
 
 fn main(rt: HostRuntime) {
-    let _ = vectors::answer_lines(
+    vectors::answer_lines(
         &mut rt.stdin(),
         &mut rt.stdout(),
         &mut [0; 65_536],

@@ -2,7 +2,7 @@
 // listing.
 #![tactic(auto)]
 
-use console::{Failure, Program};
+use console::{Failure, Onward, Program};
 use input_sizes::MAX_INPUT;
 use std::io::Write;
 use text::ROUND_CAPACITY;
@@ -40,8 +40,9 @@ fn respond(rt: HostRuntime) -> Result<(), Failure> {
     if console::argument_count(&rt) < 2 {
         return settle_input(rt);
     }
-    SETTLE.explain(&rt, &mut rt.stdout(), &mut rt.stderr())?;
-    Ok(())
+    let mut out = Onward::new(rt.stdout());
+    SETTLE.explain(&rt, &mut out, &mut rt.stderr())?;
+    out.ended()
 }
 
 fn main(rt: HostRuntime) {

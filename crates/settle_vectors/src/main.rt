@@ -12,11 +12,11 @@ fn show(out: &mut impl Write, settled: Result<usize, Refusal>, buffer: &[u8]) ->
     match settled {
         Ok(size) => {
             let (sheet, behind) = buffer.split_at(size.min(buffer.len()));
-            write!(out, "  granted {size}{}", Answer(sheet))?;
+            write!(out, "  granted{}{}", Spaced(&[size]), Answer(sheet))?;
             writeln!(out, "; behind{}", Spaced(behind))
         }
         Err(refusal) => {
-            vectors::refused(out, refusal)?;
+            vectors::show_refused(out, refusal)?;
             writeln!(out, "; behind{}", Spaced(buffer))
         }
     }
@@ -57,7 +57,7 @@ impl Answers for Program {
 }
 
 fn main(rt: HostRuntime) {
-    let _ = vectors::answer_lines(
+    vectors::answer_lines(
         &mut rt.stdin(),
         &mut rt.stdout(),
         &mut [0; 65_536],

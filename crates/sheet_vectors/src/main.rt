@@ -7,7 +7,7 @@ use refusals::Refusal;
 use std::io;
 use std::io::Write;
 use tick::Tick;
-use vectors::{Answers, Spaced};
+use vectors::{Answers, Readings, Spaced};
 
 fn show_opened(out: &mut impl Write, opened: Result<Settings, Refusal>) -> io::Result<()> {
     match opened {
@@ -15,7 +15,7 @@ fn show_opened(out: &mut impl Write, opened: Result<Settings, Refusal>) -> io::R
             let sizes = [settings.n, settings.m, settings.rule, settings.estimator];
             write!(out, "  granted{} {}", Spaced(&sizes), settings.window)
         }
-        Err(refusal) => vectors::refused(out, refusal),
+        Err(refusal) => vectors::show_refused(out, refusal),
     }
 }
 
@@ -32,7 +32,7 @@ fn read(out: &mut impl Write, vector: &[u8]) -> io::Result<()> {
     let opened = sheet_reader::read(sheet, &mut marks[..room], &mut readings[..places]);
     show_opened(out, opened)?;
     write!(out, "; marks{}", Spaced(&marks[..room]))?;
-    writeln!(out, "; readings{}", Spaced(&readings[..places]))
+    writeln!(out, "; readings{}", Readings(&readings[..places]))
 }
 
 // A vector of the row accessor has the cabinet's number in eight bytes, and then the sheet.
@@ -53,8 +53,8 @@ fn decode(bytes: &[u8], readings: &mut [i32]) {
 
 fn show_filled(out: &mut impl Write, filled: Result<usize, Refusal>) -> io::Result<()> {
     match filled {
-        Ok(size) => write!(out, "  granted {size}"),
-        Err(refusal) => vectors::refused(out, refusal),
+        Ok(size) => write!(out, "  granted{}", Spaced(&[size])),
+        Err(refusal) => vectors::show_refused(out, refusal),
     }
 }
 
@@ -99,5 +99,5 @@ impl Answers for Program {
 }
 
 fn main(rt: HostRuntime) {
-    let _ = vectors::answer_lines(&mut rt.stdin(), &mut rt.stdout(), &mut [0; 4096], &Program);
+    vectors::answer_lines(&mut rt.stdin(), &mut rt.stdout(), &mut [0; 4096], &Program);
 }

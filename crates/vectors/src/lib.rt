@@ -9,8 +9,13 @@
 // A program gets a vector as bytes: the first letter of the call's name, and then the numbers.
 #![tactic(auto)]
 
-ghost use Rattle.std.specs.Prelude.{IfOk, ◌≡◌, ◌≤◌, length};
+ghost use Rattle.std.specs.Prelude.{◌≡◌, ◌++◌, ◌≤◌, codes, length, OnOk, Some};
+ghost use Rattle.std.specs.Io.KnownBytes.{Appends};
+ghost use Rattle.std.specs.Fmt.{decimal};
+ghost use Rattle.refusals.specs.Answers.{refusal_of};
+ghost use Rattle.vectors.specs.Texts.{answer_text, readings_text, signed_text, spaced_text, ticks_text};
 
+use console::Onward;
 use model::{ANSWER_HEADER_SIZE, Settings};
 use refusals::Refusal;
 use std::fmt::Display;
@@ -149,26 +154,26 @@ impl Word {
 }
 
 // The next byte of the input, which is printed too; none at the end of the input.
-fn read_byte(input: &mut impl Read, out: &mut impl Write) -> io::Result<Option<u8>> {
+fn read_byte(input: &mut impl Read, out: &mut impl Write) -> Option<u8> {
     let mut byte = [0u8; 1];
     let size = input.read(&mut byte).unwrap_or(0);
-    out.write_all(&byte[..size])?;
-    Ok(byte[..size].first().copied())
+    let _ = out.write_all(&byte[..size]);
+    byte[..size].first().copied()
 }
 
 // Reads and prints the next line, at most 65,536 characters of it, and answers how many bytes its vector has:
-// none for a heading, and at the end of the input.
-pub fn next(input: &mut impl Read, out: &mut impl Write, vector: &mut [u8]) -> io::Result<usize>
-    ensures { IfOk result (λ size. size ≤ length vector.new) }
+// none for a heading, and at the end of the input. What can't be printed is left out.
+pub fn next(input: &mut impl Read, out: &mut impl Write, vector: &mut [u8]) -> usize
+    ensures { result ≤ length vector.new }
 {
     let mut word = Word::fresh(0);
     'characters: for _ in 0..65_536u32 {
-        match read_byte(input, out)? {
+        match read_byte(input, out) {
             Some(character) if b' ' <= character => word = word.take(vector, character),
             _ => break 'characters,
         }
     }
-    Ok(word.take(vector, b' ').size)
+    word.take(vector, b' ').size
 }
 
 // A program of vectors, by what it answers to one.
@@ -176,18 +181,19 @@ pub trait Answers {
     fn answer<W: Write>(&self, out: &mut W, vector: &[u8]) -> io::Result<()>;
 }
 
-// Reads and prints each line, of which there are at most a thousand, and answers its vector.
+// Reads and prints each line, of which there are at most a thousand, and answers its vector. What can't be printed is
+// left out.
 pub fn answer_lines<R: Read, W: Write, A: Answers>(
     input: &mut R,
     out: &mut W,
     vector: &mut [u8],
     program: &A,
-) -> io::Result<()> {
+) {
+    let mut onward = Onward::new(out);
     'lines: for _ in 0..1000u32 {
-        let size = next(input, out, vector)?;
-        program.answer(out, &vector[..size])?;
+        let size = next(input, &mut onward, vector);
+        let _ = program.answer(&mut onward, &vector[..size]);
     }
-    Ok(())
 }
 
 // The settings that a vector starts with.
@@ -206,9 +212,39 @@ pub fn settings(vector: &[u8]) -> Settings {
 pub struct Spaced<'a, T>(pub &'a [T]);
 
 impl<T: Display> Display for Spaced<'_, T> {
+    ghost output = { λ s. spaced_text T.output s.0.now };
+
     fn fmt<W: fmt::Write>(&self, f: &mut fmt::Formatter<W>) -> fmt::Result {
         'items: for item in self.0 {
             write!(f, " {item}")?;
+        }
+        Ok(())
+    }
+}
+
+// A signed number behind a space.
+#[derive(Clone, Copy)]
+struct Signed(i32);
+
+impl Display for Signed {
+    ghost output = { λ s. Some (signed_text s.0) };
+
+    fn fmt<W: fmt::Write>(&self, f: &mut fmt::Formatter<W>) -> fmt::Result {
+        let mark = if self.0 < 0 { " -" } else { " " };
+        write!(f, "{mark}{}", self.0.unsigned_abs())
+    }
+}
+
+// Signed numbers, each behind a space.
+#[derive(Clone, Copy)]
+pub struct Readings<'a>(pub &'a [i32]);
+
+impl Display for Readings<'_> {
+    ghost output = { λ s. Some (readings_text s.0.now) };
+
+    fn fmt<W: fmt::Write>(&self, f: &mut fmt::Formatter<W>) -> fmt::Result {
+        'readings: for reading in self.0 {
+            write!(f, "{}", Signed(*reading))?;
         }
         Ok(())
     }
@@ -219,9 +255,11 @@ impl<T: Display> Display for Spaced<'_, T> {
 pub struct Ticks<'a>(pub &'a [u8]);
 
 impl Display for Ticks<'_> {
+    ghost output = { λ t. Some (ticks_text t.0.now) };
+
     fn fmt<W: fmt::Write>(&self, f: &mut fmt::Formatter<W>) -> fmt::Result {
         'numbers: for bytes in self.0.chunks(4) {
-            write!(f, " {}", words::word_at(bytes, 0).cast_signed())?;
+            write!(f, "{}", Signed(words::word_at(bytes, 0).cast_signed()))?;
         }
         Ok(())
     }
@@ -232,6 +270,8 @@ impl Display for Ticks<'_> {
 pub struct Answer<'a>(pub &'a [u8]);
 
 impl Display for Answer<'_> {
+    ghost output = { λ a. answer_text a.0.now };
+
     fn fmt<W: fmt::Write>(&self, f: &mut fmt::Formatter<W>) -> fmt::Result {
         let sheet = self.0;
         let (header, entries) = sheet.split_at(ANSWER_HEADER_SIZE.min(sheet.len()));
@@ -244,6 +284,19 @@ impl Display for Answer<'_> {
 }
 
 // A refusal.
-pub fn refused(out: &mut impl Write, refusal: Refusal) -> io::Result<()> {
-    write!(out, "  refused {} {}", refusal.number(), refusal.place)
+pub fn show_refused<W: Write>(out: &mut W, refusal: Refusal) -> io::Result<()>
+    ensures { OnOk result (Appends (W.contents out.old) (W.contents out.new)
+        (codes "  refused " ++ decimal (refusal_of refusal).number ++ codes " " ++ decimal refusal.place)) }
+{
+    write!(
+        out,
+        "  refused{}{}",
+        Spaced(&[refusal.number()]),
+        Spaced(&[refusal.place])
+    )
+}
+
+// A refusal. What can't be written is left out.
+pub fn refused(out: &mut impl Write, refusal: Refusal) {
+    let _ = show_refused(&mut Onward::new(out), refusal);
 }

@@ -1,0 +1,3 @@
+mod Fours
+mod Parts
+mod Written

@@ -1,12 +1,14 @@
 -- One more digit, by the cases of the code; and where no number of 32 bits is left, more digits give none either.
 --   Number text value i   the first i characters are a number of 32 bits
 -- Assumes nothing.
-use Rattle.std.proofs.Common.{◌≡◌, ℕ, zero, suc, ◌+◌, ◌*◌, ◌-◌, ◌≤◌, ◌<◌, List, length, get_or, Option, Some, None, SomeIff, inl, inr, Bool, true, false, cond, refl, sym, arith}
+use Rattle.std.proofs.Common.{◌≡◌, ℕ, zero, suc, ◌+◌, ◌*◌, ◌-◌, ◌≤◌, ◌<◌, List, length, get_or, Option, Some, None, SomeIff, inl, inr, Bool, true, false, cond, refl, sym, ap, ◌∙◌, zero-le, add-one, arith}
 use native.Mathlib.Nat.{zero-add, suc-add}
-use borrow.Author.Tests.{lt-leb, lt-ltb, le-ltb, le-leb, ltb-true, ltb-false, eqb-true, eqb-false, ne_eqb}
-use lib.Dec.{eqb, ltb}
+use borrow.Author.Tests.{lt-leb, lt-ltb, le-ltb, le-leb, ltb-true, ltb-false, leb-true, leb-false, eqb-true, eqb-false, ne_eqb}
+use lib.Dec.{eqb, leb, ltb}
+use lib.ListN.{get_or-eq_default}
 use Rattle.std.specs.Char.{IsAsciiDigit, IsNotAsciiDigit}
 use Rattle.arithmetic.specs.Words.{two_to32}
+use Rattle.arithmetic.proofs.Bools.{or_inr}
 use Rattle.number_parser.specs.Numerals.{grown, leading, numeral, number_of}
 use Rattle.number_parser.proofs.Digits.{stop, grown-stops, grown-next, Leads, leads_none, leads_on, numeral-none, numeral-all}
 
@@ -85,11 +87,38 @@ module _ (text : List ℕ) where
   pub number_none : Number 0 0
   number_none = record { leads = leads_none text; small = omega arith }
 
+  -- no number of 32 bits goes past the end of the text
+  past-end : (k : ℕ) → length text ≤ k → leading text (suc k) ≡ two_to32
+  unfolding leading
+  past-end k h =
+      let v = leading text k in
+      rw (get_or-eq_default text 0 h) (sym (grown-stops v 0 (or_inr (leb two_to32 v) refl)))
+
+  -- so one that the first i characters are reads no more than there is
+  pub number_reads : (value i : ℕ) → value ≡ leading text i → value < two_to32 → Number value i
+  number_reads value i exact small = record { leads = record { up_to = within i exact; exact = exact }; small = small }
+    where
+      within : (i : ℕ) → value ≡ leading text i → i ≤ length text
+      within zero e = zero-le
+      within (suc k) e = go (leb (length text) k) refl
+        where
+          go : (b : Bool) → leb (length text) k ≡ b → suc k ≤ length text
+          go true t = absurd (omega (arith, small, e, past-end k (leb-true (length text) k t)))
+          go false f = omega (arith, leb-false (length text) k f)
+
   module _ {value i : ℕ} (so_far : Number value i) where
     pub number_on : {next : ℕ} → i < length text → Some next ≡ number_of (grown value (get_or text i 0)) → Number next (i + 1)
     number_on {next} l e =
         let number = of_some _ next e in
         record { leads = leads_on text so_far.leads l number.0; small = number.1 }
+
+    -- where one character more makes such a number, there is one more
+    pub number_more : {next : ℕ} → Some next ≡ number_of (grown value (get_or text i 0)) → Number next (i + 1)
+    unfolding leading
+    number_more {next} e =
+        let number = of_some _ next e in
+        number_reads next (i + 1)
+        (rw (add-one i) (number.0 ∙ ap (λ (v : ℕ). grown v (get_or text i 0)) so_far.leads.exact)) number.1
 
     pub numeral-stops : i < length text → None ≡ number_of (grown value (get_or text i 0)) → None ≡ number_of (numeral text)
     unfolding numeral leading

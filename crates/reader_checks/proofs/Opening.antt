@@ -17,7 +17,7 @@ use Rattle.sheet_laws.proofs.Outcomes.{granted-none, granted-same, refused-some}
 use Rattle.sheet_laws.proofs.Orders.{read-checks}
 use Rattle.sheet_laws.proofs.Inspection.{Inspected, inspected}
 use Rattle.sheet_sizes.specs.Bounds.{most_entries}
-use Rattle.entry_checks.proofs.Body.{parts_checks, body-parts, body-entries}
+use Rattle.entry_checks.proofs.Body.{body_checks, parts_checks, body-parts, body-entries}
 
 next_assoc : (a b c : Check) → or_next a (or_next b c) ≡ or_next (or_next a b) c
 next_assoc none b c = refl
@@ -49,29 +49,37 @@ module _ (s : List ℕ) (m r : ℕ) where
         → refused x ≡ verdict (first_of (read_checks s m r)) (settings_at s)
     room_refused x h = rw (after-sizes c i, sym h)
 
-    module _ (E : ℕ) (entries : E ≡ entry_count c) (pass : none ≡ room c) where
-      few : E ≤ most_entries
-      few = omega (arith, entries, i.few)
-
-      decide :
-          {x : Check} → x ≡ parts_checks s E
-          → verdict x c ≡ verdict (first_of (read_checks s m r)) (settings_at s)
+    module _ (pass : none ≡ or_next (no_room m (entry_count c)) (no_room r (entry_count c))) where
+      decide : {x : Check} → x ≡ body_checks s c → verdict x c ≡ verdict (first_of (read_checks s m r)) (settings_at s)
       decide h =
           ap₂ verdict
-          (body-parts s c i.long E entries few h
+          (h
           ∙ body-entries s c i
           ∙ sym (after-sizes c i ∙ ap (λ (x : Check). or_next x (first_of (entry_checks s))) (sym pass)))
           (sym i.settings)
 
       pub entries_refused :
-          (x : Refusal) → some x ≡ parts_checks s E
+          (x : Refusal) → some x ≡ body_checks s c
           → refused x ≡ verdict (first_of (read_checks s m r)) (settings_at s)
       entries_refused x h = decide h
 
-      pub all_granted :
+      pub all_granted : none ≡ body_checks s c → granted c ≡ verdict (first_of (read_checks s m r)) (settings_at s)
+      all_granted h = decide h
+
+    -- the same, by the checks of both parts
+    module _ (E : ℕ) (entries : E ≡ entry_count c) (pass : none ≡ room c) where
+      few : E ≤ most_entries
+      few = omega (arith, entries, i.few)
+
+      pub parts_refused :
+          (x : Refusal) → some x ≡ parts_checks s E
+          → refused x ≡ verdict (first_of (read_checks s m r)) (settings_at s)
+      parts_refused x h = entries_refused pass x (body-parts s c i.long E entries few h)
+
+      pub parts_granted :
           none ≡ parts_checks s E
           → granted c ≡ verdict (first_of (read_checks s m r)) (settings_at s)
-      all_granted h = decide h
+      parts_granted h = all_granted pass (body-parts s c i.long E entries few h)
 
   -- what it means that checks 1 to 9 grant settings
   pub record Openable (c : Settings) : Type 0 where
@@ -104,4 +112,4 @@ module _ (s : List ℕ) (m r : ℕ) where
       spacious = next-none-left (room c) (first_of (entry_checks s)) (sym (after-sizes c sizes) ∙ checks)
 
 -- what each way out says
-pub ruleset ways = (sizes_refused, room_refused, entries_refused, all_granted)
+pub ruleset ways = (sizes_refused, room_refused, entries_refused, all_granted, parts_refused, parts_granted)

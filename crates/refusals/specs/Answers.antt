@@ -1,11 +1,12 @@
 -- What the answers of the code say in document 01's terms.
 --   number_of                the number of each reason
---   Numbers                  whether a number is a reason's
+--   Listed                   a reason has one of the numbers 1 to 19
+--   Numbers                  whether a number is a listed reason's
 --   refusal_of               a refusal: its number and its place
 --   check_of                 what a check says: nothing, or its refusal
 --   verdict_of               what a call answers: what it grants, or the refusal
 --   outcome_of               the same of a length, with the buffer that the call was lent
-use Rattle.std.specs.Prelude.{◌≡◌, ◌⊎◌, ◌<◌, List, Result, Ok, Err, MatchResult, ⊤, ℕ}
+use Rattle.std.specs.Prelude.{◌≡◌, ◌⊎◌, ◌≤◌, ◌<◌, List, Result, Ok, Err, MatchResult, ⊤, ℕ}
 use Rattle.std.proofs.Math.Option.{none, some}
 use Rattle.model.specs.Refusals.{too_short_number, bad_cabinets_number, bad_faults_number, bad_method_number, bad_window_number, bad_length_number}
 use Rattle.model.specs.Refusals.{no_room_number, bad_mark_number, bad_missing_number, too_many_faults_number, bad_plan_number, target_missed_number}
@@ -39,9 +40,14 @@ number_of NoInterval = no_interval_number
 number_of BadPair = bad_pair_number
 number_of (Other u) = u.number
 
--- the reason that has a number; from 1 to 19 there is one
+-- a reason that documents 01 and 02 number, which `Other` is not
+abbrev pub Listed : Reason → Type 0
+Listed reason = (1 ≤ number_of reason) × (number_of reason ≤ 19)
+
+-- the listed reason that has a number; from 1 to 19 there is one, and of no other number
 abbrev pub Numbers : ℕ → Result Reason UnknownNumber → Type 0
-Numbers number r = MatchResult r (λ reason. number_of reason ≡ number) (λ e. (number ≡ 0) ⊎ (19 < number))
+Numbers number r =
+    MatchResult r (λ reason. (number_of reason ≡ number) × Listed reason) (λ e. (number ≡ 0) ⊎ (19 < number))
 
 abbrev pub refusal_of : code.Refusal → Refusal
 refusal_of r = record { number = number_of r.reason; place = r.place }

@@ -57,7 +57,7 @@ impl Answers for Program {
 }
 
 fn main(rt: HostRuntime) {
-    vectors::answer_lines(
+    vectors::answer_onward(
         &mut rt.stdin(),
         &mut rt.stdout(),
         &mut [0; 65_536],

@@ -99,5 +99,5 @@ impl Answers for Program {
 }
 
 fn main(rt: HostRuntime) {
-    vectors::answer_lines(&mut rt.stdin(), &mut rt.stdout(), &mut [0; 4096], &Program);
+    vectors::answer_onward(&mut rt.stdin(), &mut rt.stdout(), &mut [0; 4096], &Program);
 }

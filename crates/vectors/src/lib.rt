@@ -9,7 +9,7 @@
 // A program gets a vector as bytes: the first letter of the call's name, and then the numbers.
 #![tactic(auto)]
 
-ghost use Rattle.std.specs.Prelude.{◌≡◌, ◌++◌, ◌≤◌, codes, length, OnOk, Some};
+ghost use Rattle.std.specs.Prelude.{◌≡◌, ◌++◌, ◌≤◌, codes, length, IfOk, OnOk, Some};
 ghost use Rattle.std.specs.Io.KnownBytes.{Appends};
 ghost use Rattle.std.specs.Fmt.{decimal};
 ghost use Rattle.refusals.specs.Answers.{refusal_of};
@@ -21,6 +21,9 @@ use refusals::Refusal;
 use std::fmt::Display;
 use std::io::{Read, Write};
 use std::{fmt, io};
+
+#[cfg(test)]
+mod tests;
 
 const MODULUS: u64 = 4_294_967_296;
 
@@ -183,7 +186,7 @@ pub trait Answers {
 
 // Reads and prints each line, of which there are at most a thousand, and answers its vector. What can't be printed is
 // left out.
-pub fn answer_lines<R: Read, W: Write, A: Answers>(
+pub fn answer_onward<R: Read, W: Write, A: Answers>(
     input: &mut R,
     out: &mut W,
     vector: &mut [u8],
@@ -194,6 +197,43 @@ pub fn answer_lines<R: Read, W: Write, A: Answers>(
         let size = next(input, &mut onward, vector);
         let _ = program.answer(&mut onward, &vector[..size]);
     }
+}
+
+// As `read_byte`, but a byte that can't be printed is a failure.
+fn print_byte(input: &mut impl Read, out: &mut impl Write) -> io::Result<Option<u8>> {
+    let mut byte = [0u8; 1];
+    let size = input.read(&mut byte).unwrap_or(0);
+    out.write_all(&byte[..size])?;
+    Ok(byte[..size].first().copied())
+}
+
+// As `next`, but a byte that can't be printed is a failure.
+fn print_next(input: &mut impl Read, out: &mut impl Write, vector: &mut [u8]) -> io::Result<usize>
+    ensures { IfOk result (λ size. size ≤ length vector.new) }
+{
+    let mut word = Word::fresh(0);
+    'characters: for _ in 0..65_536u32 {
+        match print_byte(input, out)? {
+            Some(character) if b' ' <= character => word = word.take(vector, character),
+            _ => break 'characters,
+        }
+    }
+    Ok(word.take(vector, b' ').size)
+}
+
+// Reads and prints each line, of which there are at most a thousand, and answers its vector, until something can't be
+// printed or an answer fails; that failure is what it answers then.
+pub fn answer_lines<R: Read, W: Write, A: Answers>(
+    input: &mut R,
+    out: &mut W,
+    vector: &mut [u8],
+    program: &A,
+) -> io::Result<()> {
+    'lines: for _ in 0..1000u32 {
+        let size = print_next(input, out, vector)?;
+        program.answer(out, &vector[..size])?;
+    }
+    Ok(())
 }
 
 // The settings that a vector starts with.

@@ -17,4 +17,4 @@ returns c =
     let listed = c.requires c.if-said-lt4294967296.false in
     let number : c.args.said / two_to32 ≡ upper_half c.args.said % 256 = omega (arith, listed.1) in
     rw (le-ltb c.args.said two_to32 c.if-said-lt4294967296.false)
-    (ap refused (c.at.ensures ∙ ap₂ refusal (c.in-Ok.ensures ∙ number) refl))
+    (ap refused (c.at.ensures ∙ ap₂ refusal (c.in-Ok.ensures.0 ∙ number) refl))
